@@ -1,0 +1,54 @@
+-- What an accepted plan gives: each question's yes.
+-- Assumes nothing.
+use mathlib.Core.Path.{_≡_, refl}
+use mathlib.Core.Bool.{Bool, true, false, _&&_, cond}
+use mathlib.Core.List.{List}
+use Prim.Native.Nat.{ℕ, _≤_}
+use native.Mathlib.Omega.{arith}
+use lib.Dec.{leb, eqb}
+use lib.ListN.{length, drop}
+use borrow.Author.Tests.{leb-true, eqb-true}
+use Rattle.word.specs.Field.{kindOf, headDesks, headTransactions, headWords}
+use Rattle.plan.specs.Decode.{headOf, transactionsOf}
+use Rattle.plan.specs.Admission.{Verdict, accepted, refused, hasHead, countsInRange, wellFormed, every, parametersExist, transactionsVerdict, planVerdict}
+use Rattle.plan.proofs.Bool.{and-fst, and-snd}
+
+-- a question's answer that a verdict other than its refusal shows
+yes-of : (b : Bool) (v : Verdict) (k : ℕ) → cond b v (refused k) ≡ accepted → (b ≡ true) × (v ≡ accepted)
+yes-of true v k e = (refl, e)
+yes-of false v k e = let z : _≡_ {A = ℕ} 0 1 = cc in absurd (omega arith)
+
+pub record Accepted (ws : List ℕ) : Type 0 where
+  -- 1
+  pub words-low : 1 ≤ length ws
+  pub words-high : length ws ≤ 417
+  -- 2
+  pub desks-low : 1 ≤ headDesks (headOf ws)
+  pub desks-high : headDesks (headOf ws) ≤ 8
+  pub transactions-low : 1 ≤ headTransactions (headOf ws)
+  pub transactions-high : headTransactions (headOf ws) ≤ 32
+  -- 3
+  pub form : wellFormed (headTransactions (headOf ws)) (drop 1 ws) ≡ true
+  -- 4
+  pub names : every parametersExist (transactionsOf (headTransactions (headOf ws)) (drop 1 ws)) ≡ true
+
+pub accepted-gives : (ws : List ℕ) → planVerdict ws ≡ accepted → Accepted ws
+unfolding planVerdict transactionsVerdict hasHead countsInRange
+accepted-gives ws e =
+    let q1 = yes-of (hasHead ws) _ 1 e in
+    let q2 = yes-of (countsInRange (headOf ws)) _ 2 (q1 .1) in
+    let q3 = yes-of (wellFormed (headTransactions (headOf ws)) (drop 1 ws)) _ 3 (q2 .1) in
+    let q4 = yes-of (every parametersExist (transactionsOf (headTransactions (headOf ws)) (drop 1 ws))) _ 4 (q3 .1) in
+    let words = and-snd (leb 1 (length ws)) _ (q1 .0) in
+    let desks = and-snd (leb 1 (headDesks (headOf ws))) _ (q2 .0) in
+    let transactions = and-snd (leb (headDesks (headOf ws)) 8) _ desks in
+    record {
+      words-low = leb-true 1 (length ws) (and-fst _ _ (q1 .0));
+      words-high = leb-true (length ws) 417 (and-fst _ _ words);
+      desks-low = leb-true 1 (headDesks (headOf ws)) (and-fst _ _ (q2 .0));
+      desks-high = leb-true (headDesks (headOf ws)) 8 (and-fst _ _ desks);
+      transactions-low = leb-true 1 (headTransactions (headOf ws)) (and-fst _ _ transactions);
+      transactions-high = leb-true (headTransactions (headOf ws)) 32 (and-snd (leb 1 (headTransactions (headOf ws))) _ transactions);
+      form = q3 .0;
+      names = q4 .0;
+    }

@@ -1,0 +1,5 @@
+pub mod Bool
+pub mod Words
+pub mod Rest
+pub mod Accepted
+pub mod Places

@@ -1,0 +1,103 @@
+-- Transaction k of an accepted plan stands whole at its place, and decodes to entry k.
+-- Assumes nothing.
+use mathlib.Core.Path.{_≡_, refl, _∙_, sym, ap}
+use mathlib.Core.Bool.{Bool, true, false, _&&_, false≢true}
+use mathlib.Core.List.{List, [], _∷_}
+use Prim.Native.Nat.{ℕ, zero, suc, _+_, _-_, _≤_, _<_}
+use native.Mathlib.Nat.{sub-zero, add-zero}
+use native.Mathlib.Numerals.{add-one}
+use native.Mathlib.Omega.{arith}
+use mathlib.Core.Logic.{_⊎_, inl, inr, ⊎-elim}
+use lib.Dec.{leb, ltb}
+use lib.ListN.{length, getD, take, drop, length-drop, drop-of-length-le}
+use lib.Seq.{drop-cons, drop-drop, getD-drop}
+use borrow.Author.Tests.{leb-true, ltb-true, ltb-false}
+use Rattle.word.specs.Field.{stepCount, headTransactions}
+use Rattle.plan.specs.Plan.{Transaction, noTransaction, transactionAt}
+use Rattle.plan.specs.Decode.{transactionsOf, transactionOf, planOf, headOf}
+use Rattle.plan.specs.Admission.{wellFormed, transactionFormed, stepFormed, every, planVerdict, accepted}
+use Rattle.plan.specs.Place.{transactionPlace, transactionFrom, StandsAt}
+use Rattle.plan.proofs.Bool.{and-fst, and-snd}
+use Rattle.plan.proofs.Accepted.{accepted-gives}
+
+pub lt-or-ge : (a b : ℕ) → (a < b) ⊎ (b ≤ a)
+lt-or-ge a b = go (ltb a b) refl
+  where
+    go : (t : Bool) → ltb a b ≡ t → (a < b) ⊎ (b ≤ a)
+    go true e = inl (ltb-true a b e)
+    go false e = inr (ltb-false a b e)
+
+pub left-suc : (n k : ℕ) → k < n → n - k ≡ suc (n - (k + 1))
+left-suc n k h = omega arith
+
+pub place-next : (ws : List ℕ) (k : ℕ) → transactionPlace ws (k + 1) ≡ transactionPlace ws k + 1 + stepCount (getD ws (transactionPlace ws k) 0)
+unfolding transactionPlace
+place-next ws k = rw add-one
+
+-- past k transactions the walk is at `at`
+record Past (ws : List ℕ) (txs k at : ℕ) : Type 0 where
+  pub rest : drop k (transactionsOf txs (drop 1 ws)) ≡ transactionsOf (txs - k) (drop at ws)
+  pub form : wellFormed (txs - k) (drop at ws) ≡ true
+
+past-none : (ws : List ℕ) → planVerdict ws ≡ accepted → Past ws (headTransactions (headOf ws)) 0 1
+past-none ws e = record { rest = rw sub-zero; form = rw sub-zero (accepted-gives ws e .form) }
+
+module _ (ws : List ℕ) (txs k at : ℕ) (h : k < txs) (p : Past ws txs k at) where
+  word-here : (at < length ws) × (drop at ws ≡ getD ws at 0 ∷ drop (at + 1) ws)
+  unfolding wellFormed
+  word-here =
+      ⊎-elim (λ (l : at < length ws). (l, rw (add-one, drop-cons ws at 0 l)))
+      (λ (g : length ws ≤ at). absurd (false≢true (rw (left-suc txs k h, drop-of-length-le ws g) at (p .form))))
+      (lt-or-ge at (length ws))
+
+  form-here : wellFormed (suc (txs - (k + 1))) (getD ws at 0 ∷ drop (at + 1) ws) ≡ true
+  form-here = rw (left-suc txs k h, word-here .1) at (p .form)
+
+  rest-here : drop k (transactionsOf txs (drop 1 ws))
+      ≡ transactionFrom ws at ∷ transactionsOf (txs - (k + 1)) (drop (stepCount (getD ws at 0)) (drop (at + 1) ws))
+  unfolding transactionsOf
+  rest-here = p .rest ∙ rw (left-suc txs k h, word-here .1)
+
+  stands-here : StandsAt ws at
+  unfolding wellFormed
+  stands-here =
+      let f = and-snd (transactionFormed (getD ws at 0)) _ form-here in
+      let l = leb-true (stepCount (getD ws at 0)) (length (drop (at + 1) ws)) (and-fst _ _ f) in
+      record {
+        room = omega (arith, l, length-drop (at + 1) ws, word-here .0);
+        form = and-fst (transactionFormed (getD ws at 0)) _ form-here;
+        steps = and-fst (every stepFormed (take (stepCount (getD ws at 0)) (drop (at + 1) ws))) _
+            (and-snd (leb (stepCount (getD ws at 0)) (length (drop (at + 1) ws))) _ f);
+      }
+
+  past-more : Past ws txs (suc k) (at + 1 + stepCount (getD ws at 0))
+  unfolding wellFormed
+  past-more = record {
+    rest = ap (λ (i : ℕ). drop i (transactionsOf txs (drop 1 ws))) (sym (add-one k))
+        ∙ sym (drop-drop 1 k (transactionsOf txs (drop 1 ws))) ∙ ap (drop 1) rest-here
+        ∙ ap (transactionsOf (txs - (k + 1))) (drop-drop (stepCount (getD ws at 0)) (at + 1) ws)
+        ∙ ap (λ (i : ℕ). transactionsOf (txs - i) (drop (at + 1 + stepCount (getD ws at 0)) ws)) (add-one k);
+    form = ap (λ (i : ℕ). wellFormed (txs - i) (drop (at + 1 + stepCount (getD ws at 0)) ws)) (sym (add-one k))
+        ∙ ap (wellFormed (txs - (k + 1))) (sym (drop-drop (stepCount (getD ws at 0)) (at + 1) ws))
+        ∙ and-snd (every stepFormed (take (stepCount (getD ws at 0)) (drop (at + 1) ws))) _
+        (and-snd (leb (stepCount (getD ws at 0)) (length (drop (at + 1) ws))) _ (and-snd (transactionFormed (getD ws at 0)) _ form-here));
+  }
+
+past-at : (ws : List ℕ) → planVerdict ws ≡ accepted → (k : ℕ) → k ≤ headTransactions (headOf ws)
+    → Past ws (headTransactions (headOf ws)) k (transactionPlace ws k)
+unfolding transactionPlace
+past-at ws e zero h = past-none ws e
+past-at ws e (suc k) h =
+    past-more ws (headTransactions (headOf ws)) k (transactionPlace ws k) h (past-at ws e k (omega arith))
+
+module _ (ws : List ℕ) (e : planVerdict ws ≡ accepted) (k : ℕ) (h : k < headTransactions (headOf ws)) where
+  pub stands-at : StandsAt ws (transactionPlace ws k)
+  stands-at = stands-here ws (headTransactions (headOf ws)) k (transactionPlace ws k) h (past-at ws e k (omega arith))
+
+  pub transaction-is : transactionAt (planOf ws) k ≡ transactionFrom ws (transactionPlace ws k)
+  unfolding planOf
+  transaction-is =
+      ap (λ (i : ℕ). getD (planOf ws .transactions) i noTransaction) (sym (add-zero k))
+      ∙ sym (getD-drop k (planOf ws .transactions) 0 noTransaction)
+      ∙ ap (λ (l : List Transaction). getD l 0 noTransaction)
+      (rest-here ws (headTransactions (headOf ws)) k (transactionPlace ws k) h (past-at ws e k (omega arith)))

@@ -1,0 +1,157 @@
+-- What questions 3 and 4 still say from a place of the walk on, and how that goes over one word.
+-- Assumes nothing.
+use mathlib.Core.Path.{_≡_, refl, _∙_, sym, ap}
+use mathlib.Core.Bool.{Bool, true, false, not, _&&_, _||_, cond, and-false, false≢true}
+use mathlib.Core.Logic.{_⊎_, inl, inr, ⊎-elim}
+use borrow.Author.Tests.{ltb-true, ltb-false}
+use mathlib.Core.List.{List, [], _∷_, map}
+use Prim.Native.Nat.{ℕ, zero, suc, _+_, _-_, _≤_, _<_}
+use native.Mathlib.Nat.{sub-zero}
+use native.Mathlib.Numerals.{add-one}
+use native.Mathlib.Omega.{arith}
+use lib.Dec.{ltb, leb, eqb, leb·zero, leb·suc-suc, leb·suc-zero}
+use lib.ListN.{length, getD, take, drop, drop-of-length-le}
+use lib.Seq.{drop-cons}
+use Rattle.word.specs.Field.{parameterCount, stepCount, partitioningField}
+use Rattle.plan.specs.Decode.{transactionsOf, stepOf, partBy}
+use Rattle.plan.specs.Admission.{Verdict, accepted, refused, every, wellFormed, parametersExist, transactionFormed, stepFormed, stepExists, partExists}
+use Rattle.plan.specs.Admission.{transactionsVerdict}
+
+-- the verdict when n transactions are still to come in the words ws; m: a parameter was missing already
+rest : ℕ → List ℕ → Bool → Verdict
+rest n ws m = cond (wellFormed n ws) (cond (not m && every parametersExist (transactionsOf n ws)) accepted (refused 4)) (refused 3)
+
+-- the same inside a transaction with p parameters, of which k steps are still to come, and n transactions behind it
+restIn : ℕ → ℕ → ℕ → List ℕ → Bool → Verdict
+restIn k p n ws m =
+    cond (leb k (length ws) && (every stepFormed (take k ws) && wellFormed n (drop k ws)))
+    (cond (not m && (every (stepExists p) (map stepOf (take k ws)) && every parametersExist (transactionsOf n (drop k ws)))) accepted (refused 4))
+    (refused 3)
+
+-- ---- one word of a list
+
+noted : (m a b c : Bool) → (not m && ((a && b) && c)) ≡ (not (m || not a) && (b && c))
+noted true a b c = refl
+noted false true b c = refl
+noted false false b c = refl
+
+rest-done : (m : Bool) → rest 0 [] m ≡ cond m (refused 4) accepted
+unfolding rest wellFormed transactionsOf every
+rest-done true = refl
+rest-done false = refl
+
+rest-more : (w : ℕ) (ws : List ℕ) (m : Bool) → rest 0 (w ∷ ws) m ≡ refused 3
+unfolding rest wellFormed
+rest-more w ws m = refl
+
+rest-nil : (n : ℕ) (m : Bool) → rest (suc n) [] m ≡ refused 3
+unfolding rest wellFormed
+rest-nil n m = refl
+
+rest-bad : (n w : ℕ) (ws : List ℕ) (m : Bool) → transactionFormed w ≡ false → rest (suc n) (w ∷ ws) m ≡ refused 3
+unfolding rest wellFormed
+rest-bad n w ws m e = simp e
+
+rest-good : (n w : ℕ) (ws : List ℕ) (m : Bool) → transactionFormed w ≡ true
+    → rest (suc n) (w ∷ ws) m ≡ restIn (stepCount w) (parameterCount w) n ws (m || not (partExists (parameterCount w) (partBy (partitioningField w))))
+unfolding rest restIn wellFormed transactionsOf every parametersExist
+rest-good n w ws m e = simp (e, noted)
+
+in-zero : (p n : ℕ) (ws : List ℕ) (m : Bool) → restIn 0 p n ws m ≡ rest n ws m
+unfolding rest restIn every
+in-zero p n ws m = simp leb·zero
+
+in-nil : (k p n : ℕ) (m : Bool) → restIn (suc k) p n [] m ≡ refused 3
+unfolding restIn
+in-nil k p n m = simp leb·suc-zero
+
+in-bad : (k p n w : ℕ) (ws : List ℕ) (m : Bool) → stepFormed w ≡ false → restIn (suc k) p n (w ∷ ws) m ≡ refused 3
+unfolding restIn every
+in-bad k p n w ws m e = simp (e, and-false)
+
+in-good : (k p n w : ℕ) (ws : List ℕ) (m : Bool) → stepFormed w ≡ true
+    → restIn (suc k) p n (w ∷ ws) m ≡ restIn k p n ws (m || not (stepExists p (stepOf w)))
+unfolding restIn every
+in-good k p n w ws m e = simp (e, noted, leb·suc-suc)
+
+-- ---- the word at a place of the plan. A step's or a transaction's word is looked for at `at`: `there` says that it stands there, well wellFormed
+
+abbrev pub there : (ℕ → Bool) → List ℕ → ℕ → Bool
+there form plan at = ltb at (length plan) && form (getD plan at 0)
+
+left-suc : (n k : ℕ) → k < n → n - k ≡ suc (n - (k + 1))
+left-suc n k h = omega arith
+
+left-none : (n k : ℕ) → n ≤ k → n - k ≡ 0
+left-none n k h = omega arith
+
+-- either no word stands there, or one that is not well wellFormed, or one that is
+split-there : (form : ℕ → Bool) (plan : List ℕ) (at : ℕ) → there form plan at ≡ false
+    → (drop at plan ≡ []) ⊎ ((drop at plan ≡ getD plan at 0 ∷ drop (at + 1) plan) × (form (getD plan at 0) ≡ false))
+split-there form plan at = go (ltb at (length plan)) refl
+  where
+    go : (b : Bool) → ltb at (length plan) ≡ b → (b && form (getD plan at 0)) ≡ false
+        → (drop at plan ≡ []) ⊎ ((drop at plan ≡ getD plan at 0 ∷ drop (at + 1) plan) × (form (getD plan at 0) ≡ false))
+    go true e f = inr (rw (add-one, drop-cons plan at 0 (ltb-true at (length plan) e)), f)
+    go false e f = inl (drop-of-length-le plan (ltb-false at (length plan) e))
+
+pub stands : (form : ℕ → Bool) (plan : List ℕ) (at : ℕ) → there form plan at ≡ true
+    → (at < length plan) × (drop at plan ≡ getD plan at 0 ∷ drop (at + 1) plan) × (form (getD plan at 0) ≡ true)
+stands form plan at = go (ltb at (length plan)) refl
+  where
+    go : (b : Bool) → ltb at (length plan) ≡ b → (b && form (getD plan at 0)) ≡ true
+        → (at < length plan) × (drop at plan ≡ getD plan at 0 ∷ drop (at + 1) plan) × (form (getD plan at 0) ≡ true)
+    go true e f = (ltb-true at (length plan) e, rw (add-one, drop-cons plan at 0 (ltb-true at (length plan) e)), f)
+    go false e f = absurd (false≢true f)
+
+-- the verdict from a place of the walk on, in the walk's own variables. Both are shut, so that antt reads their arguments off a goal
+pub restAt : (txs t : ℕ) (plan : List ℕ) (at : ℕ) (m : Bool) → Verdict
+restAt txs t plan at m = rest (txs - t) (drop at plan) m
+
+pub restInAt : (steps s p txs t : ℕ) (plan : List ℕ) (at : ℕ) (m : Bool) → Verdict
+restInAt steps s p txs t plan at m = restIn (steps - s) p (txs - (t + 1)) (drop at plan) m
+
+module _ (txs t : ℕ) (plan : List ℕ) (at : ℕ) (m : Bool) where
+  pub tx-fault : t < txs → there transactionFormed plan at ≡ false → restAt txs t plan at m ≡ refused 3
+  unfolding restAt
+  tx-fault h f =
+      ⊎-elim (λ (e : drop at plan ≡ []). rw (left-suc txs t h, e) (rest-nil (txs - (t + 1)) m))
+      (λ e. rw (left-suc txs t h, e .0) (rest-bad (txs - (t + 1)) (getD plan at 0) (drop (at + 1) plan) m (e .1)))
+      (split-there transactionFormed plan at f)
+
+  pub tx-step : t < txs → there transactionFormed plan at ≡ true
+      → restAt txs t plan at m
+      ≡ restInAt (stepCount (getD plan at 0)) 0 (parameterCount (getD plan at 0)) txs t plan (at + 1) (m || not (partExists (parameterCount (getD plan at 0)) (partBy (partitioningField (getD plan at 0)))))
+  unfolding restAt restInAt
+  tx-step h f = rw (sub-zero, left-suc txs t h, stands transactionFormed plan at f .1) (rest-good (txs - (t + 1)) (getD plan at 0) (drop (at + 1) plan) m (stands transactionFormed plan at f .2))
+
+  pub end-more : txs ≤ t → at < length plan → restAt txs t plan at m ≡ refused 3
+  unfolding restAt
+  end-more h l = rw (left-none txs t h, drop-cons plan at 0 l) (rest-more (getD plan at 0) (drop (suc at) plan) m)
+
+  pub end-done : txs ≤ t → length plan ≤ at → restAt txs t plan at m ≡ cond m (refused 4) accepted
+  unfolding restAt
+  end-done h l = rw (left-none txs t h, drop-of-length-le plan l) (rest-done m)
+
+pub walk-start : (txs : ℕ) (plan : List ℕ) → restAt txs 0 plan 1 false ≡ transactionsVerdict txs (drop 1 plan)
+unfolding restAt rest transactionsVerdict
+walk-start txs plan = simp sub-zero
+
+module _ (steps s p txs t : ℕ) (plan : List ℕ) (at : ℕ) (m : Bool) where
+  pub step-fault : s < steps → there stepFormed plan at ≡ false → restInAt steps s p txs t plan at m ≡ refused 3
+  unfolding restInAt
+  step-fault h f =
+      ⊎-elim (λ (e : drop at plan ≡ []). rw (left-suc steps s h, e) (in-nil (steps - (s + 1)) p (txs - (t + 1)) m))
+      (λ e. rw (left-suc steps s h, e .0) (in-bad (steps - (s + 1)) p (txs - (t + 1)) (getD plan at 0) (drop (at + 1) plan) m (e .1)))
+      (split-there stepFormed plan at f)
+
+  pub step-step : s < steps → there stepFormed plan at ≡ true
+      → restInAt steps s p txs t plan at m ≡ restInAt steps (s + 1) p txs t plan (at + 1) (m || not (stepExists p (stepOf (getD plan at 0))))
+  unfolding restInAt
+  step-step h f =
+      rw (left-suc steps s h, stands stepFormed plan at f .1)
+      (in-good (steps - (s + 1)) p (txs - (t + 1)) (getD plan at 0) (drop (at + 1) plan) m (stands stepFormed plan at f .2))
+
+  pub steps-done : steps ≤ s → restInAt steps s p txs t plan at m ≡ restAt txs (t + 1) plan at m
+  unfolding restInAt restAt
+  steps-done h = rw (left-none steps s h) (in-zero p (txs - (t + 1)) (drop at plan) m)

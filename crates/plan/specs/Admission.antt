@@ -1,0 +1,77 @@
+-- Questions 1 to 4 ("questions at the door"), and the plan reader's verdict.
+use Prim.Native.Nat.{ℕ, zero, suc}
+use mathlib.Core.Bool.{Bool, true, false, _&&_, _||_, cond}
+use mathlib.Core.List.{List, [], _∷_}
+use lib.ListN.{length, take, drop}
+use lib.Dec.{ltb, leb, eqb}
+use Rattle.word.specs.Field.{kindOf, headDesks, headTransactions, headWords, parameterCount, stepCount, partitioningField}
+use Rattle.word.specs.Reserved.{sourceField, reservedZero}
+use Rattle.plan.specs.Plan.{Source, param, fixed, Step, cell, operand, Partitioning, byParam, unpartitioned, Transaction}
+use Rattle.plan.specs.Decode.{headOf, transactionsOf}
+
+unfoldable pub every : {A : Type 0} → (A → Bool) → List A → Bool
+every f [] = true
+every f (x ∷ xs) = f x && every f xs
+
+-- 1: "Has the plan a head word of kind 1 whose count is the words handed in, 1–417?"
+unfoldable pub hasHead : List ℕ → Bool
+hasHead ws = leb 1 (length ws) && (leb (length ws) 417 && (eqb (kindOf (headOf ws)) 1 && eqb (headWords (headOf ws)) (length ws)))
+
+-- 2: "Are desks and transactions in range?"
+unfoldable pub countsInRange : ℕ → Bool
+countsInRange w = leb 1 (headDesks w) && (leb (headDesks w) 8 && (leb 1 (headTransactions w) && leb (headTransactions w) 32))
+
+-- 3, of a transaction's word: kind 2, parameters 0–4, steps 1–12, partitioning 0–3 or 15, zero bits
+unfoldable pub transactionFormed : ℕ → Bool
+transactionFormed w =
+    eqb (kindOf w) 2 && (leb (parameterCount w) 4 && (leb 1 (stepCount w) && (leb (stepCount w) 12
+    && ((ltb (partitioningField w) 4 || eqb (partitioningField w) 15) && reservedZero w))))
+
+-- 3, of a step's word: kind 3–8, source 0–3 or 7, zero bits
+unfoldable pub stepFormed : ℕ → Bool
+stepFormed w =
+    leb 3 (kindOf w) && (leb (kindOf w) 8 && ((ltb (sourceField w) 4 || eqb (sourceField w) 7) && reservedZero w))
+
+-- 3: "Does each further word have its place, kind, ranges and zero bits, and does the last step end the plan?"
+-- The words are n well-formed transactions, each with all its steps, and nothing more
+unfoldable pub wellFormed : ℕ → List ℕ → Bool
+wellFormed zero [] = true
+wellFormed zero (w ∷ ws) = false
+wellFormed (suc n) [] = false
+wellFormed (suc n) (w ∷ ws) =
+    transactionFormed w && (leb (stepCount w) (length ws)
+    && (every stepFormed (take (stepCount w) ws) && wellFormed n (drop (stepCount w) ws)))
+
+-- 4: "Does every parameter named in a step or for partitioning exist?" Parameter i exists if i is below the count
+unfoldable pub sourceExists : ℕ → Source → Bool
+sourceExists count (param i) = ltb i count
+sourceExists count (fixed v) = true
+
+unfoldable pub stepExists : ℕ → Step → Bool
+stepExists count (cell a t c r) = sourceExists count r
+stepExists count (operand a o) = sourceExists count o
+
+unfoldable pub partExists : ℕ → Partitioning → Bool
+partExists count (byParam i) = ltb i count
+partExists count unpartitioned = true
+
+unfoldable pub parametersExist : Transaction → Bool
+parametersExist t = partExists (t .params) (t .part) && every (stepExists (t .params)) (t .steps)
+
+-- ---- the verdict
+
+pub data Verdict : Type 0 where
+  accepted : Verdict
+  refused : ℕ → Verdict
+
+-- questions 3 and 4 of n transactions in the words behind the head
+unfoldable pub transactionsVerdict : ℕ → List ℕ → Verdict
+transactionsVerdict n ws =
+    cond (wellFormed n ws) (cond (every parametersExist (transactionsOf n ws)) accepted (refused 4)) (refused 3)
+
+-- "All of one question is put before the next"
+unfoldable pub planVerdict : List ℕ → Verdict
+planVerdict ws =
+    cond (hasHead ws)
+    (cond (countsInRange (headOf ws)) (transactionsVerdict (headTransactions (headOf ws)) (drop 1 ws)) (refused 2))
+    (refused 1)

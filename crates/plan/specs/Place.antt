@@ -1,0 +1,25 @@
+-- Where a transaction stands among the words of a plan.
+use Prim.Native.Nat.{ℕ, zero, suc, _+_, _≤_}
+use mathlib.Core.Path.{_≡_}
+use mathlib.Core.Bool.{true}
+use mathlib.Core.List.{List}
+use lib.ListN.{length, getD, take, drop}
+use Rattle.word.specs.Field.{stepCount}
+use Rattle.plan.specs.Plan.{Transaction}
+use Rattle.plan.specs.Decode.{transactionOf}
+use Rattle.plan.specs.Admission.{transactionFormed, stepFormed, every}
+
+-- the first stands behind the head, each next one behind the steps of the one before
+unfoldable pub transactionPlace : List ℕ → ℕ → ℕ
+transactionPlace ws zero = 1
+transactionPlace ws (suc k) = transactionPlace ws k + 1 + stepCount (getD ws (transactionPlace ws k) 0)
+
+-- the transaction whose word stands at `at`, with its steps behind it
+abbrev pub transactionFrom : List ℕ → ℕ → Transaction
+transactionFrom ws at = transactionOf (getD ws at 0) (drop (at + 1) ws)
+
+-- a well-formed transaction stands at `at`, whole
+pub record StandsAt (ws : List ℕ) (at : ℕ) : Type 0 where
+  pub room : at + 1 + stepCount (getD ws at 0) ≤ length ws
+  pub form : transactionFormed (getD ws at 0) ≡ true
+  pub steps : every stepFormed (take (stepCount (getD ws at 0)) (drop (at + 1) ws)) ≡ true

@@ -1,0 +1,9 @@
+// Plans: the plan reader (questions 1 to 4), and where a transaction stands.
+mod form;
+mod place;
+mod reader;
+
+pub use place::transaction_place;
+pub use place::word_at;
+pub use reader::PlanAnswer;
+pub use reader::read_plan;

@@ -1,0 +1,101 @@
+// The plan reader: questions 1 to 4, all of one before the next.
+ghost use mathlib.Core.Path.{_≡_};
+ghost use mathlib.Core.Bool.{_&&_};
+ghost use lib.ListN.{length, getD, drop};
+ghost use lib.Dec.{ltb};
+ghost use Rattle.plan.specs.Admission.{planVerdict, transactionsVerdict, transactionFormed, stepFormed};
+ghost use Rattle.plan.specs.Answer.{verdictOf};
+use crate::form;
+use word::fields;
+
+// Accepted, or refused with the number of the question whose answer is no.
+pub enum PlanAnswer {
+    Accepted,
+    Refused(u32),
+}
+
+// Questions 1 to 4.
+pub fn read_plan(plan: &[u32]) -> PlanAnswer
+    ensures { λ r. ⌜ verdictOf r ≡ planVerdict (now (plan .entry)) ⌝ }
+{
+    let words = plan.len();
+    if words < 1 {
+        return PlanAnswer::Refused(1);
+    }
+    if 417 < words {
+        return PlanAnswer::Refused(1);
+    }
+    let head = plan[0];
+    if head / fields::KIND != 1 {
+        return PlanAnswer::Refused(1);
+    }
+    if (head % 0x1_0000) as usize != words {
+        return PlanAnswer::Refused(1);
+    }
+    if !form::counts_in_range(head) {
+        return PlanAnswer::Refused(2);
+    }
+    read_transactions(plan, head / fields::TRANSACTIONS % 256)
+}
+
+// Questions 3 and 4 of the words behind the head. The first form fault leaves both loops.
+fn read_transactions(plan: &[u32], transactions: u32) -> PlanAnswer
+    ensures { λ r. ⌜ verdictOf r ≡ transactionsVerdict transactions (drop 1 (now (plan .entry))) ⌝ }
+{
+    let mut at: usize = 1;
+    let mut t: u32 = 0;
+    let mut missing = false;
+    'transactions: while t < transactions {
+        if !transaction_at(plan, at) {
+            break 'transactions;
+        }
+        let word = plan[at];
+        let parameters = word / fields::PARAMETERS % 16;
+        let steps = word / fields::STEPS % 16;
+        missing = form::partitioning_missing(word, missing);
+        at = at + 1;
+        let mut s: u32 = 0;
+        while s < steps {
+            if !step_at(plan, at) {
+                break 'transactions;
+            }
+            missing = form::step_missing(plan[at], parameters, missing);
+            at = at + 1;
+            s = s + 1;
+        }
+        t = t + 1;
+    }
+    if t < transactions {
+        return PlanAnswer::Refused(3);
+    }
+    if at < plan.len() {
+        return PlanAnswer::Refused(3);
+    }
+    if missing {
+        PlanAnswer::Refused(4)
+    } else {
+        PlanAnswer::Accepted
+    }
+}
+
+// Whether a well-formed transaction's word stands at this place.
+fn transaction_at(plan: &[u32], at: usize) -> bool
+    ensures { λ r. ⌜ r ≡ (ltb at (length (now (plan .entry))) && transactionFormed (getD (now (plan .entry)) at 0)) ⌝ }
+{
+    if at < plan.len() {
+        form::transaction_formed(plan[at])
+    } else {
+        false
+    }
+}
+
+// Whether a well-formed step's word stands at this place.
+fn step_at(plan: &[u32], at: usize) -> bool
+    ensures { λ r. ⌜ r ≡ (ltb at (length (now (plan .entry))) && stepFormed (getD (now (plan .entry)) at 0)) ⌝ }
+{
+    if at < plan.len() {
+        form::step_formed(plan[at])
+    } else {
+        false
+    }
+}
