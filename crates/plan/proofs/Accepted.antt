@@ -1,16 +1,17 @@
 -- What an accepted plan gives: each question's yes.
 -- Assumes nothing.
-use mathlib.Core.Path.{_≡_, refl}
-use mathlib.Core.Bool.{Bool, true, false, _&&_, cond}
-use mathlib.Core.List.{List}
-use Prim.Native.Nat.{ℕ, _≤_}
+use mathlib.Core.Path.{_≡_, refl, ap}
+use mathlib.Core.Bool.{Bool, true, false, _&&_, cond, false≢true}
+use mathlib.Core.List.{List, [], _∷_}
+use Prim.Native.Nat.{ℕ, zero, suc, _≤_}
 use native.Mathlib.Omega.{arith}
-use lib.Dec.{leb, eqb}
-use lib.ListN.{length, drop}
-use borrow.Author.Tests.{leb-true, eqb-true}
-use Rattle.word.specs.Field.{kindOf, headDesks, headTransactions, headWords}
-use Rattle.plan.specs.Decode.{headOf, transactionsOf}
-use Rattle.plan.specs.Admission.{Verdict, accepted, refused, hasHead, countsInRange, wellFormed, every, parametersExist, transactionsVerdict, planVerdict}
+use lib.Dec.{leb}
+use lib.ListN.{length, take, drop}
+use borrow.Author.Tests.{leb-true}
+use Rattle.word.specs.Field.{kindOf, headDesks, headTransactions, headWords, stepCount}
+use Rattle.plan.specs.Decode.{headOf, transactionsOf, planOf}
+use Rattle.plan.specs.Admission.{Verdict, accepted, refused, hasHead, countsInRange, wellFormed, transactionFormed, stepFormed, every}
+use Rattle.plan.specs.Admission.{parametersExist, transactionsVerdict, planVerdict}
 use Rattle.plan.proofs.Bool.{and-fst, and-snd}
 
 -- a question's answer that a verdict other than its refusal shows
@@ -52,3 +53,16 @@ accepted-gives ws e =
       form = q3 .0;
       names = q4 .0;
     }
+
+-- as many transactions decode as the words are well formed for
+formed-count : (n : ℕ) (ws : List ℕ) → wellFormed n ws ≡ true → length (transactionsOf n ws) ≡ n
+unfolding wellFormed transactionsOf
+formed-count zero ws e = refl
+formed-count (suc n) [] e = absurd (false≢true e)
+formed-count (suc n) (w ∷ ws) e =
+    let f = and-snd (leb (stepCount w) (length ws)) _ (and-snd (transactionFormed w) _ e) in
+    ap suc (formed-count n (drop (stepCount w) ws) (and-snd (every stepFormed (take (stepCount w) ws)) _ f))
+
+pub transaction-count : (ws : List ℕ) → planVerdict ws ≡ accepted → length (planOf ws .transactions) ≡ headTransactions (headOf ws)
+unfolding planOf
+transaction-count ws e = formed-count (headTransactions (headOf ws)) (drop 1 ws) (accepted-gives ws e .form)

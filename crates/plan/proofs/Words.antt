@@ -6,10 +6,10 @@ use Prim.Native.Nat.{ℕ, _≤_}
 use native.Mathlib.Omega.{arith}
 use lib.Dec.{ltb, leb, eqb}
 use borrow.Author.Tests.{leb-true, leb-false, le-leb, le-ltb}
-use Rattle.word.specs.Field.{kindOf, rowSource, fixedRow, operandSource, fixedNumber}
+use Rattle.word.specs.Field.{kindOf, parameterCount, stepCount, rowSource, fixedRow, operandSource, fixedNumber}
 use Rattle.word.specs.Reserved.{sourceField, reservedZero}
 use Rattle.plan.specs.Decode.{sourceBy, stepOf}
-use Rattle.plan.specs.Admission.{stepFormed, sourceExists, stepExists}
+use Rattle.plan.specs.Admission.{transactionFormed, stepFormed, sourceExists, stepExists}
 use Rattle.plan.proofs.Bool.{and-fst, and-snd}
 
 pub step-kind-low : (w : ℕ) → stepFormed w ≡ true → 3 ≤ kindOf w
@@ -19,6 +19,17 @@ step-kind-low w e = leb-true 3 (kindOf w) (and-fst _ _ e)
 pub step-kind-high : (w : ℕ) → stepFormed w ≡ true → kindOf w ≤ 8
 unfolding stepFormed
 step-kind-high w e = leb-true (kindOf w) 8 (and-fst _ _ (and-snd (leb 3 (kindOf w)) _ e))
+
+-- what question 3 says of a transaction's word
+pub transaction-params : (w : ℕ) → transactionFormed w ≡ true → parameterCount w ≤ 4
+unfolding transactionFormed
+transaction-params w e = leb-true (parameterCount w) 4 (and-fst _ _ (and-snd (eqb (kindOf w) 2) _ e))
+
+pub transaction-steps : (w : ℕ) → transactionFormed w ≡ true → stepCount w ≤ 12
+unfolding transactionFormed
+transaction-steps w e =
+    let ranges = and-snd (leb (parameterCount w) 4) _ (and-snd (eqb (kindOf w) 2) _ e) in
+    leb-true (stepCount w) 12 (and-fst _ _ (and-snd (leb 1 (stepCount w)) _ ranges))
 
 source-exists : (count s v : ℕ) → sourceExists count (sourceBy s v) ≡ (eqb s 7 || ltb s count)
 unfolding sourceExists

@@ -1,0 +1,3 @@
+pub mod Operation
+pub mod Admission
+pub mod Run

@@ -1,0 +1,10 @@
+// Operations: questions 7 and 8, the desk, the cells that a step names, and running one on a store.
+mod admission;
+mod cell;
+
+pub use admission::parameters_pass;
+pub use admission::transaction_exists;
+pub use cell::cell_named;
+pub use cell::desk;
+pub use cell::parameter;
+pub use cell::source_value;

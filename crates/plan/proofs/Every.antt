@@ -1,0 +1,38 @@
+-- A test of every element of a list: at an index, and of a member.
+-- Assumes nothing.
+use mathlib.Core.Path.{_≡_, refl, _∙_, sym, ap}
+use mathlib.Core.Bool.{Bool, true, false, _&&_}
+use mathlib.Core.List.{List, [], _∷_, List·Memᴰ, List·Memᴰ·head, List·Memᴰ·tail}
+use Prim.Native.Nat.{ℕ, zero, suc, _+_, _≤_, _<_}
+use native.Mathlib.Nat.{not-suc-le-zero, le-of-suc-le-suc}
+use native.Mathlib.Numerals.{add-one}
+use lib.ListN.{length, getD, drop, drop-of-length-le}
+use lib.Seq.{drop-cons}
+use Rattle.plan.specs.Admission.{every}
+use Rattle.plan.proofs.Bool.{and-fst, and-snd, and-true}
+
+module _ {A : Type 0} (f : A → Bool) where
+  pub every-here : (l : List A) (i : ℕ) (d : A) → i < length l → every f (drop i l) ≡ (f (getD l i d) && every f (drop (i + 1) l))
+  unfolding every
+  every-here l i d h = rw (add-one, drop-cons l i d h)
+
+  pub every-past : (l : List A) (i : ℕ) → length l ≤ i → every f (drop i l) ≡ true
+  unfolding every
+  every-past l i h = rw (drop-of-length-le l h)
+
+  pub every-index : (l : List A) (i : ℕ) (d : A) → every f l ≡ true → i < length l → f (getD l i d) ≡ true
+  unfolding every
+  every-index [] i d e h = absurd (not-suc-le-zero h)
+  every-index (y ∷ ys) zero d e h = and-fst (f y) (every f ys) e
+  every-index (y ∷ ys) (suc i) d e h = every-index ys i d (and-snd (f y) (every f ys) e) (le-of-suc-le-suc h)
+
+  pub every-member : (l : List A) (x : A) → every f l ≡ true → List·Memᴰ x l → f x ≡ true
+  unfolding every
+  every-member (y ∷ ys) x e (List·Memᴰ·head p) = ap f p ∙ and-fst (f y) (every f ys) e
+  every-member (y ∷ ys) x e (List·Memᴰ·tail m) = every-member ys x (and-snd (f y) (every f ys) e) m
+
+  pub member-every : (l : List A) → ((x : A) → List·Memᴰ x l → f x ≡ true) → every f l ≡ true
+  unfolding every
+  member-every [] h = refl
+  member-every (y ∷ ys) h =
+      and-true (f y) (every f ys) (h y (List·Memᴰ·head refl)) (member-every ys (λ x m. h x (List·Memᴰ·tail m)))
