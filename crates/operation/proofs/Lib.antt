@@ -1,2 +1,4 @@
 pub mod Values
 pub mod Rows
+pub mod Cells
+pub mod Bounds

@@ -1,6 +1,6 @@
 -- A test of every element of a list: at an index, and of a member.
 -- Assumes nothing.
-use mathlib.Core.Path.{_≡_, refl, _∙_, sym, ap}
+use mathlib.Core.Path.{_≡_, refl, _∙_, ap, ap₂}
 use mathlib.Core.Bool.{Bool, true, false, _&&_}
 use mathlib.Core.List.{List, [], _∷_, List·Memᴰ, List·Memᴰ·head, List·Memᴰ·tail}
 use Prim.Native.Nat.{ℕ, zero, suc, _+_, _≤_, _<_}
@@ -36,3 +36,9 @@ module _ {A : Type 0} (f : A → Bool) where
   member-every [] h = refl
   member-every (y ∷ ys) h =
       and-true (f y) (every f ys) (h y (List·Memᴰ·head refl)) (member-every ys (λ x m. h x (List·Memᴰ·tail m)))
+
+-- two tests that agree on the members
+pub every-same : {A : Type 0} (f g : A → Bool) (l : List A) → ((x : A) → List·Memᴰ x l → f x ≡ g x) → every f l ≡ every g l
+unfolding every
+every-same f g [] h = refl
+every-same f g (y ∷ ys) h = ap₂ _&&_ (h y (List·Memᴰ·head refl)) (every-same f g ys (λ x m. h x (List·Memᴰ·tail m)))

@@ -1,0 +1,163 @@
+-- The table while the plan is walked: what is in it, joined with what is still to come, is the mask of each cell.
+-- Assumes nothing.
+use mathlib.Core.Path.{_≡_, refl, _∙_, sym, ap, fun-ext, subst}
+use mathlib.Core.Bool.{Bool, true, false, _||_, _&&_, or-assoc}
+use mathlib.Core.List.{List, [], _∷_, _++_, map}
+use mathlib.Core.Logic.{_⊎_, inl, inr, ⊎-elim}
+use Prim.Native.Nat.{ℕ, zero, suc, _+_, _-_, _≤_, _<_}
+use native.Mathlib.Nat.{le-of-suc-le-suc, sub-zero, not-suc-le-zero, eq-or-lt-of-le}
+use native.Mathlib.Numerals.{add-one}
+use native.Mathlib.Omega.{arith}
+use lib.Bits.{bitOr, or-zero-r, or-zero-l}
+use lib.Dec.{leb, ltb}
+use lib.ListN.{length, getD, take, drop, drop-of-length-le, replicate, length-replicate, getD-replicate, length-append, List·getD-append}
+use lib.Seq.{drop-cons, ext-getD, getD-append-seam}
+use borrow.Author.Tests.{leb-true}
+use Rattle.word.specs.Field.{stepCount, partitioningField, headDesks, headTransactions}
+use Rattle.plan.specs.Plan.{Partitioning}
+use Rattle.plan.specs.Decode.{partBy, stepOf, transactionsOf, planOf, headOf}
+use Rattle.plan.specs.Admission.{wellFormed, every, stepFormed, transactionFormed, planVerdict, accepted}
+use Rattle.plan.proofs.Bool.{and-fst, and-snd}
+use Rattle.plan.proofs.Accepted.{accepted-gives}
+use Rattle.plan.proofs.Places.{lt-or-ge, left-suc}
+use Rattle.conflict.specs.Mask.{maskOf, some}
+use Rattle.conflict.specs.Touch.{stepTouches, stepsTouch, transactionsTouch, deskMask, maskTable, Joined}
+use Rattle.conflict.proofs.Masks.{mask-ext, mask-none, mask-split}
+use Rattle.conflict.proofs.Tables.{whole-table}
+
+-- ---- by the words that are left
+
+-- k transactions are left in the words ws
+pub record Left (least n k : ℕ) (ws l : List ℕ) (goal : ℕ → ℕ) : Type 0 where
+  pub long : length l ≡ 1024
+  pub form : wellFormed k ws ≡ true
+  pub cells : (c : ℕ) → c < 1024 → bitOr (getD l c 0) (maskOf n (transactionsTouch least n (transactionsOf k ws) c)) ≡ goal c
+
+-- m steps of a transaction are left, and k transactions behind it
+pub record LeftIn (least n : ℕ) (q : Partitioning) (m k : ℕ) (ws l : List ℕ) (goal : ℕ → ℕ) : Type 0 where
+  pub long : length l ≡ 1024
+  pub enough : m ≤ length ws
+  pub steps : every stepFormed (take m ws) ≡ true
+  pub form : wellFormed k (drop m ws) ≡ true
+  pub cells : (c : ℕ) → c < 1024
+      → bitOr (getD l c 0) (maskOf n (λ d. stepsTouch least n q (map stepOf (take m ws)) c d || transactionsTouch least n (transactionsOf k (drop m ws)) c d)) ≡ goal c
+
+module _ (least n : ℕ) (goal : ℕ → ℕ) where
+  left-nil : (k : ℕ) (l : List ℕ) → Left least n (suc k) [] l goal → ⊥
+  unfolding wellFormed
+  left-nil k l f = let e = f .form in let z : _≡_ {A = ℕ} 0 1 = cc in omega arith
+
+  left-enter : (k w : ℕ) (ws l : List ℕ) → Left least n (suc k) (w ∷ ws) l goal → LeftIn least n (partBy (partitioningField w)) (stepCount w) k ws l goal
+  unfolding wellFormed transactionsOf some
+  left-enter k w ws l f =
+      let a = and-snd (transactionFormed w) _ (f .form) in
+      let b = and-snd (leb (stepCount w) (length ws)) _ a in
+      record {
+        long = f .long;
+        enough = leb-true (stepCount w) (length ws) (and-fst _ _ a);
+        steps = and-fst (every stepFormed (take (stepCount w) ws)) _ b;
+        form = and-snd (every stepFormed (take (stepCount w) ws)) _ b;
+        cells = f .cells;
+      }
+
+  left-done : (ws l : List ℕ) → Left least n 0 ws l goal → (c : ℕ) → c < 1024 → getD l c 0 ≡ goal c
+  unfolding transactionsOf some
+  left-done ws l f c h = sym (ap (bitOr (getD l c 0)) (mask-none n) ∙ or-zero-r (getD l c 0)) ∙ f .cells c h
+
+  in-form : (q : Partitioning) (m k w : ℕ) (ws l : List ℕ) → LeftIn least n q (suc m) k (w ∷ ws) l goal → stepFormed w ≡ true
+  unfolding every
+  in-form q m k w ws l f = and-fst (stepFormed w) _ (f .steps)
+
+  in-step : (q : Partitioning) (m k w : ℕ) (ws l l′ : List ℕ) → LeftIn least n q (suc m) k (w ∷ ws) l goal
+      → Joined l l′ (λ c. maskOf n (stepTouches least n q (stepOf w) c)) → LeftIn least n q m k ws l′ goal
+  unfolding every some
+  in-step q m k w ws l l′ f j = record {
+    long = j .long;
+    enough = le-of-suc-le-suc (f .enough);
+    steps = and-snd (stepFormed w) _ (f .steps);
+    form = f .form;
+    cells = λ c h.
+        ap (λ (x : ℕ). bitOr x (maskOf n (λ d. stepsTouch least n q (map stepOf (take m ws)) c d || transactionsTouch least n (transactionsOf k (drop m ws)) c d))) (j .cells c h)
+        ∙ sym (mask-split (getD l c 0) n (stepTouches least n q (stepOf w) c)
+        (λ d. stepsTouch least n q (map stepOf (take m ws)) c d || transactionsTouch least n (transactionsOf k (drop m ws)) c d))
+        ∙ ap (bitOr (getD l c 0)) (mask-ext n _ _ (λ d. sym (or-assoc (stepTouches least n q (stepOf w) c d) (stepsTouch least n q (map stepOf (take m ws)) c d) (transactionsTouch least n (transactionsOf k (drop m ws)) c d))))
+        ∙ f .cells c h;
+  }
+
+  in-leave : (q : Partitioning) (k : ℕ) (ws l : List ℕ) → LeftIn least n q 0 k ws l goal → Left least n k ws l goal
+  unfolding some
+  in-leave q k ws l f = record { long = f .long; form = f .form; cells = f .cells }
+
+-- ---- by the place in the plan
+
+pub record Filling (least : ℕ) (plan : List ℕ) (n txs t at : ℕ) (l : List ℕ) : Type 0 where
+  pub left : Left least n (txs - t) (drop at plan) l (deskMask least (planOf plan))
+
+pub record FillingIn (least : ℕ) (plan : List ℕ) (n part steps s txs t at : ℕ) (l : List ℕ) : Type 0 where
+  pub left : LeftIn least n (partBy part) (steps - s) (txs - (t + 1)) (drop at plan) l (deskMask least (planOf plan))
+
+-- a place past the words, or the word there and those behind it
+at-place : (plan : List ℕ) (at : ℕ) → (drop at plan ≡ []) ⊎ ((at < length plan) × (drop at plan ≡ getD plan at 0 ∷ drop (at + 1) plan))
+at-place plan at =
+    ⊎-elim (λ (h : at < length plan). inr (h, rw (add-one, drop-cons plan at 0 h)))
+    (λ (h : length plan ≤ at). inl (drop-of-length-le plan h)) (lt-or-ge at (length plan))
+
+pub start : (least : ℕ) (plan : List ℕ) → planVerdict plan ≡ accepted
+    → Filling least plan (headDesks (headOf plan)) (headTransactions (headOf plan)) 0 1 (replicate 1024 0)
+unfolding deskMask planOf
+start least plan e = record {
+  left = record {
+    long = length-replicate {A = ℕ} 1024 0;
+    form = rw sub-zero (accepted-gives plan e .form);
+    cells = λ c h. rw (sub-zero, getD-replicate {A = ℕ} 1024 c 0 0 h) (or-zero-l _);
+  };
+}
+
+module _ (least : ℕ) (plan : List ℕ) (n txs t at : ℕ) (l : List ℕ) (f : Filling least plan n txs t at l) where
+  enter-both : t < txs
+      → (at < length plan) × LeftIn least n (partBy (partitioningField (getD plan at 0))) (stepCount (getD plan at 0)) (txs - (t + 1)) (drop (at + 1) plan) l (deskMask least (planOf plan))
+  enter-both h =
+      ⊎-elim
+      (λ (e : drop at plan ≡ []). absurd (left-nil least n (deskMask least (planOf plan)) (txs - (t + 1)) l (rw (left-suc txs t h, e) at (f .left))))
+      (λ (e : (at < length plan) × (drop at plan ≡ getD plan at 0 ∷ drop (at + 1) plan)).
+      (e .0, left-enter least n (deskMask least (planOf plan)) (txs - (t + 1)) (getD plan at 0) (drop (at + 1) plan) l (rw (left-suc txs t h, e .1) at (f .left))))
+      (at-place plan at)
+
+  pub enter-here : t < txs → at < length plan
+  enter-here h = enter-both h .0
+
+  pub enter : t < txs → FillingIn least plan n (partitioningField (getD plan at 0)) (stepCount (getD plan at 0)) 0 txs t (at + 1) l
+  enter h = record { left = rw sub-zero (enter-both h .1) }
+
+  pub done : txs ≤ t → l ≡ maskTable least (planOf plan)
+  done h =
+      let e : txs - t ≡ 0 = omega arith in
+      whole-table (deskMask least (planOf plan)) l (f .left .long) (left-done least n (deskMask least (planOf plan)) (drop at plan) l (rw e at (f .left)))
+
+module _ (least : ℕ) (plan : List ℕ) (n part steps s txs t at : ℕ) (l : List ℕ) (f : FillingIn least plan n part steps s txs t at l) where
+  at-step : s < steps
+      → (at < length plan) × LeftIn least n (partBy part) (suc (steps - (s + 1))) (txs - (t + 1)) (getD plan at 0 ∷ drop (at + 1) plan) l (deskMask least (planOf plan))
+  at-step h =
+      ⊎-elim
+      (λ (e : drop at plan ≡ []). absurd (omega (arith, f .left .enough, ap length e)))
+      (λ (e : (at < length plan) × (drop at plan ≡ getD plan at 0 ∷ drop (at + 1) plan)). (e .0, rw (left-suc steps s h, e .1) at (f .left)))
+      (at-place plan at)
+
+  pub step-here : s < steps → at < length plan
+  step-here h = at-step h .0
+
+  pub step-is-formed : s < steps → stepFormed (getD plan at 0) ≡ true
+  step-is-formed h =
+      in-form least n (deskMask least (planOf plan)) (partBy part) (steps - (s + 1)) (txs - (t + 1)) (getD plan at 0) (drop (at + 1) plan) l (at-step h .1)
+
+  pub step-on : (l′ : List ℕ) → s < steps → Joined l l′ (λ c. maskOf n (stepTouches least n (partBy part) (stepOf (getD plan at 0)) c))
+      → FillingIn least plan n part steps (s + 1) txs t (at + 1) l′
+  step-on l′ h j = record {
+    left = in-step least n (deskMask least (planOf plan)) (partBy part) (steps - (s + 1)) (txs - (t + 1)) (getD plan at 0) (drop (at + 1) plan) l l′ (at-step h .1) j;
+  }
+
+  pub leave : steps ≤ s → Filling least plan n txs (t + 1) at l
+  leave h = record {
+    left = in-leave least n (deskMask least (planOf plan)) (partBy part) (txs - (t + 1)) (drop at plan) l
+        (subst (λ (m : ℕ). LeftIn least n (partBy part) m (txs - (t + 1)) (drop at plan) l (deskMask least (planOf plan))) (omega arith) (f .left));
+  }

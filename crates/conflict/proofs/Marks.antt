@@ -1,0 +1,148 @@
+-- One step's cells, joined row by row into the table.
+-- Assumes nothing.
+use mathlib.Core.Path.{_≡_, refl, _∙_, sym, ap, ap₂}
+use mathlib.Core.Bool.{Bool, true, false, _||_, _&&_, cond, and-false}
+use mathlib.Core.List.{List, [], _∷_}
+use mathlib.Core.Logic.{_⊎_, inl, inr, ⊎-elim}
+use Prim.Native.Nat.{ℕ, zero, suc, _+_, _*_, _/_, _%_, _≤_, _<_}
+use native.Mathlib.Decide.{ℕ-discrete}
+use native.Mathlib.Omega.{arith}
+use lib.Bits.{bitOr, or-zero-r}
+use lib.Dec.{ltb, leb, eqb}
+use lib.ListN.{length, getD, set, length-set}
+use lib.Seq.{getD-set-same, getD-set-other}
+use borrow.Author.Tests.{eq-eqb, lt-ltb, le-ltb, le-leb, lt-leb, eqb-true, eqb-false}
+use Rattle.word.specs.Field.{kindOf, tableField, columnField}
+use Rattle.plan.specs.Plan.{Partitioning}
+use Rattle.plan.specs.Decode.{accessBy, stepOf, rowOf}
+use Rattle.plan.specs.Admission.{stepFormed}
+use Rattle.plan.proofs.Words.{step-kind-low}
+use Rattle.plan.proofs.Places.{lt-or-ge}
+use Rattle.conflict.specs.Mask.{maskOf}
+use Rattle.conflict.specs.Touch.{counted, rowTouched, cellTouched, stepTouches, Joined}
+use Rattle.conflict.proofs.Masks.{mask-ext, mask-none}
+
+-- ---- what a step touches, by its kind
+
+counted-kind : (least k : ℕ) → 3 ≤ k → k ≤ 4 → counted least (accessBy k) ≡ leb least k
+unfolding accessBy
+counted-kind least k lo hi = go (eqb k 3) refl
+  where
+    go : (b : Bool) → eqb k 3 ≡ b → counted least (accessBy k) ≡ leb least k
+    go true e = simp (eqb-true k 3 e)
+    go false e = let f : k ≡ 4 = omega (arith, eqb-false k 3 e) in simp f
+
+step-cell : (least n : ℕ) (q : Partitioning) (w c d : ℕ) → stepFormed w ≡ true → kindOf w ≤ 4
+    → stepTouches least n q (stepOf w) c d ≡ (leb least (kindOf w) && cellTouched n q (tableField w) (columnField w) (rowOf w) c d)
+unfolding stepOf stepTouches
+step-cell least n q w c d f hi =
+    rw (le-leb (kindOf w) 4 hi)
+    (ap (λ (b : Bool). b && cellTouched n q (tableField w) (columnField w) (rowOf w) c d) (counted-kind least (kindOf w) (step-kind-low w f) hi))
+
+step-operand : (least n : ℕ) (q : Partitioning) (w c d : ℕ) → 4 < kindOf w → stepTouches least n q (stepOf w) c d ≡ false
+unfolding stepOf stepTouches
+step-operand least n q w c d h = rw (lt-leb (kindOf w) 4 h)
+
+unmarked : (least n : ℕ) (q : Partitioning) (w c x : ℕ) → ((d : ℕ) → stepTouches least n q (stepOf w) c d ≡ false)
+    → x ≡ bitOr x (maskOf n (stepTouches least n q (stepOf w) c))
+unmarked least n q w c x h =
+    sym (ap (bitOr x) (mask-ext n (stepTouches least n q (stepOf w) c) (λ d. false) h ∙ mask-none n) ∙ or-zero-r x)
+
+module _ (least n : ℕ) (q : Partitioning) (w : ℕ) (l : List ℕ) (long : length l ≡ 1024) where
+  pub operand-marks-none : 4 < kindOf w → Joined l l (λ c. maskOf n (stepTouches least n q (stepOf w) c))
+  operand-marks-none h = record { long = long; cells = λ c k. unmarked least n q w c (getD l c 0) (λ d. step-operand least n q w c d h) }
+
+  pub uncounted-marks-none : stepFormed w ≡ true → kindOf w ≤ 4 → kindOf w < least → Joined l l (λ c. maskOf n (stepTouches least n q (stepOf w) c))
+  uncounted-marks-none f hi h = record {
+    long = long;
+    cells = λ c k. unmarked least n q w c (getD l c 0) (λ d. step-cell least n q w c d f hi ∙ simp (lt-leb least (kindOf w) h));
+  }
+
+-- ---- the rows
+
+-- the desks of the rows before this one
+pub rowsMask : (n : ℕ) (q : Partitioning) (w row c : ℕ) → ℕ
+rowsMask n q w row c = maskOf n (λ d. ltb (c / 4 % 32) row && cellTouched n q (tableField w) (columnField w) (rowOf w) c d)
+
+-- the table l, with the rows before this one joined, from l₀
+pub record Marked (l₀ l : List ℕ) (n : ℕ) (q : Partitioning) (w row : ℕ) : Type 0 where
+  pub long : length l ≡ 1024
+  pub cells : (c : ℕ) → c < 1024 → getD l c 0 ≡ bitOr (getD l₀ c 0) (rowsMask n q w row c)
+
+pub marked-none : (l : List ℕ) (n : ℕ) (q : Partitioning) (w : ℕ) → length l ≡ 1024 → Marked l l n q w 0
+unfolding rowsMask
+marked-none l n q w e = record {
+  long = e;
+  cells = λ c h.
+      sym (ap (bitOr (getD l c 0)) (mask-ext n _ (λ d. false) (λ d. simp (le-ltb (c / 4 % 32) 0 (omega arith))) ∙ mask-none n) ∙ or-zero-r (getD l c 0));
+}
+
+pub marked-all : (least : ℕ) (l₀ l : List ℕ) (n : ℕ) (q : Partitioning) (w row : ℕ) → stepFormed w ≡ true → kindOf w ≤ 4 → least ≤ kindOf w → 32 ≤ row
+    → Marked l₀ l n q w row → Joined l₀ l (λ c. maskOf n (stepTouches least n q (stepOf w) c))
+unfolding rowsMask
+marked-all least l₀ l n q w row f hi lo r m = record {
+  long = m .long;
+  cells = λ c h.
+      m .cells c h
+      ∙ ap (bitOr (getD l₀ c 0))
+      (mask-ext n _ _ (λ d. simp (lt-ltb (c / 4 % 32) row (omega arith)) (sym (step-cell least n q w c d f hi ∙ simp (le-leb least (kindOf w) lo)))));
+}
+
+-- the cell of this row
+abbrev pub cellAt : ℕ → ℕ → ℕ
+cellAt w row = tableField w * 128 + columnField w + row * 4
+
+-- a cell's number from its table, column and row
+pub cell-back : (c t k r : ℕ) → c / 128 ≡ t → c % 4 ≡ k → c / 4 % 32 ≡ r → c ≡ t * 128 + k + r * 4
+cell-back c t k r a b e = omega arith
+
+module _ (n : ℕ) (q : Partitioning) (w row c : ℕ) (small : row < 32) (in-table : c < 1024) where
+  -- at the cell of the row: nothing before, and then the row's own mask
+  before-here : c ≡ cellAt w row → rowsMask n q w row c ≡ 0
+  unfolding rowsMask
+  before-here e = mask-ext n _ (λ d. false) (λ d. simp (le-ltb (c / 4 % 32) row (omega arith))) ∙ mask-none n
+
+  after-here : c ≡ cellAt w row → rowsMask n q w (row + 1) c ≡ maskOf n (rowTouched n q (rowOf w) row)
+  unfolding rowsMask cellTouched
+  after-here e =
+      mask-ext n _ (rowTouched n q (rowOf w) row)
+      (λ d. let r : c / 4 % 32 ≡ row = omega arith in
+      let a : c / 128 ≡ tableField w = omega arith in
+      let b : c % 4 ≡ columnField w = omega arith in
+      simp (r, a, b, eq-eqb (tableField w) (tableField w) refl, eq-eqb (columnField w) (columnField w) refl, lt-ltb row (row + 1) (omega arith)))
+
+  -- elsewhere: as before
+  elsewhere : (c ≡ cellAt w row → ⊥) → rowsMask n q w (row + 1) c ≡ rowsMask n q w row c
+  unfolding rowsMask cellTouched
+  elsewhere ne = mask-ext n _ _ (λ d. go d (eqb (c / 4 % 32) row) (eqb (c / 128) (tableField w)) (eqb (c % 4) (columnField w)) refl refl refl)
+    where
+      go : (d : ℕ) (x a b : Bool) → eqb (c / 4 % 32) row ≡ x → eqb (c / 128) (tableField w) ≡ a → eqb (c % 4) (columnField w) ≡ b
+          → (ltb (c / 4 % 32) (row + 1) && (eqb (c / 128) (tableField w) && (eqb (c % 4) (columnField w) && rowTouched n q (rowOf w) (c / 4 % 32) d)))
+          ≡ (ltb (c / 4 % 32) row && (eqb (c / 128) (tableField w) && (eqb (c % 4) (columnField w) && rowTouched n q (rowOf w) (c / 4 % 32) d)))
+      go d true true true ex ea eb =
+          absurd (ne (cell-back c (tableField w) (columnField w) row (eqb-true (c / 128) (tableField w) ea) (eqb-true (c % 4) (columnField w) eb) (eqb-true (c / 4 % 32) row ex)))
+      go d true true false ex ea eb = simp (ea, eb, and-false)
+      go d true false b ex ea eb = simp (ea, and-false)
+      go d false a b ex ea eb =
+          ⊎-elim (λ (l : c / 4 % 32 < row). simp (lt-ltb (c / 4 % 32) row l, lt-ltb (c / 4 % 32) (row + 1) (omega arith)))
+          (λ (g : row ≤ c / 4 % 32). simp (le-ltb (c / 4 % 32) row g, le-ltb (c / 4 % 32) (row + 1) (omega (arith, eqb-false (c / 4 % 32) row ex))))
+          (lt-or-ge (c / 4 % 32) row)
+
+pub marked-more : (l₀ l : List ℕ) (n : ℕ) (q : Partitioning) (w row m : ℕ) → row < 32 → m ≡ maskOf n (rowTouched n q (rowOf w) row) → Marked l₀ l n q w row
+    → Marked l₀ (set l (cellAt w row) (bitOr (getD l (cellAt w row) 0) m)) n q w (row + 1)
+marked-more l₀ l n q w row m small e k = record {
+  long = length-set l _ _ ∙ k .long;
+  cells = λ c h. here-or-not c h (ℕ-discrete c (cellAt w row));
+}
+  where
+    here-or-not : (c : ℕ) → c < 1024 → Dec (c ≡ cellAt w row)
+        → getD (set l (cellAt w row) (bitOr (getD l (cellAt w row) 0) m)) c 0 ≡ bitOr (getD l₀ c 0) (rowsMask n q w (row + 1) c)
+    here-or-not c h (yes s) =
+        ap (λ (i : ℕ). getD (set l (cellAt w row) (bitOr (getD l (cellAt w row) 0) m)) i 0) s
+        ∙ getD-set-same l (cellAt w row) (bitOr (getD l (cellAt w row) 0) m) 0 (omega (arith, k .long))
+        ∙ ap₂ bitOr
+        (ap (λ (i : ℕ). getD l i 0) (sym s) ∙ k .cells c h ∙ ap (bitOr (getD l₀ c 0)) (before-here n q w row c small h s) ∙ or-zero-r (getD l₀ c 0))
+        (e ∙ sym (after-here n q w row c small h s))
+    here-or-not c h (no s) =
+        getD-set-other l (cellAt w row) c (bitOr (getD l (cellAt w row) 0) m) 0 s
+        ∙ k .cells c h ∙ ap (bitOr (getD l₀ c 0)) (sym (elsewhere n q w row c small h s))

@@ -1,0 +1,123 @@
+-- The cells that a transaction's steps name, as the walk over its words meets them.
+-- Assumes nothing.
+use mathlib.Core.Path.{_≡_, refl, _∙_, sym, ap}
+use mathlib.Core.Bool.{Bool, true, false, _&&_, _||_, cond}
+use mathlib.Core.List.{List, [], _∷_}
+use Prim.Native.Nat.{ℕ, _+_, _≤_, _<_}
+use native.Mathlib.Omega.{arith}
+use lib.Count.{ones}
+use lib.Dec.{leb, eqb}
+use lib.ListN.{getD}
+use borrow.Author.Tests.{eqb-true, eqb-false, leb-true, leb-false, eq-eqb, ne-eqb, le-leb, lt-leb}
+use Rattle.word.specs.Field.{kindOf, stepCount, tableField, columnField, rowSource, fixedRow}
+use Rattle.plan.specs.Plan.{Access, reads, writes, Step}
+use Rattle.plan.specs.Decode.{accessBy, stepOf, rowOf}
+use Rattle.plan.specs.Admission.{every, stepFormed}
+use Rattle.plan.specs.Place.{StandsAt, transactionFrom}
+use Rattle.plan.proofs.Bool.{and-snd}
+use Rattle.plan.proofs.Words.{step-kind-low}
+use Rattle.plan.proofs.Steps.{stepsFrom, steps-all, steps-none, steps-cons, step-formed, every-step}
+use Rattle.operation.specs.Operation.{sameAccess, valueOf, cellNumber, cellsNamed}
+use Rattle.operation.specs.Admission.{rowInRange, parametersPass, unusedZero}
+use Rattle.conflict.specs.Mask.{some}
+use Rattle.conflict.specs.Class.{isWrite, onesAre}
+
+-- ---- one step
+
+same-kind : (k j : ℕ) → 3 ≤ k → k ≤ 4 → 3 ≤ j → j ≤ 4 → sameAccess (accessBy k) (accessBy j) ≡ eqb j k
+unfolding accessBy
+same-kind k j lk hk lj hj = go (eqb k 3) (eqb j 3) refl refl
+  where
+    go : (a b : Bool) → eqb k 3 ≡ a → eqb j 3 ≡ b → sameAccess (accessBy k) (accessBy j) ≡ eqb j k
+    go true true ek ej = simp (ek, ej) (sym (eq-eqb j k (omega (arith, eqb-true k 3 ek, eqb-true j 3 ej))))
+    go true false ek ej = simp (ek, ej) (sym (ne-eqb j k (λ e. omega (arith, eqb-true k 3 ek, eqb-false j 3 ej))))
+    go false true ek ej = simp (ek, ej) (sym (ne-eqb j k (λ e. omega (arith, eqb-false k 3 ek, eqb-true j 3 ej))))
+    go false false ek ej = simp (ek, ej) (sym (eq-eqb j k (omega (arith, eqb-false k 3 ek, eqb-false j 3 ej))))
+
+-- the cell that the word of a read or write step names
+abbrev pub cellOf : List ℕ → ℕ → ℕ
+cellOf ps w = cellNumber (tableField w) (valueOf ps (rowOf w)) (columnField w)
+
+module _ (k : ℕ) (low : 3 ≤ k) (high : k ≤ 4) (ps : List ℕ) (w : ℕ) (ss : List Step) (f : stepFormed w ≡ true) where
+  named-here : kindOf w ≡ k → cellsNamed (accessBy k) ps (stepOf w ∷ ss) ≡ cellOf ps w ∷ cellsNamed (accessBy k) ps ss
+  unfolding cellsNamed stepOf
+  named-here e =
+      let h : kindOf w ≤ 4 = omega arith in
+      rw (le-leb (kindOf w) 4 h, same-kind k (kindOf w) low high (step-kind-low w f) h, eq-eqb (kindOf w) k e)
+
+  named-other : (kindOf w ≡ k → ⊥) → cellsNamed (accessBy k) ps (stepOf w ∷ ss) ≡ cellsNamed (accessBy k) ps ss
+  unfolding cellsNamed stepOf
+  named-other e = go (leb (kindOf w) 4) refl
+    where
+      go : (b : Bool) → leb (kindOf w) 4 ≡ b → cellsNamed (accessBy k) ps (stepOf w ∷ ss) ≡ cellsNamed (accessBy k) ps ss
+      go true h = rw (h, same-kind k (kindOf w) low high (step-kind-low w f) (leb-true (kindOf w) 4 h), ne-eqb (kindOf w) k e)
+      go false h = rw h
+
+write-kind : (w : ℕ) → stepFormed w ≡ true → isWrite (stepOf w) ≡ eqb (kindOf w) 4
+unfolding stepOf accessBy
+write-kind w f = go (leb (kindOf w) 4) (eqb (kindOf w) 3) refl refl
+  where
+    go : (a b : Bool) → leb (kindOf w) 4 ≡ a → eqb (kindOf w) 3 ≡ b → isWrite (stepOf w) ≡ eqb (kindOf w) 4
+    go true true ea eb = simp (ea, eb) (sym (ne-eqb (kindOf w) 4 (λ e. omega (arith, eqb-true (kindOf w) 3 eb))))
+    go true false ea eb =
+        simp (ea, eb)
+        (sym (eq-eqb (kindOf w) 4 (omega (arith, leb-true (kindOf w) 4 ea, step-kind-low w f, eqb-false (kindOf w) 3 eb))))
+    go false b ea eb = simp ea (sym (ne-eqb (kindOf w) 4 (λ e. omega (arith, leb-false (kindOf w) 4 ea))))
+
+row-bound : (ps : List ℕ) (w : ℕ) → rowInRange ps (stepOf w) ≡ true → kindOf w ≤ 4 → valueOf ps (rowOf w) ≤ 31
+unfolding rowInRange stepOf
+row-bound ps w e h = go (eqb (rowSource w) 7) refl
+  where
+    go : (b : Bool) → eqb (rowSource w) 7 ≡ b → valueOf ps (rowOf w) ≤ 31
+    go true s = simp s (omega arith)
+    go false s = simp s (leb-true (getD ps (rowSource w) 0) 31 (simp (le-leb (kindOf w) 4 h, s) at e))
+
+-- ---- along the steps of the transaction at `at`
+
+module _ (ws : List ℕ) (at : ℕ) (p : StandsAt ws at) where
+  -- what the steps from s on say of a write
+  pub writing-here : (s : ℕ) → s < stepCount (getD ws at 0)
+      → some isWrite (stepsFrom ws at s) ≡ (eqb (kindOf (getD ws (at + 1 + s) 0)) 4 || some isWrite (stepsFrom ws at (s + 1)))
+  unfolding some
+  writing-here s h =
+      ap (some isWrite) (steps-cons ws at s p h)
+      ∙ ap (λ (b : Bool). b || some isWrite (stepsFrom ws at (s + 1))) (write-kind (getD ws (at + 1 + s) 0) (step-formed ws at s p h))
+
+  pub writing-none : (s : ℕ) → stepCount (getD ws at 0) ≤ s → some isWrite (stepsFrom ws at s) ≡ false
+  unfolding some
+  writing-none s h = ap (some isWrite) (steps-none ws at s h)
+
+  pub row-passes : (ps : List ℕ) → parametersPass (transactionFrom ws at) ps ≡ true → (s : ℕ) → s < stepCount (getD ws at 0)
+      → kindOf (getD ws (at + 1 + s) 0) ≤ 4 → valueOf ps (rowOf (getD ws (at + 1 + s) 0)) ≤ 31
+  unfolding parametersPass
+  row-passes ps e s h k =
+      row-bound ps (getD ws (at + 1 + s) 0)
+      (every-step (rowInRange ps) ws at p (and-snd (unusedZero (transactionFrom ws at .params) ps) _ e) s h) k
+
+  module _ (ps : List ℕ) (k : ℕ) (low : 3 ≤ k) (high : k ≤ 4) (n : ℕ) (mask : ℕ → ℕ) (s : ℕ) where
+    ones-here : s < stepCount (getD ws at 0) → kindOf (getD ws (at + 1 + s) 0) ≡ k
+        → onesAre n mask (cellsNamed (accessBy k) ps (stepsFrom ws at s))
+        ≡ (eqb (ones (mask (cellOf ps (getD ws (at + 1 + s) 0)))) n && onesAre n mask (cellsNamed (accessBy k) ps (stepsFrom ws at (s + 1))))
+    unfolding every
+    ones-here h e =
+        ap (λ (ss : List Step). onesAre n mask (cellsNamed (accessBy k) ps ss)) (steps-cons ws at s p h)
+        ∙ ap (onesAre n mask) (named-here k low high ps (getD ws (at + 1 + s) 0) (stepsFrom ws at (s + 1)) (step-formed ws at s p h) e)
+
+    module _ (h : s < stepCount (getD ws at 0)) (e : kindOf (getD ws (at + 1 + s) 0) ≡ k) (c x : ℕ) (i : c ≡ cellOf ps (getD ws (at + 1 + s) 0))
+        (q : x ≡ ones (mask c)) where
+      pub ones-fail : (x ≡ n → ⊥) → onesAre n mask (cellsNamed (accessBy k) ps (stepsFrom ws at s)) ≡ false
+      ones-fail f = ones-here h e ∙ rw (← i, ← q, ne-eqb x n f)
+
+      pub ones-pass : x ≡ n
+          → onesAre n mask (cellsNamed (accessBy k) ps (stepsFrom ws at s)) ≡ onesAre n mask (cellsNamed (accessBy k) ps (stepsFrom ws at (s + 1)))
+      ones-pass f = ones-here h e ∙ rw (← i, ← q, eq-eqb x n f)
+
+    pub ones-other : s < stepCount (getD ws at 0) → (kindOf (getD ws (at + 1 + s) 0) ≡ k → ⊥)
+        → onesAre n mask (cellsNamed (accessBy k) ps (stepsFrom ws at s)) ≡ onesAre n mask (cellsNamed (accessBy k) ps (stepsFrom ws at (s + 1)))
+    ones-other h e =
+        ap (λ (ss : List Step). onesAre n mask (cellsNamed (accessBy k) ps ss)) (steps-cons ws at s p h)
+        ∙ ap (onesAre n mask) (named-other k low high ps (getD ws (at + 1 + s) 0) (stepsFrom ws at (s + 1)) (step-formed ws at s p h) e)
+
+    pub ones-done : stepCount (getD ws at 0) ≤ s → onesAre n mask (cellsNamed (accessBy k) ps (stepsFrom ws at s)) ≡ true
+    unfolding every cellsNamed
+    ones-done h = ap (λ (ss : List Step). onesAre n mask (cellsNamed (accessBy k) ps ss)) (steps-none ws at s h)

@@ -1,0 +1,48 @@
+-- What the classifier answers, in the paper's classes, desks and numbers.
+use Prim.Native.Nat.{ℕ}
+use mathlib.Core.Bool.{cond}
+use mathlib.Core.List.{List}
+use Rattle.plan.specs.Plan.{Plan}
+use Rattle.plan.specs.Decode.{planOf}
+use Rattle.plan.specs.Admission.{Verdict, accepted, refused, planVerdict}
+use Rattle.operation.specs.Operation.{Operation, operation, deskOf}
+use Rattle.operation.specs.Admission.{operationVerdict}
+use Rattle.conflict.specs.Class.{Class, free, local, global, classOf}
+use Rattle.conflict.specs.declared.class.Class as code
+use Rattle.conflict.specs.declared.class.Class.the-variants as class
+use Rattle.conflict.specs.declared.class.ClassAnswer.{ClassAnswer}
+use Rattle.conflict.specs.declared.class.ClassAnswer.the-variants.{Free, Local, Global, Refused}
+
+-- the class alone
+abbrev pub classOfCode : code.Class → Class
+classOfCode class.Free = free
+classOfCode class.Local = local
+classOfCode class.Global = global
+
+-- a class with its desk, or a question's number
+pub data Classified : Type 0 where
+  isFree : Classified
+  isLocal isGlobal : ℕ → Classified
+  isRefused : ℕ → Classified
+
+abbrev pub classifiedOf : ClassAnswer → Classified
+classifiedOf Free = isFree
+classifiedOf (Local desk) = isLocal desk
+classifiedOf (Global desk) = isGlobal desk
+classifiedOf (Refused question) = isRefused question
+
+abbrev pub withDesk : Class → ℕ → Classified
+withDesk free d = isFree
+withDesk local d = isLocal d
+withDesk global d = isGlobal d
+
+abbrev pub unless : Verdict → Classified → Classified
+unless accepted a = a
+unless (refused question) a = isRefused question
+
+-- "Classifier: 1–4, 7, 8."
+unfoldable pub classifyResult : List ℕ → ℕ → List ℕ → Classified
+classifyResult ws k ps =
+    unless (planVerdict ws)
+    (unless (operationVerdict (planOf ws) (operation k ps))
+    (withDesk (classOf (planOf ws) (operation k ps)) (deskOf (planOf ws) (operation k ps))))

@@ -1,0 +1,4 @@
+pub mod Mask
+pub mod Touch
+pub mod Class
+pub mod Answer

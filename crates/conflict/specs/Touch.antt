@@ -1,0 +1,67 @@
+-- The mask of a cell, computed: "The desks whose operations may touch a cell form a mask".
+-- `least` says which accesses count: from kind 3 on reads and writes, from kind 4 on writes alone.
+use Prim.Native.Nat.{ℕ, zero, suc, _/_, _%_, _<_}
+use mathlib.Core.Path.{_≡_}
+use mathlib.Core.Bool.{Bool, true, false, _&&_, cond}
+use mathlib.Core.List.{List, [], _∷_, _++_}
+use lib.Bits.{bitOr}
+use lib.ListN.{length, getD}
+use lib.Dec.{ltb, leb, eqb}
+use Rattle.plan.specs.Plan.{Source, param, fixed, Access, reads, writes, Step, cell, operand, Partitioning, byParam, unpartitioned, Transaction, Plan}
+use Rattle.conflict.specs.Mask.{maskOf, some}
+
+-- "3 read, 4 write"
+abbrev pub accessKind : Access → ℕ
+accessKind reads = 3
+accessKind writes = 4
+
+abbrev pub counted : ℕ → Access → Bool
+counted least a = leb least (accessKind a)
+
+-- with n desks, some operation of desk d gives this row to the source: with no partitioning desk 0 alone has operations; where the
+-- row is the partitioning parameter, row r is at desk r mod n; else every desk has one
+unfoldable pub rowTouched : ℕ → Partitioning → Source → ℕ → ℕ → Bool
+rowTouched n unpartitioned (fixed v) row d = eqb row v && eqb d 0
+rowTouched n unpartitioned (param i) row d = eqb d 0
+rowTouched n (byParam q) (fixed v) row d = eqb row v && ltb d n
+rowTouched n (byParam q) (param i) row d = cond (eqb i q) (eqb d (row % n)) (ltb d n)
+
+-- cell number = table × 128 + row × 4 + column
+unfoldable pub cellTouched : ℕ → Partitioning → ℕ → ℕ → Source → ℕ → ℕ → Bool
+cellTouched n part table column row c d =
+    eqb (c / 128) table && (eqb (c % 4) column && rowTouched n part row (c / 4 % 32) d)
+
+unfoldable pub stepTouches : ℕ → ℕ → Partitioning → Step → ℕ → ℕ → Bool
+stepTouches least n part (cell a table column row) c d = counted least a && cellTouched n part table column row c d
+stepTouches least n part (operand f v) c d = false
+
+abbrev pub stepsTouch : ℕ → ℕ → Partitioning → List Step → ℕ → ℕ → Bool
+stepsTouch least n part ss c d = some (λ s. stepTouches least n part s c d) ss
+
+abbrev pub transactionsTouch : ℕ → ℕ → List Transaction → ℕ → ℕ → Bool
+transactionsTouch least n ts c d = some (λ t. stepsTouch least n (t .part) (t .steps) c d) ts
+
+-- the mask of the desks with an operation that may access the cell
+unfoldable pub deskMask : ℕ → Plan → ℕ → ℕ
+deskMask least p c = maskOf (p .desks) (transactionsTouch least (p .desks) (p .transactions) c)
+
+-- who may touch a cell, and who may write it
+abbrev pub touchMask : Plan → ℕ → ℕ
+touchMask = deskMask 3
+
+abbrev pub writeMask : Plan → ℕ → ℕ
+writeMask = deskMask 4
+
+-- the numbers f 0, f 1, .. f (n - 1)
+unfoldable pub tabulate : ℕ → (ℕ → ℕ) → List ℕ
+tabulate zero f = []
+tabulate (suc n) f = tabulate n f ++ (f n ∷ [])
+
+-- "The masks fill a table of 1,024 entries"
+abbrev pub maskTable : ℕ → Plan → List ℕ
+maskTable least p = tabulate 1024 (deskMask least p)
+
+-- the table l is l₀ with the mask m of each cell joined to it
+pub record Joined (l₀ l : List ℕ) (m : ℕ → ℕ) : Type 0 where
+  pub long : length l ≡ 1024
+  pub cells : (c : ℕ) → c < 1024 → getD l c 0 ≡ bitOr (getD l₀ c 0) (m c)
