@@ -5,3 +5,4 @@ pub mod Marks
 pub mod Tables
 pub mod Filling
 pub mod Named
+pub mod Tabled

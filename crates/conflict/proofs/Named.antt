@@ -9,7 +9,7 @@ use lib.Count.{ones}
 use lib.Dec.{leb, eqb}
 use lib.ListN.{getD}
 use borrow.Author.Tests.{eqb-true, eqb-false, leb-true, leb-false, eq-eqb, ne-eqb, le-leb, lt-leb}
-use Rattle.word.specs.Field.{kindOf, stepCount, tableField, columnField, rowSource, fixedRow}
+use Rattle.word.specs.Field.{kindOf, stepCount, tableField, columnField}
 use Rattle.plan.specs.Plan.{Access, reads, writes, Step}
 use Rattle.plan.specs.Decode.{accessBy, stepOf, rowOf}
 use Rattle.plan.specs.Admission.{every, stepFormed}
@@ -19,6 +19,7 @@ use Rattle.plan.proofs.Words.{step-kind-low}
 use Rattle.plan.proofs.Steps.{stepsFrom, steps-all, steps-none, steps-cons, step-formed, every-step}
 use Rattle.operation.specs.Operation.{sameAccess, valueOf, cellNumber, cellsNamed}
 use Rattle.operation.specs.Admission.{rowInRange, parametersPass, unusedZero}
+use Rattle.operation.proofs.Bounds.{row-low}
 use Rattle.conflict.specs.Mask.{some}
 use Rattle.conflict.specs.Class.{isWrite, onesAre}
 
@@ -64,14 +65,6 @@ write-kind w f = go (leb (kindOf w) 4) (eqb (kindOf w) 3) refl refl
         (sym (eq-eqb (kindOf w) 4 (omega (arith, leb-true (kindOf w) 4 ea, step-kind-low w f, eqb-false (kindOf w) 3 eb))))
     go false b ea eb = simp ea (sym (ne-eqb (kindOf w) 4 (λ e. omega (arith, leb-false (kindOf w) 4 ea))))
 
-row-bound : (ps : List ℕ) (w : ℕ) → rowInRange ps (stepOf w) ≡ true → kindOf w ≤ 4 → valueOf ps (rowOf w) ≤ 31
-unfolding rowInRange stepOf
-row-bound ps w e h = go (eqb (rowSource w) 7) refl
-  where
-    go : (b : Bool) → eqb (rowSource w) 7 ≡ b → valueOf ps (rowOf w) ≤ 31
-    go true s = simp s (omega arith)
-    go false s = simp s (leb-true (getD ps (rowSource w) 0) 31 (simp (le-leb (kindOf w) 4 h, s) at e))
-
 -- ---- along the steps of the transaction at `at`
 
 module _ (ws : List ℕ) (at : ℕ) (p : StandsAt ws at) where
@@ -91,7 +84,7 @@ module _ (ws : List ℕ) (at : ℕ) (p : StandsAt ws at) where
       → kindOf (getD ws (at + 1 + s) 0) ≤ 4 → valueOf ps (rowOf (getD ws (at + 1 + s) 0)) ≤ 31
   unfolding parametersPass
   row-passes ps e s h k =
-      row-bound ps (getD ws (at + 1 + s) 0)
+      row-low ps (getD ws (at + 1 + s) 0)
       (every-step (rowInRange ps) ws at p (and-snd (unusedZero (transactionFrom ws at .params) ps) _ e) s h) k
 
   module _ (ps : List ℕ) (k : ℕ) (low : 3 ≤ k) (high : k ≤ 4) (n : ℕ) (mask : ℕ → ℕ) (s : ℕ) where
