@@ -1,0 +1,103 @@
+// Running a transaction on a store, and applying the update of a run.
+ghost use mathlib.Core.Path.{_≡_};
+ghost use mathlib.Core.Bool.{true};
+ghost use Prim.Native.Nat.{_≤_};
+ghost use lib.ListN.{length, getD};
+ghost use Rattle.plan.specs.Decode.{actionBy, operandOf};
+ghost use Rattle.plan.specs.Place.{StandsAt, transactionFrom};
+ghost use Rattle.operation.specs.Operation.{valueOf};
+ghost use Rattle.operation.specs.Admission.{parametersPass};
+ghost use Rattle.operation.specs.Run.{act as actOn, applyUpdate, runTransaction};
+ghost use Rattle.operation.specs.Answer.{nextOf, pairs, updateOf, outcomeOf};
+use crate::cell;
+use word::fields;
+
+// Done or declined, with the accumulator at the end or stop.
+pub struct Reply {
+    pub done: bool,
+    pub number: u32,
+}
+
+// The written cells and values in step order: the first `count` of each.
+pub struct Update {
+    pub count: usize,
+    pub cells: [u32; 12],
+    pub values: [u32; 12],
+}
+
+pub struct Outcome {
+    pub reply: Reply,
+    pub update: Update,
+}
+
+// The accumulator after a step, or the stop of the run.
+enum Next {
+    Continue(u32),
+    Decline,
+}
+
+// Set, add, need and take: kinds 5 to 8.
+fn act(kind: u32, number: u32, operand: u32) -> Next
+    ensures { λ r. ⌜ nextOf r ≡ actOn (actionBy kind) number operand ⌝ }
+{
+    if kind == 5 {
+        return Next::Continue(operand);
+    }
+    if kind == 6 {
+        return Next::Continue(std::num::wrapping_add_u32(number, operand));
+    }
+    if kind == 7 {
+        if operand <= number {
+            return Next::Continue(number);
+        }
+        return Next::Decline;
+    }
+    Next::Continue(std::num::wrapping_sub_u32(number, operand))
+}
+
+// The number that the set, add, need or take step in this word names.
+fn operand_named(word: u32, params: [u32; 4]) -> u32
+    ensures { λ r. ⌜ r ≡ valueOf params (operandOf word) ⌝ }
+{
+    cell::source_value(word / fields::OPERAND_SOURCE % 8, word % 0x200_0000, params)
+}
+
+// A cell of the store as a run sees it that has written the first `count` pairs: the last of them to this cell, else the store's.
+fn seen(store: &[u32], cells: &[u32; 12], values: &[u32; 12], count: usize, cell: u32) -> u32
+    requires { ⌜ (count ≤ 12) × (length (now cells) ≡ 12) × (length (now values) ≡ 12) ⌝ }
+    ensures { λ r. ⌜ r ≡ getD (applyUpdate (pairs count (now (cells .entry)) (now (values .entry))) (now (store .entry))) cell 0 ⌝ }
+{
+    let at = cell as usize;
+    if store.len() <= at {
+        return 0;
+    }
+    let mut value = store[at];
+    let mut i: usize = 0;
+    while i < count {
+        let written = cells[i];
+        let later = values[i];
+        i = i + 1;
+        if written == cell {
+            value = later;
+        }
+    }
+    value
+}
+
+// Writes the update into the store. A cell past the store's end is passed over.
+pub fn apply(store: &mut [u32], update: Update)
+    ensures { λ r. ⌜ now (store .exit) ≡ applyUpdate (updateOf update) (now (store .entry)) ⌝ }
+{
+    let mut i: usize = 0;
+    while i < update.count {
+        if i == 12 {
+            return;
+        }
+        let cell = update.cells[i] as usize;
+        let value = update.values[i];
+        i = i + 1;
+        if cell < store.len() {
+            store[cell] = value;
+        }
+    }
+}
