@@ -1,3 +1,5 @@
 pub mod Values
 pub mod Rows
 pub mod Updates
+pub mod StepKinds
+pub mod Running

@@ -2,11 +2,11 @@
 use Prim.Native.Nat.{ℕ, zero, suc}
 use mathlib.Core.List.{List, [], _∷_}
 use Rattle.operation.specs.Run as run
-use Rattle.operation.specs.declared.run.Reply.{Reply}
-use Rattle.operation.specs.declared.run.Update.{Update}
-use Rattle.operation.specs.declared.run.Outcome.{Outcome}
-use Rattle.operation.specs.declared.run.Next.{Next}
-use Rattle.operation.specs.declared.run.Next.the-variants.{Continue, Decline}
+use Rattle.operation.specs.declared.execution.Reply.{Reply}
+use Rattle.operation.specs.declared.execution.Update.{Update}
+use Rattle.operation.specs.declared.execution.Outcome.{Outcome}
+use Rattle.operation.specs.declared.execution.Next.{Next}
+use Rattle.operation.specs.declared.execution.Next.the-variants.{Continue, Decline}
 
 -- "the list of written cells and values in step order": the first n cells, each with the value beside it
 unfoldable pub pairs : ℕ → List ℕ → List ℕ → run.Update

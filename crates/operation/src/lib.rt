@@ -1,7 +1,7 @@
 // Operations: questions 7 and 8, the desk, the cells that a step names, and running one on a store.
 mod admission;
 mod cell;
-mod run;
+mod execution;
 
 pub use admission::parameters_pass;
 pub use admission::transaction_exists;
@@ -9,7 +9,8 @@ pub use cell::cell_named;
 pub use cell::desk;
 pub use cell::parameter;
 pub use cell::source_value;
-pub use run::Outcome;
-pub use run::Reply;
-pub use run::Update;
-pub use run::apply;
+pub use execution::Outcome;
+pub use execution::Reply;
+pub use execution::Update;
+pub use execution::apply;
+pub use execution::run;

@@ -7,7 +7,7 @@ ghost use Rattle.plan.specs.Decode.{actionBy, operandOf};
 ghost use Rattle.plan.specs.Place.{StandsAt, transactionFrom};
 ghost use Rattle.operation.specs.Operation.{valueOf};
 ghost use Rattle.operation.specs.Admission.{parametersPass};
-ghost use Rattle.operation.specs.Run.{act as actOn, applyUpdate, runTransaction};
+ghost use Rattle.operation.specs.Run.{act as actOn, applyUpdate, declined as declinedAt, runTransaction};
 ghost use Rattle.operation.specs.Answer.{nextOf, pairs, updateOf, outcomeOf};
 use crate::cell;
 use word::fields;
@@ -100,4 +100,51 @@ pub fn apply(store: &mut [u32], update: Update)
             store[cell] = value;
         }
     }
+}
+
+// Runs the transaction that stands at this place. The writes are kept until the run is done.
+pub fn run(plan: &[u32], at: usize, params: [u32; 4], store: &[u32]) -> Outcome
+    requires { ⌜ StandsAt (now plan) at × (parametersPass (transactionFrom (now plan) at) params ≡ true) ⌝ }
+    ensures { λ r. ⌜ outcomeOf r ≡ runTransaction (transactionFrom (now (plan .entry)) at) params (now (store .entry)) ⌝ }
+{
+    let mut cells: [u32; 12] = [0; 12];
+    let mut values: [u32; 12] = [0; 12];
+    let mut count: usize = 0;
+    let mut number: u32 = 0;
+    let steps = (plan[at] / fields::STEPS % 16) as usize;
+    let mut s: usize = 0;
+    while s < steps {
+        let word = plan[at + 1 + s];
+        let kind = word / fields::KIND;
+        s = s + 1;
+        if kind == 3 {
+            number = seen(store, &cells, &values, count, cell::cell_named(word, params));
+        } else if kind == 4 {
+            cells[count] = cell::cell_named(word, params);
+            values[count] = number;
+            count = count + 1;
+        } else {
+            match act(kind, number, operand_named(word, params)) {
+                Next::Continue(after) => {
+                    number = after;
+                }
+                Next::Decline => {
+                    return declined(number);
+                }
+            }
+        }
+    }
+    let reply = Reply { done: true, number: number };
+    let update = Update { count: count, cells: cells, values: values };
+    Outcome { reply: reply, update: update }
+}
+
+// A declined run writes nothing.
+fn declined(number: u32) -> Outcome
+    ensures { λ r. ⌜ outcomeOf r ≡ declinedAt number ⌝ }
+{
+    let none: [u32; 12] = [0; 12];
+    let reply = Reply { done: false, number: number };
+    let update = Update { count: 0, cells: none, values: none };
+    Outcome { reply: reply, update: update }
 }

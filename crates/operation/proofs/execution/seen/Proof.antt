@@ -8,8 +8,8 @@ use Rattle.operation.specs.Run.{Store, applyUpdate}
 use Rattle.operation.specs.Answer.{pairs}
 use Rattle.operation.proofs.Updates.{apply-length, apply-none, seen-override, seen-keep}
 use borrow.Author.Needs.{needs}
-use Rattle.operation.proofs.run.seen.Statement.{statement}
-use Rattle.operation.proofs.run.seen.Tie as tie
+use Rattle.operation.proofs.execution.seen.Statement.{statement}
+use Rattle.operation.proofs.execution.seen.Tie as tie
 
 abbrev Inv-loop : tie.InvT-loop
 Inv-loop store cells values count cell at value₀ i₀ value i =

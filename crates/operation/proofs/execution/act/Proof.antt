@@ -7,8 +7,8 @@ use borrow.Author.Tests.{eq-eqb, ne-eqb, le-leb, lt-leb}
 use Rattle.plan.specs.Decode.{actionBy}
 use Rattle.operation.specs.Run.{Next, continues, act}
 use borrow.Author.Needs.{needs}
-use Rattle.operation.proofs.run.act.Statement.{statement}
-use Rattle.operation.proofs.run.act.Tie as tie
+use Rattle.operation.proofs.execution.act.Statement.{statement}
+use Rattle.operation.proofs.execution.act.Tie as tie
 
 returns : tie.Need-returns
 unfolding actionBy act

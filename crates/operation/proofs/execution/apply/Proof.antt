@@ -8,8 +8,8 @@ use Rattle.operation.specs.Run.{Store, applyUpdate}
 use Rattle.operation.specs.Answer.{pairs}
 use Rattle.operation.proofs.Updates.{apply-length, apply-none, apply-written, apply-passed, pairs-past}
 use borrow.Author.Needs.{needs}
-use Rattle.operation.proofs.run.apply.Statement.{statement}
-use Rattle.operation.proofs.run.apply.Tie as tie
+use Rattle.operation.proofs.execution.apply.Statement.{statement}
+use Rattle.operation.proofs.execution.apply.Tie as tie
 
 abbrev Inv-loop : tie.InvT-loop
 Inv-loop store₀ update i₀ store i =
