@@ -3,3 +3,4 @@ pub mod Rows
 pub mod Updates
 pub mod StepKinds
 pub mod Running
+pub mod Runs
