@@ -4,3 +4,4 @@ pub mod Updates
 pub mod StepKinds
 pub mod Running
 pub mod Runs
+pub mod Bounds
