@@ -1,23 +1,21 @@
--- Bounds of what operations name and runs write: cells below 1,024, and numbers of one word.
+-- Bounds of what the steps of a transaction name: fields within their bits, and cells below 1,024.
 -- Assumes nothing.
-use mathlib.Core.Path.{_≡_, refl, sym, subst}
-use mathlib.Core.Logic.{⊎-elim}
-use mathlib.Core.Bool.{Bool, true, false, cond, _&&_}
-use mathlib.Core.List.{List, [], _∷_, _++_, map, List·Memᴰ, List·Memᴰ·head, List·Memᴰ·tail, List·Memᴰ·not-nil, List·Memᴰ·append-cases, List·Memᴰ·eq-of-singleton, Memᴰ·of-map}
-use Prim.Native.Nat.{ℕ, zero, suc, _+_, _-_, _*_, _^_, _%_, _≤_, _<_}
+use mathlib.Core.Path.{_≡_, refl, subst}
+use mathlib.Core.Bool.{Bool, true, false, cond}
+use mathlib.Core.List.{List, [], _∷_, List·Memᴰ, List·Memᴰ·head, List·Memᴰ·tail, List·Memᴰ·not-nil, Memᴰ·of-map}
+use Prim.Native.Nat.{ℕ, _+_, _^_, _<_}
 use native.Mathlib.Omega.{arith}
-use lib.ListN.{getD, set, take, drop}
+use lib.ListN.{getD, take, drop}
 use lib.Dec.{leb, eqb}
 use borrow.Author.Tests.{leb-true}
 use Rattle.word.specs.Field.{kindOf, stepCount, tableField, columnField, rowSource, fixedRow, operandSource, fixedNumber}
-use Rattle.plan.specs.Plan.{Source, param, fixed, Access, reads, writes, Action, sets, adds, needs, takes, Step, cell, operand}
+use Rattle.plan.specs.Plan.{Source, param, fixed, Access, reads, writes, Action, Step, cell, operand}
 use Rattle.plan.specs.Decode.{sourceBy, accessBy, actionBy, stepOf}
 use Rattle.plan.specs.Admission.{every}
 use Rattle.plan.specs.Place.{transactionFrom}
 use Rattle.plan.proofs.Bool.{and-fst, and-snd}
 use Rattle.operation.specs.Operation.{valueOf, cellNumber, cellsNamed}
 use Rattle.operation.specs.Admission.{rowInRange}
-use Rattle.operation.specs.Run.{Store, Update, Outcome, declined, Next, continues, stops, act, onward, runFrom, runTransaction}
 
 -- ---- a step that a word stands for
 
@@ -78,9 +76,11 @@ cells-low a ps (cell b t k r ∷ ss) f e c m =
   where
     low : cellNumber t (valueOf ps r) k < 1024
     low = cell-low ps b t k r (f (cell b t k r) (List·Memᴰ·head refl)) (and-fst _ _ e)
+
     first : (cs : List ℕ) → List·Memᴰ c (cellNumber t (valueOf ps r) k ∷ cs) → (List·Memᴰ c cs → c < 1024) → c < 1024
     first cs (List·Memᴰ·head q) h = let l = low in omega arith
     first cs (List·Memᴰ·tail n) h = h n
+
     go : (a b : Access) → List·Memᴰ c (cellsNamed a ps (cell b t k r ∷ ss)) → (List·Memᴰ c (cellsNamed a ps ss) → c < 1024) → c < 1024
     go reads reads n h = first (cellsNamed reads ps ss) n h
     go reads writes n h = h n

@@ -5,3 +5,4 @@ pub mod StepKinds
 pub mod Running
 pub mod Runs
 pub mod Bounds
+pub mod Words

@@ -1,8 +1,8 @@
 -- A run along the steps of a transaction: what is still to run gives the whole outcome.
 -- Assumes nothing.
-use mathlib.Core.Path.{_≡_, refl, _∙_, sym, ap}
-use mathlib.Core.Bool.{Bool, true, _&&_}
-use mathlib.Core.List.{List, [], _∷_, _++_}
+use mathlib.Core.Path.{_≡_, _∙_}
+use mathlib.Core.Bool.{true, _&&_}
+use mathlib.Core.List.{List, _∷_}
 use Prim.Native.Nat.{ℕ, _+_, _≤_, _<_}
 use native.Mathlib.Omega.{arith}
 use lib.ListN.{length, getD, set, length-set}
@@ -16,10 +16,14 @@ use Rattle.plan.proofs.Steps.{stepsFrom, steps-all, steps-none, steps-cons, ste
 use Rattle.plan.proofs.Words.{transaction-steps, step-kind-low}
 use Rattle.operation.specs.Operation.{valueOf, cellNumber}
 use Rattle.operation.specs.Admission.{parametersPass, unusedZero, rowInRange}
-use Rattle.operation.specs.Run.{Store, applyUpdate, Outcome, finished, declined, continues, stops, act, runFrom, runTransaction}
+use Rattle.operation.specs.Run.{Store, applyUpdate, finished, declined, continues, stops, act, runFrom, runTransaction}
 use Rattle.operation.specs.Answer.{pairs}
 use Rattle.operation.proofs.StepKinds.{step-reads, step-writes, step-acts, row-bound}
 use Rattle.operation.proofs.Updates.{pairs-none, apply-none, pairs-store, apply-one-more}
+
+-- the word of step s of the transaction at `at`
+abbrev pub stepWord : List ℕ → ℕ → ℕ → ℕ
+stepWord ws at s = getD ws (at + 1 + s) 0
 
 -- the cell that the read or write step in a word names
 abbrev pub cellAt : List ℕ → ℕ → ℕ
@@ -40,15 +44,18 @@ module _ (ws : List ℕ) (at : ℕ) (ps : List ℕ) (store : Store) where
       → length values ≡ 12 → Running 0 cells values 0 0
   unfolding parametersPass
   running-start cells values p e l m =
-      record { whole = p
-             ; rows = rw (steps-all ws at) (and-snd (unusedZero (parameterCount (getD ws at 0)) ps) _ e)
-             ; few = omega arith
-             ; cells-long = l
-             ; values-long = m
-             ; rest = rw (steps-all ws at, apply-none cells values store, pairs-none cells values) }
+      record {
+        whole = p;
+        rows = rw (steps-all ws at) (and-snd (unusedZero (parameterCount (getD ws at 0)) ps) _ e);
+        few = omega arith;
+        cells-long = l;
+        values-long = m;
+        rest = rw (steps-all ws at, apply-none cells values store, pairs-none cells values);
+      }
 
   module _ (s : ℕ) (cells values : List ℕ) (count number : ℕ) (q : Running s cells values count number) where
-    pub running-done : stepCount (getD ws at 0) ≤ s → finished number (pairs count cells values) ≡ runTransaction (transactionFrom ws at) ps store
+    pub running-done : stepCount (getD ws at 0) ≤ s
+        → finished number (pairs count cells values) ≡ runTransaction (transactionFrom ws at) ps store
     unfolding runFrom
     running-done h = rw (steps-none ws at s h) at (q .rest)
 
@@ -56,17 +63,17 @@ module _ (ws : List ℕ) (at : ℕ) (ps : List ℕ) (store : Store) where
       pub running-few : count < 12
       running-few = omega (arith, q .few, h, transaction-steps (getD ws at 0) (q .whole .form))
 
-      rows-here : (rowInRange ps (stepOf (getD ws (at + 1 + s) 0)) && every (rowInRange ps) (stepsFrom ws at (s + 1))) ≡ true
+      rows-here : (rowInRange ps (stepOf (stepWord ws at s)) && every (rowInRange ps) (stepsFrom ws at (s + 1))) ≡ true
       unfolding every
       rows-here = rw (steps-cons ws at s (q .whole) h) at (q .rows)
 
       rows-next : every (rowInRange ps) (stepsFrom ws at (s + 1)) ≡ true
-      rows-next = and-snd (rowInRange ps (stepOf (getD ws (at + 1 + s) 0))) _ rows-here
+      rows-next = and-snd (rowInRange ps (stepOf (stepWord ws at s))) _ rows-here
 
-      pub running-row : kindOf (getD ws (at + 1 + s) 0) ≤ 4 → valueOf ps (rowOf (getD ws (at + 1 + s) 0)) ≤ 31
-      running-row k = row-bound ps (getD ws (at + 1 + s) 0) k (and-fst _ _ rows-here)
+      pub running-row : kindOf (stepWord ws at s) ≤ 4 → valueOf ps (rowOf (stepWord ws at s)) ≤ 31
+      running-row k = row-bound ps (stepWord ws at s) k (and-fst _ _ rows-here)
 
-      rest-here : (st : Step) → stepOf (getD ws (at + 1 + s) 0) ≡ st
+      rest-here : (st : Step) → stepOf (stepWord ws at s) ≡ st
           → runFrom ps (st ∷ stepsFrom ws at (s + 1)) (applyUpdate (pairs count cells values) store) number (pairs count cells values)
           ≡ runTransaction (transactionFrom ws at) ps store
       rest-here st e = rw (steps-cons ws at s (q .whole) h, e) at (q .rest)
@@ -77,49 +84,56 @@ module _ (ws : List ℕ) (at : ℕ) (ps : List ℕ) (store : Store) where
           ≡ runTransaction (transactionFrom ws at) ps store
           → Running (s + 1) cells values count next
       onward-with next e =
-          record { whole = q .whole
-                 ; rows = rows-next
-                 ; few = omega (arith, q .few)
-                 ; cells-long = q .cells-long
-                 ; values-long = q .values-long
-                 ; rest = e }
+          record {
+            whole = q .whole;
+            rows = rows-next;
+            few = omega (arith, q .few);
+            cells-long = q .cells-long;
+            values-long = q .values-long;
+            rest = e;
+          }
 
-      pub running-read : kindOf (getD ws (at + 1 + s) 0) ≡ 3 → (c next : ℕ) → c ≡ cellAt ps (getD ws (at + 1 + s) 0)
+      pub running-read : kindOf (stepWord ws at s) ≡ 3 → (c next : ℕ) → c ≡ cellAt ps (stepWord ws at s)
           → next ≡ getD (applyUpdate (pairs count cells values) store) c 0
           → Running (s + 1) cells values count next
       unfolding runFrom
-      running-read k c next e n = onward-with next (rw (n, e) (rest-here _ (step-reads (getD ws (at + 1 + s) 0) k)))
+      running-read k c next e n = onward-with next (rw (n, e) (rest-here _ (step-reads (stepWord ws at s) k)))
 
-      pub running-write : kindOf (getD ws (at + 1 + s) 0) ≡ 4 → (c : ℕ) → c ≡ cellAt ps (getD ws (at + 1 + s) 0)
+      pub running-write : kindOf (stepWord ws at s) ≡ 4 → (c : ℕ) → c ≡ cellAt ps (stepWord ws at s)
           → Running (s + 1) (set cells count c) (set values count number) (count + 1) number
       unfolding runFrom
       running-write k c e =
           let f = running-few in
-          record { whole = q .whole
-                 ; rows = rows-next
-                 ; few = omega (arith, q .few)
-                 ; cells-long = length-set cells count c ∙ q .cells-long
-                 ; values-long = length-set values count number ∙ q .values-long
-                 ; rest =
-                     rw (pairs-store count cells values c number (omega (arith, q .cells-long)) (omega (arith, q .values-long)),
-                     apply-one-more (pairs count cells values) c number store, e)
-                     (rest-here _ (step-writes (getD ws (at + 1 + s) 0) k)) }
+          record {
+            whole = q .whole;
+            rows = rows-next;
+            few = omega (arith, q .few);
+            cells-long = length-set cells count c ∙ q .cells-long;
+            values-long = length-set values count number ∙ q .values-long;
+            rest =
+                rw (
+                  pairs-store count cells values c number (omega (arith, q .cells-long)) (omega (arith, q .values-long)),
+                  apply-one-more (pairs count cells values) c number store,
+                  e,
+                )
+                (rest-here _ (step-writes (stepWord ws at s) k));
+          }
 
       -- a step that is neither a read nor a write
-      acts-here : (kindOf (getD ws (at + 1 + s) 0) ≡ 3 → ⊥) → (kindOf (getD ws (at + 1 + s) 0) ≡ 4 → ⊥)
-          → stepOf (getD ws (at + 1 + s) 0) ≡ operand (actionBy (kindOf (getD ws (at + 1 + s) 0))) (operandOf (getD ws (at + 1 + s) 0))
+      acts-here : (kindOf (stepWord ws at s) ≡ 3 → ⊥) → (kindOf (stepWord ws at s) ≡ 4 → ⊥)
+          → stepOf (stepWord ws at s) ≡ operand (actionBy (kindOf (stepWord ws at s))) (operandOf (stepWord ws at s))
       acts-here m n =
-          step-acts (getD ws (at + 1 + s) 0)
-          (omega (arith, m, n, step-kind-low (getD ws (at + 1 + s) 0) (step-formed ws at s (q .whole) h)))
+          step-acts (stepWord ws at s)
+          (omega (arith, m, n, step-kind-low (stepWord ws at s) (step-formed ws at s (q .whole) h)))
 
-      pub running-act : (kindOf (getD ws (at + 1 + s) 0) ≡ 3 → ⊥) → (kindOf (getD ws (at + 1 + s) 0) ≡ 4 → ⊥) → (v next : ℕ)
-          → v ≡ valueOf ps (operandOf (getD ws (at + 1 + s) 0)) → act (actionBy (kindOf (getD ws (at + 1 + s) 0))) number v ≡ continues next
+      pub running-act : (kindOf (stepWord ws at s) ≡ 3 → ⊥) → (kindOf (stepWord ws at s) ≡ 4 → ⊥) → (v next : ℕ)
+          → v ≡ valueOf ps (operandOf (stepWord ws at s)) → act (actionBy (kindOf (stepWord ws at s))) number v ≡ continues next
           → Running (s + 1) cells values count next
       unfolding runFrom
       running-act m n v next o e = onward-with next (rw (← o, e) at (rest-here _ (acts-here m n)))
 
-      pub running-stop : (kindOf (getD ws (at + 1 + s) 0) ≡ 3 → ⊥) → (kindOf (getD ws (at + 1 + s) 0) ≡ 4 → ⊥) → (v : ℕ)
-          → v ≡ valueOf ps (operandOf (getD ws (at + 1 + s) 0)) → act (actionBy (kindOf (getD ws (at + 1 + s) 0))) number v ≡ stops
+      pub running-stop : (kindOf (stepWord ws at s) ≡ 3 → ⊥) → (kindOf (stepWord ws at s) ≡ 4 → ⊥) → (v : ℕ)
+          → v ≡ valueOf ps (operandOf (stepWord ws at s)) → act (actionBy (kindOf (stepWord ws at s))) number v ≡ stops
           → declined number ≡ runTransaction (transactionFrom ws at) ps store
       unfolding runFrom
       running-stop m n v o e = rw (← o, e) at (rest-here _ (acts-here m n))

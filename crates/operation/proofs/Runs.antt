@@ -3,20 +3,20 @@
 -- Assumes nothing.
 use mathlib.Core.Path.{_≡_, refl, _∙_, sym, ap, subst}
 use mathlib.Core.Logic.{_⊎_, inl, inr, ⊎-elim}
-use mathlib.Core.Bool.{Bool, true, false, cond, false≢true}
-use mathlib.Core.List.{List, [], _∷_, _++_, map, map-append, append-nil, append-assoc, List·Memᴰ, List·Memᴰ·head, List·Memᴰ·tail, List·Memᴰ·not-nil, Memᴰ·map}
-use Prim.Native.Nat.{ℕ, zero, suc, _+_, _-_, _^_, _%_, _≤_, _<_}
+use mathlib.Core.Bool.{true, false, false≢true}
+use mathlib.Core.List.{List, [], _∷_, _++_, map, map-append, append-nil, append-assoc}
+use mathlib.Core.List.{List·Memᴰ, List·Memᴰ·head, List·Memᴰ·tail, List·Memᴰ·not-nil, Memᴰ·map}
+use Prim.Native.Nat.{ℕ, zero, suc, _+_, _≤_}
 use native.Mathlib.Omega.{arith}
 use lib.ListN.{length, getD, set, take, drop, length-map, length-set, length-drop}
 use lib.Seq.{length-take-le}
-use lib.Dec.{leb}
 use Rattle.word.specs.Field.{stepCount}
-use Rattle.plan.specs.Plan.{Source, Access, reads, writes, Action, sets, adds, needs, takes, Step, cell, operand, Transaction}
+use Rattle.plan.specs.Plan.{Access, reads, writes, Step, cell, operand, Transaction}
 use Rattle.plan.specs.Decode.{stepOf}
 use Rattle.plan.specs.Place.{StandsAt, transactionFrom}
 use Rattle.plan.proofs.Words.{transaction-steps}
 use Rattle.operation.specs.Operation.{valueOf, cellNumber, cellsNamed}
-use Rattle.operation.specs.Run.{Store, Update, Outcome, finished, declined, Next, continues, stops, act, onward, runFrom, runTransaction}
+use Rattle.operation.specs.Run.{Store, Update, Outcome, declined, Next, continues, stops, act, onward, runFrom, runTransaction}
 
 -- ---- the read set decides
 
@@ -68,16 +68,19 @@ onward-writes : (cs : List ℕ) (n : Next) (f : ℕ → Outcome) (x : ℕ) → (
 onward-writes cs (continues y) f x h = h y
 onward-writes cs stops f x h = inr (refl, refl)
 
-run-writes : (ps : List ℕ) (ss : List Step) (s : Store) (x : ℕ) (u : Update) → Writes (cellsOf u ++ cellsNamed writes ps ss) (runFrom ps ss s x u)
+run-writes : (ps : List ℕ) (ss : List Step) (s : Store) (x : ℕ) (u : Update)
+    → Writes (cellsOf u ++ cellsNamed writes ps ss) (runFrom ps ss s x u)
 unfolding runFrom cellsNamed
 run-writes ps [] s x u = inl (refl, sym (append-nil (cellsOf u)))
 run-writes ps (cell reads t k r ∷ ss) s x u = run-writes ps ss s (getD s (cellNumber t (valueOf ps r) k) 0) u
 run-writes ps (cell writes t k r ∷ ss) s x u =
     let c = cellNumber t (valueOf ps r) k in
-    let e : cellsOf (u ++ ((c, x) ∷ [])) ++ cellsNamed writes ps ss ≡ cellsOf u ++ (c ∷ cellsNamed writes ps ss) = rw (map-append, append-assoc) in
-    subst (λ (cs : List ℕ). Writes cs (runFrom ps ss (set s c x) x (u ++ ((c, x) ∷ [])))) e (run-writes ps ss (set s c x) x (u ++ ((c, x) ∷ [])))
+    let v = u ++ ((c, x) ∷ []) in
+    let e : cellsOf v ++ cellsNamed writes ps ss ≡ cellsOf u ++ (c ∷ cellsNamed writes ps ss) = rw (map-append, append-assoc) in
+    subst (λ (cs : List ℕ). Writes cs (runFrom ps ss (set s c x) x v)) e (run-writes ps ss (set s c x) x v)
 run-writes ps (operand g v ∷ ss) s x u =
-    onward-writes (cellsOf u ++ cellsNamed writes ps ss) (act g x (valueOf ps v)) (λ y. runFrom ps ss s y u) x (λ y. run-writes ps ss s y u)
+    onward-writes (cellsOf u ++ cellsNamed writes ps ss) (act g x (valueOf ps v)) (λ y. runFrom ps ss s y u) x
+    (λ y. run-writes ps ss s y u)
 
 module _ (t : Transaction) (ps : List ℕ) (s : Store) where
   both : Writes (cellsNamed writes ps (t .steps)) (runTransaction t ps s)
@@ -116,8 +119,9 @@ named-few writes ps (cell writes t k r ∷ ss) = let h = named-few writes ps ss 
 pub steps-few : (ws : List ℕ) (at : ℕ) → StandsAt ws at → length (transactionFrom ws at .steps) ≤ 12
 steps-few ws at p =
     let n = stepCount (getD ws at 0) in
-    let l : length (take n (drop (at + 1) ws)) ≡ n = length-take-le n (drop (at + 1) ws) (omega (arith, p .room, length-drop (at + 1) ws)) in
-    omega (arith, l, length-map (take n (drop (at + 1) ws)) stepOf, transaction-steps (getD ws at 0) (p .form))
+    let r = drop (at + 1) ws in
+    let l : length (take n r) ≡ n = length-take-le n r (omega (arith, p .room, length-drop (at + 1) ws)) in
+    omega (arith, l, length-map (take n r) stepOf, transaction-steps (getD ws at 0) (p .form))
 
 -- "cells 0–12"
 pub update-few : (ws : List ℕ) (at : ℕ) (ps : List ℕ) (s : Store) → StandsAt ws at

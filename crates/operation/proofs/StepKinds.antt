@@ -1,14 +1,14 @@
 -- The step in a word by the word's kind, and the bound on a row that question 8 gives.
 -- Assumes nothing.
 use mathlib.Core.Path.{_≡_, refl}
-use mathlib.Core.Bool.{Bool, true, false, cond}
+use mathlib.Core.Bool.{Bool, true, false}
 use mathlib.Core.List.{List}
 use Prim.Native.Nat.{ℕ, _≤_, _<_}
 use native.Mathlib.Omega.{arith}
 use lib.Dec.{eqb}
 use borrow.Author.Tests.{leb-true, le-leb, lt-leb}
 use Rattle.word.specs.Field.{kindOf, tableField, columnField, rowSource}
-use Rattle.plan.specs.Plan.{reads, writes, Step, cell, operand}
+use Rattle.plan.specs.Plan.{reads, writes, cell, operand}
 use Rattle.plan.specs.Decode.{rowOf, operandOf, accessBy, actionBy, stepOf}
 use Rattle.operation.specs.Operation.{valueOf}
 use Rattle.operation.specs.Admission.{rowInRange}

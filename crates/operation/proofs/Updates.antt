@@ -79,10 +79,12 @@ module _ (n : ℕ) (cs vs : List ℕ) (s : Store) (h : n < length cs) (k : n < l
   apply-next = rw (pairs-next n cs vs h k) (apply-one-more (pairs n cs vs) (getD cs n 0) (getD vs n 0) s)
 
   -- writing pair n, or passing it over if its cell lies past the end
-  pub apply-written : (t : Store) → t ≡ applyUpdate (pairs n cs vs) s → set t (getD cs n 0) (getD vs n 0) ≡ applyUpdate (pairs (n + 1) cs vs) s
+  pub apply-written : (t : Store) → t ≡ applyUpdate (pairs n cs vs) s
+      → set t (getD cs n 0) (getD vs n 0) ≡ applyUpdate (pairs (n + 1) cs vs) s
   apply-written t e = rw e (sym apply-next)
 
-  pub apply-passed : (t : Store) → t ≡ applyUpdate (pairs n cs vs) s → length t ≤ getD cs n 0 → t ≡ applyUpdate (pairs (n + 1) cs vs) s
+  pub apply-passed : (t : Store) → t ≡ applyUpdate (pairs n cs vs) s → length t ≤ getD cs n 0
+      → t ≡ applyUpdate (pairs (n + 1) cs vs) s
   apply-passed t e l = sym (set-out t (getD cs n 0) (getD vs n 0) l) ∙ apply-written t e
 
   -- a later write to the cell overrides, one to another cell does not

@@ -7,7 +7,7 @@ ghost use Rattle.plan.specs.Decode.{actionBy, operandOf};
 ghost use Rattle.plan.specs.Place.{StandsAt, transactionFrom};
 ghost use Rattle.operation.specs.Operation.{valueOf};
 ghost use Rattle.operation.specs.Admission.{parametersPass};
-ghost use Rattle.operation.specs.Run.{act as actOn, applyUpdate, declined as declinedAt, runTransaction};
+ghost use Rattle.operation.specs.Run.{act as actOn, applyUpdate, declined as declinedAt, finished as finishedWith, runTransaction};
 ghost use Rattle.operation.specs.Answer.{nextOf, pairs, updateOf, outcomeOf};
 use crate::cell;
 use word::fields;
@@ -118,7 +118,8 @@ pub fn run(plan: &[u32], at: usize, params: [u32; 4], store: &[u32]) -> Outcome
         let kind = word / fields::KIND;
         s = s + 1;
         if kind == 3 {
-            number = seen(store, &cells, &values, count, cell::cell_named(word, params));
+            let named = cell::cell_named(word, params);
+            number = seen(store, &cells, &values, count, named);
         } else if kind == 4 {
             cells[count] = cell::cell_named(word, params);
             values[count] = number;
@@ -134,17 +135,44 @@ pub fn run(plan: &[u32], at: usize, params: [u32; 4], store: &[u32]) -> Outcome
             }
         }
     }
-    let reply = Reply { done: true, number: number };
-    let update = Update { count: count, cells: cells, values: values };
-    Outcome { reply: reply, update: update }
+    finished(number, count, cells, values)
 }
 
-// A declined run writes nothing.
+// The outcome of a run that is done.
+fn finished(number: u32, count: usize, cells: [u32; 12], values: [u32; 12]) -> Outcome
+    ensures { λ r. ⌜ outcomeOf r ≡ finishedWith number (pairs count cells values) ⌝ }
+{
+    let reply = Reply {
+        done: true,
+        number: number,
+    };
+    let update = Update {
+        count: count,
+        cells: cells,
+        values: values,
+    };
+    Outcome {
+        reply: reply,
+        update: update,
+    }
+}
+
+// The outcome of a declined run, which writes nothing.
 fn declined(number: u32) -> Outcome
     ensures { λ r. ⌜ outcomeOf r ≡ declinedAt number ⌝ }
 {
     let none: [u32; 12] = [0; 12];
-    let reply = Reply { done: false, number: number };
-    let update = Update { count: 0, cells: none, values: none };
-    Outcome { reply: reply, update: update }
+    let reply = Reply {
+        done: false,
+        number: number,
+    };
+    let update = Update {
+        count: 0,
+        cells: none,
+        values: none,
+    };
+    Outcome {
+        reply: reply,
+        update: update,
+    }
 }

@@ -1,11 +1,10 @@
 -- `set`, `add`, `need` and `take` by the kinds 5 to 8.
 -- Assumes nothing.
-use mathlib.Core.Path.{_≡_, refl, _∙_, sym, ap}
-use Prim.Native.Nat.{ℕ, _+_, _-_, _^_, _%_}
+use mathlib.Core.Path.{ap}
 use native.Mathlib.Omega.{arith}
 use borrow.Author.Tests.{eq-eqb, ne-eqb, le-leb, lt-leb}
 use Rattle.plan.specs.Decode.{actionBy}
-use Rattle.operation.specs.Run.{Next, continues, act}
+use Rattle.operation.specs.Run.{continues, act}
 use borrow.Author.Needs.{needs}
 use Rattle.operation.proofs.execution.act.Statement.{statement}
 use Rattle.operation.proofs.execution.act.Tie as tie
@@ -19,19 +18,29 @@ wrapping-add-u32-requires c κs = search needs
 
 returns-2 : tie.Need-returns-2
 unfolding actionBy act
-returns-2 c = simp (ne-eqb _ _ (c .before .before .if1 .left), eq-eqb _ _ (c .before .if2 .taken)) (ap continues (c .wrapping-add-u32 .ensures))
+returns-2 c =
+    simp (ne-eqb _ _ (c .before .before .if1 .left), eq-eqb _ _ (c .before .if2 .taken))
+    (ap continues (c .wrapping-add-u32 .ensures))
 
 returns-3 : tie.Need-returns-3
 unfolding actionBy act
 returns-3 c =
-    simp (ne-eqb _ _ (c .before .before .before .if1 .left), ne-eqb _ _ (c .before .before .if2 .left), eq-eqb _ _ (c .before .if3 .taken),
-    le-leb _ _ (c .if4 .taken))
+    simp (
+      ne-eqb _ _ (c .before .before .before .if1 .left),
+      ne-eqb _ _ (c .before .before .if2 .left),
+      eq-eqb _ _ (c .before .if3 .taken),
+      le-leb _ _ (c .if4 .taken),
+    )
 
 returns-4 : tie.Need-returns-4
 unfolding actionBy act
 returns-4 c =
-    simp (ne-eqb _ _ (c .before .before .before .if1 .left), ne-eqb _ _ (c .before .before .if2 .left), eq-eqb _ _ (c .before .if3 .taken),
-    lt-leb _ _ (c .if4 .left))
+    simp (
+      ne-eqb _ _ (c .before .before .before .if1 .left),
+      ne-eqb _ _ (c .before .before .if2 .left),
+      eq-eqb _ _ (c .before .if3 .taken),
+      lt-leb _ _ (c .if4 .left),
+    )
 
 wrapping-sub-u32-requires : tie.Need-wrapping-sub-u32-requires
 wrapping-sub-u32-requires c κs = search needs

@@ -1,12 +1,12 @@
 -- The store as the first i pairs left it, one pair after another.
 -- Assumes nothing.
 use mathlib.Core.Path.{_≡_, refl, _∙_, sym, ap}
-use Prim.Native.Nat.{ℕ, _+_, _-_, _≤_, _<_}
+use Prim.Native.Nat.{_-_, _≤_, _<_}
 use native.Mathlib.Omega.{arith}
 use lib.ListN.{length, getD, length-set}
-use Rattle.operation.specs.Run.{Store, applyUpdate}
+use Rattle.operation.specs.Run.{applyUpdate}
 use Rattle.operation.specs.Answer.{pairs}
-use Rattle.operation.proofs.Updates.{apply-length, apply-none, apply-written, apply-passed, pairs-past}
+use Rattle.operation.proofs.Updates.{apply-none, apply-written, apply-passed, pairs-past}
 use borrow.Author.Needs.{needs}
 use Rattle.operation.proofs.execution.apply.Statement.{statement}
 use Rattle.operation.proofs.execution.apply.Tie as tie
@@ -21,19 +21,21 @@ abbrev μ-loop : tie.MeasureT-loop
 
 loop-holds : tie.Need-loop-holds Inv-loop μ-loop
 loop-holds c =
-    (omega arith, omega arith, search needs, search needs, refl, sym (apply-none (c .args .t2 .cells) (c .args .t2 .values) (c .args .store .now)))
+    let u = c .args .t2 in
+    (omega arith, omega arith, search needs, search needs, refl, sym (apply-none (u .cells) (u .values) (c .args .store .now)))
 
 same-length : tie.Need-same-length Inv-loop μ-loop
 same-length c = search needs
 
 returns : tie.Need-returns Inv-loop μ-loop
 returns c =
-    let a = c .before .before .before .args in
+    let s = c .before .before .before .args .store .now in
+    let u = c .before .before .before .args .t2 in
     let i = c .before .before .loop .i in
-    let all : length (a .t2 .cells) ≤ i = omega arith in
-    let more : length (a .t2 .cells) ≤ a .t2 .count = omega arith in
+    let all : length (u .cells) ≤ i = omega arith in
+    let more : length (u .cells) ≤ u .count = omega arith in
     c .before .before .loop .inv .5
-    ∙ ap (λ u. applyUpdate u (a .store .now)) (pairs-past i (a .t2 .cells) (a .t2 .values) all ∙ sym (pairs-past (a .t2 .count) (a .t2 .cells) (a .t2 .values) more))
+    ∙ ap (λ p. applyUpdate p s) (pairs-past i (u .cells) (u .values) all ∙ sym (pairs-past (u .count) (u .cells) (u .values) more))
 
 mul-cell : tie.Need-mul-cell Inv-loop μ-loop
 mul-cell c = search needs
@@ -68,9 +70,14 @@ loop-less c = search needs
 loop-again : tie.Need-loop-again Inv-loop μ-loop
 loop-again c =
     let d = c .before .before .before .before .before in
-    let v = d .loop .inv in
-    (omega arith, omega arith, v .2, v .3, simp length-set (v .4),
-    apply-written (d .loop .i) _ _ _ (omega arith) (omega arith) (d .loop .store) (v .5))
+    let v = d .loop .inv in (
+      omega arith,
+      omega arith,
+      v .2,
+      v .3,
+      simp length-set (v .4),
+      apply-written (d .loop .i) _ _ _ (omega arith) (omega arith) (d .loop .store) (v .5),
+    )
 
 loop-less-2 : tie.Need-loop-less-2 Inv-loop μ-loop
 loop-less-2 c = search needs
@@ -78,9 +85,14 @@ loop-less-2 c = search needs
 loop-again-2 : tie.Need-loop-again-2 Inv-loop μ-loop
 loop-again-2 c =
     let d = c .before .before .before .before .before in
-    let v = d .loop .inv in
-    (omega arith, omega arith, v .2, v .3, v .4,
-    apply-passed (d .loop .i) _ _ _ (omega arith) (omega arith) (d .loop .store) (v .5) (c .if2 .left))
+    let v = d .loop .inv in (
+      omega arith,
+      omega arith,
+      v .2,
+      v .3,
+      v .4,
+      apply-passed (d .loop .i) _ _ _ (omega arith) (omega arith) (d .loop .store) (v .5) (c .if2 .left),
+    )
 
 same-length-2 : tie.Need-same-length-2 Inv-loop μ-loop
 same-length-2 c = search needs

@@ -1,13 +1,14 @@
 -- A run along the steps: what is still to run gives the whole outcome.
 -- Assumes nothing.
 use mathlib.Core.Path.{_≡_, refl, _∙_, sym, ap}
-use Prim.Native.Nat.{_+_, _-_, _≤_, _<_}
+use Prim.Native.Nat.{_+_, _-_, _<_}
 use native.Mathlib.Omega.{arith}
 use lib.ListN.{length, getD}
 use Rattle.word.specs.Field.{stepCount}
 use Rattle.plan.proofs.Steps.{step-here}
 use Rattle.operation.specs.Answer.{nextOf}
-use Rattle.operation.proofs.Running.{Running, running-start, running-done, running-few, running-row, running-read, running-write, running-act, running-stop}
+use Rattle.operation.proofs.Running.{Running, running-start, running-done, running-few, running-row}
+use Rattle.operation.proofs.Running.{running-read, running-write, running-act, running-stop}
 use borrow.Author.Needs.{needs}
 use Rattle.operation.proofs.execution.run.Statement.{statement}
 use Rattle.operation.proofs.execution.run.Tie as tie
@@ -39,7 +40,7 @@ loop-holds c =
 
 -- the step's word stands within the plan
 here : (c : tie.In-loop Inv-loop μ-loop)
-    → c .before .before .before .before .before .args .at + 1 + c .before .loop .s < length (c .before .before .before .before .before .args .plan .now)
+    → let a = c .before .before .before .before .before .args in a .at + 1 + c .before .loop .s < length (a .plan .now)
 here c = step-here _ _ _ (c .before .loop .inv .1 .whole) (omega arith)
 
 add-word : tie.Need-add-word Inv-loop μ-loop
@@ -59,7 +60,7 @@ add-s c = search needs
 
 cell-named-requires : tie.Need-cell-named-requires Inv-loop μ-loop
 cell-named-requires c κs =
-    let d = c .before .before .before .before .before in
+    let d = c .before .before .before in
     running-row _ _ _ _ _ _ _ _ _ (d .loop .inv .1) (omega arith) (omega arith)
 
 seen-requires : tie.Need-seen-requires Inv-loop μ-loop
@@ -73,10 +74,11 @@ loop-less c = search needs
 
 loop-again : tie.Need-loop-again Inv-loop μ-loop
 loop-again c =
-    let d = c .before .before .before .before .before .before .before in
-    (d .loop .inv .0,
-    running-read _ _ _ _ _ _ _ _ _ (d .loop .inv .1) (omega arith) (c .before .before .before .before .if1 .taken) _ _
-    (c .before .cell-named .ensures) (c .seen .ensures))
+    let d = c .before .before .before .before .before .before .before in (
+      d .loop .inv .0,
+      running-read _ _ _ _ _ _ _ _ _ (d .loop .inv .1) (omega arith) (c .before .before .before .before .if1 .taken) _ _
+          (c .before .before .before .cell-named .ensures) (c .seen .ensures),
+    )
 
 cell-named-requires-2 : tie.Need-cell-named-requires-2 Inv-loop μ-loop
 cell-named-requires-2 c κs =
@@ -107,9 +109,10 @@ loop-less-2 c = search needs
 
 loop-again-2 : tie.Need-loop-again-2 Inv-loop μ-loop
 loop-again-2 c =
-    let d = c .before .before .before .before .before in
-    (d .loop .inv .0,
-    running-write _ _ _ _ _ _ _ _ _ (d .loop .inv .1) (omega arith) (c .before .if2 .taken) _ (c .cell-named2 .ensures))
+    let d = c .before .before .before .before .before in (
+      d .loop .inv .0,
+      running-write _ _ _ _ _ _ _ _ _ (d .loop .inv .1) (omega arith) (c .before .if2 .taken) _ (c .cell-named2 .ensures),
+    )
 
 operand-named-requires : tie.Need-operand-named-requires Inv-loop μ-loop
 operand-named-requires c κs = search needs
@@ -127,10 +130,11 @@ loop-again-3 : tie.Need-loop-again-3 Inv-loop μ-loop
 loop-again-3 c =
     let a = c .before .before .before in
     let e = a .before .before in
-    let d = e .before .before .before .before in
-    (d .loop .inv .0,
-    running-act _ _ _ _ _ _ _ _ _ (d .loop .inv .1) (omega arith) (e .before .if1 .left) (e .if2 .left) _ _ (a .before .operand-named .ensures)
-    (sym (a .act .ensures) ∙ ap nextOf (c .before .after .given .1)))
+    let d = e .before .before .before .before in (
+      d .loop .inv .0,
+      running-act _ _ _ _ _ _ _ _ _ (d .loop .inv .1) (omega arith) (e .before .if1 .left) (e .if2 .left) _ _
+          (a .before .operand-named .ensures) (sym (a .act .ensures) ∙ ap nextOf (c .before .after .given .1)),
+    )
 
 enum-told : tie.Need-enum-told Inv-loop μ-loop
 enum-told c = search needs
@@ -144,11 +148,14 @@ returns c =
     let e = a .before .before in
     let d = e .before .before .before .before in
     c .declined .ensures
-    ∙ running-stop _ _ _ _ _ _ _ _ _ (d .loop .inv .1) (omega arith) (e .before .if1 .left) (e .if2 .left) _ (a .before .operand-named .ensures)
-    (sym (a .act .ensures) ∙ ap nextOf (c .before .enum-told .given .1))
+    ∙ running-stop _ _ _ _ _ _ _ _ _ (d .loop .inv .1) (omega arith) (e .before .if1 .left) (e .if2 .left) _
+    (a .before .operand-named .ensures) (sym (a .act .ensures) ∙ ap nextOf (c .before .enum-told .given .1))
+
+finished-requires : tie.Need-finished-requires Inv-loop μ-loop
+finished-requires c κs = search needs
 
 returns-2 : tie.Need-returns-2 Inv-loop μ-loop
-returns-2 c = running-done _ _ _ _ _ _ _ _ _ (c .before .loop .inv .1) (omega arith)
+returns-2 c = c .finished .ensures ∙ running-done _ _ _ _ _ _ _ _ _ (c .before .before .loop .inv .1) (omega arith)
 
 pub run-spec : {M : Type 1} → statement M
 run-spec =
@@ -185,4 +192,5 @@ run-spec =
     enum-told
     declined-requires
     returns
+    finished-requires
     returns-2)

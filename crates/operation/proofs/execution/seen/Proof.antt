@@ -1,7 +1,7 @@
 -- The cell as the first i writes left it, one write after another.
 -- Assumes nothing.
-use mathlib.Core.Path.{_≡_, refl, _∙_, sym, ap}
-use Prim.Native.Nat.{ℕ, _+_, _-_, _≤_, _<_}
+use mathlib.Core.Path.{_≡_, _∙_, sym, ap}
+use Prim.Native.Nat.{ℕ, _-_, _≤_, _<_}
 use native.Mathlib.Omega.{arith}
 use lib.ListN.{length, getD, List·getD-eq-default}
 use Rattle.operation.specs.Run.{Store, applyUpdate}
@@ -34,9 +34,13 @@ shared-slice-read-value c = search needs
 
 loop-holds : tie.Need-loop-holds Inv-loop μ-loop
 loop-holds c =
-    let a = c .before .before .args in
-    (omega arith, c .before .before .pre .1, c .before .before .pre .2, omega arith,
-    ap (λ (s : Store). getD s (a .cell) 0) (sym (apply-none (a .cells .now) (a .values .now) (a .store .now))))
+    let a = c .before .before .args in (
+      omega arith,
+      c .before .before .pre .1,
+      c .before .before .pre .2,
+      omega arith,
+      ap (λ (s : Store). getD s (a .cell) 0) (sym (apply-none (a .cells .now) (a .values .now) (a .store .now))),
+    )
 
 mul-written : tie.Need-mul-written Inv-loop μ-loop
 mul-written c = search needs
