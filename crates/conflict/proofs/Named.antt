@@ -19,7 +19,7 @@ use Rattle.plan.proofs.Words.{step-kind-low}
 use Rattle.plan.proofs.Steps.{stepsFrom, steps-all, steps-none, steps-cons, step-formed, every-step}
 use Rattle.operation.specs.Operation.{sameAccess, valueOf, cellNumber, cellsNamed}
 use Rattle.operation.specs.Admission.{rowInRange, parametersPass, unusedZero}
-use Rattle.operation.proofs.Bounds.{row-low}
+use Rattle.operation.proofs.StepKinds.{row-bound}
 use Rattle.conflict.specs.Mask.{some}
 use Rattle.conflict.specs.Class.{isWrite, onesAre}
 
@@ -84,8 +84,8 @@ module _ (ws : List ℕ) (at : ℕ) (p : StandsAt ws at) where
       → kindOf (getD ws (at + 1 + s) 0) ≤ 4 → valueOf ps (rowOf (getD ws (at + 1 + s) 0)) ≤ 31
   unfolding parametersPass
   row-passes ps e s h k =
-      row-low ps (getD ws (at + 1 + s) 0)
-      (every-step (rowInRange ps) ws at p (and-snd (unusedZero (transactionFrom ws at .params) ps) _ e) s h) k
+      row-bound ps (getD ws (at + 1 + s) 0) k
+      (every-step (rowInRange ps) ws at p (and-snd (unusedZero (transactionFrom ws at .params) ps) _ e) s h)
 
   module _ (ps : List ℕ) (k : ℕ) (low : 3 ≤ k) (high : k ≤ 4) (n : ℕ) (mask : ℕ → ℕ) (s : ℕ) where
     ones-here : s < stepCount (getD ws at 0) → kindOf (getD ws (at + 1 + s) 0) ≡ k

@@ -3,18 +3,17 @@
 use mathlib.Core.Path.{_≡_, ap}
 use mathlib.Core.Bool.{Bool, true}
 use mathlib.Core.List.{List}
-use Prim.Native.Nat.{ℕ, _+_}
+use Prim.Native.Nat.{ℕ}
 use lib.Count.{ones}
 use lib.Dec.{eqb}
-use lib.ListN.{getD, take, drop}
-use Rattle.word.specs.Field.{stepCount}
+use lib.ListN.{getD}
 use Rattle.plan.specs.Plan.{Access, Plan}
 use Rattle.plan.specs.Place.{transactionFrom}
 use Rattle.plan.proofs.Bool.{and-snd}
 use Rattle.plan.proofs.Every.{every-same}
 use Rattle.operation.specs.Operation.{cellsNamed}
 use Rattle.operation.specs.Admission.{parametersPass, unusedZero}
-use Rattle.operation.proofs.Bounds.{cells-low}
+use Rattle.operation.proofs.Bounds.{transaction-fits, cells-low}
 use Rattle.conflict.specs.Touch.{deskMask, maskTable}
 use Rattle.conflict.specs.Class.{onesAre}
 use Rattle.conflict.proofs.Tables.{getD-tabulate}
@@ -28,4 +27,4 @@ ones-tabled least p k a ws at ps e =
     every-same _ _ (cellsNamed a ps (transactionFrom ws at .steps))
     (λ c m. ap (λ (x : ℕ). eqb (ones x) k)
     (getD-tabulate 1024 (deskMask least p) c
-    (cells-low a ps (take (stepCount (getD ws at 0)) (drop (at + 1) ws)) (and-snd (unusedZero (transactionFrom ws at .params) ps) _ e) c m)))
+    (cells-low a ps (transactionFrom ws at .steps) (transaction-fits ws at) (and-snd (unusedZero (transactionFrom ws at .params) ps) _ e) c m)))

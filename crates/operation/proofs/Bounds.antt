@@ -1,62 +1,88 @@
--- A cell that a decoded step names is below 1,024 once its row passes question 8.
+-- Bounds of what the steps of a transaction name: fields within their bits, and cells below 1,024.
 -- Assumes nothing.
-use mathlib.Core.Path.{_≡_, refl, _∙_, sym, ap, subst}
+use mathlib.Core.Path.{_≡_, refl, subst}
 use mathlib.Core.Bool.{Bool, true, false, cond}
-use mathlib.Core.List.{List, map, List·Memᴰ, Memᴰ·of-map}
-use Prim.Native.Nat.{ℕ, _+_, _*_, _≤_, _<_}
+use mathlib.Core.List.{List, [], _∷_, List·Memᴰ, List·Memᴰ·head, List·Memᴰ·tail, List·Memᴰ·not-nil, Memᴰ·of-map}
+use Prim.Native.Nat.{ℕ, _+_, _^_, _<_}
 use native.Mathlib.Omega.{arith}
+use lib.ListN.{getD, take, drop}
 use lib.Dec.{leb, eqb}
-use lib.ListN.{getD}
-use borrow.Author.Tests.{leb-true, le-leb}
-use Rattle.word.specs.Field.{kindOf, tableField, columnField, rowSource, fixedRow}
-use Rattle.plan.specs.Plan.{Source, param, fixed, Access, Step, cell, operand}
-use Rattle.plan.specs.Decode.{stepOf, rowOf, accessBy, actionBy, operandOf}
+use borrow.Author.Tests.{leb-true}
+use Rattle.word.specs.Field.{kindOf, stepCount, tableField, columnField, rowSource, fixedRow, operandSource, fixedNumber}
+use Rattle.plan.specs.Plan.{Source, param, fixed, Access, reads, writes, Action, Step, cell, operand}
+use Rattle.plan.specs.Decode.{sourceBy, accessBy, actionBy, stepOf}
 use Rattle.plan.specs.Admission.{every}
-use Rattle.plan.proofs.Every.{every-member}
+use Rattle.plan.specs.Place.{transactionFrom}
+use Rattle.plan.proofs.Bool.{and-fst, and-snd}
 use Rattle.operation.specs.Operation.{valueOf, cellNumber, cellsNamed}
 use Rattle.operation.specs.Admission.{rowInRange}
-use Rattle.operation.proofs.Cells.{names-of}
 
-abbrev pub RowBound : Source → Type 0
-RowBound (param i) = Unit {0}
-RowBound (fixed v) = v < 32
+-- ---- a step that a word stands for
 
--- table, column and fixed row of a step fit their fields
-abbrev pub Bounded : Step → Type 0
-Bounded (cell a t c r) = (t < 8) × (c < 4) × RowBound r
-Bounded (operand f v) = Unit {0}
+-- its fields keep within their bits
+abbrev pub FieldsFit : Step → Type 0
+FieldsFit (cell a t k (param i)) = (t < 8) × (k < 4)
+FieldsFit (cell a t k (fixed v)) = (t < 8) × (k < 4) × (v < 32)
+FieldsFit (operand f (param i)) = Unit {0}
+FieldsFit (operand f (fixed v)) = v < 2 ^ 25
 
-row-fits : (w : ℕ) → RowBound (rowOf w)
-row-fits w = go (eqb (rowSource w) 7)
+abbrev pub AllFit : List Step → Type 0
+AllFit ss = (st : Step) → List·Memᴰ st ss → FieldsFit st
+
+cell-fits : (a : Access) (w s : ℕ) → FieldsFit (cell a (tableField w) (columnField w) (sourceBy s (fixedRow w)))
+cell-fits a w s = go (eqb s 7)
   where
-    go : (b : Bool) → RowBound (cond b (fixed (fixedRow w)) (param (rowSource w)))
+    go : (b : Bool) → FieldsFit (cell a (tableField w) (columnField w) (cond b (fixed (fixedRow w)) (param s)))
+    go true = (omega arith, omega arith, omega arith)
+    go false = (omega arith, omega arith)
+
+operand-fits : (f : Action) (w s : ℕ) → FieldsFit (operand f (sourceBy s (fixedNumber w)))
+operand-fits f w s = go (eqb s 7)
+  where
+    go : (b : Bool) → FieldsFit (operand f (cond b (fixed (fixedNumber w)) (param s)))
     go true = omega arith
     go false = tt
 
-pub step-bounded : (w : ℕ) → Bounded (stepOf w)
+pub decoded-fits : (w : ℕ) → FieldsFit (stepOf w)
 unfolding stepOf
-step-bounded w = go (leb (kindOf w) 4)
+decoded-fits w =
+    go (leb (kindOf w) 4) _ _ (cell-fits (accessBy (kindOf w)) w (rowSource w)) (operand-fits (actionBy (kindOf w)) w (operandSource w))
   where
-    go : (b : Bool) → Bounded (cond b (cell (accessBy (kindOf w)) (tableField w) (columnField w) (rowOf w)) (operand (actionBy (kindOf w)) (operandOf w)))
-    go true = (omega arith, omega arith, row-fits w)
-    go false = tt
+    go : (b : Bool) (s t : Step) → FieldsFit s → FieldsFit t → FieldsFit (cond b s t)
+    go true s t p q = p
+    go false s t p q = q
 
-pub value-low : (ps : List ℕ) (a : Access) (t c : ℕ) (r : Source) → RowBound r → rowInRange ps (cell a t c r) ≡ true → valueOf ps r ≤ 31
+pub transaction-fits : (ws : List ℕ) (at : ℕ) → AllFit (transactionFrom ws at .steps)
+transaction-fits ws at st m =
+    let r = Memᴰ·of-map stepOf (take (stepCount (getD ws at 0)) (drop (at + 1) ws)) m in
+    subst FieldsFit (r .2) (decoded-fits (r .0))
+
+-- ---- cells: table 0–7, row 0–31, column 0–3
+
+cell-low : (ps : List ℕ) (a : Access) (t k : ℕ) (r : Source) → FieldsFit (cell a t k r) → rowInRange ps (cell a t k r) ≡ true
+    → cellNumber t (valueOf ps r) k < 1024
 unfolding rowInRange
-value-low ps a t c (param i) b e = leb-true (getD ps i 0) 31 e
-value-low ps a t c (fixed v) b e = omega arith
+cell-low ps a t k (param i) f e = let h = leb-true (getD ps i 0) 31 e in omega arith
+cell-low ps a t k (fixed v) f e = omega arith
 
--- the row of the word of a read or write step
-pub row-low : (ps : List ℕ) (w : ℕ) → rowInRange ps (stepOf w) ≡ true → kindOf w ≤ 4 → valueOf ps (rowOf w) ≤ 31
-unfolding stepOf
-row-low ps w e h =
-    value-low ps (accessBy (kindOf w)) (tableField w) (columnField w) (rowOf w) (row-fits w) (rw (le-leb (kindOf w) 4 h) at e)
+pub cells-low : (a : Access) (ps : List ℕ) (ss : List Step) → AllFit ss → every (rowInRange ps) ss ≡ true
+    → (c : ℕ) → List·Memᴰ c (cellsNamed a ps ss) → c < 1024
+unfolding cellsNamed every
+cells-low a ps [] f e c m = absurd (List·Memᴰ·not-nil m)
+cells-low a ps (operand g v ∷ ss) f e c m =
+    cells-low a ps ss (λ st h. f st (List·Memᴰ·tail h)) (and-snd (rowInRange ps (operand g v)) _ e) c m
+cells-low a ps (cell b t k r ∷ ss) f e c m =
+    go a b m (cells-low a ps ss (λ st h. f st (List·Memᴰ·tail h)) (and-snd (rowInRange ps (cell b t k r)) _ e) c)
+  where
+    low : cellNumber t (valueOf ps r) k < 1024
+    low = cell-low ps b t k r (f (cell b t k r) (List·Memᴰ·head refl)) (and-fst _ _ e)
 
-module _ (a : Access) (ps ws : List ℕ) (e : every (rowInRange ps) (map stepOf ws) ≡ true) where
-  pub cells-low : (c : ℕ) → List·Memᴰ c (cellsNamed a ps (map stepOf ws)) → c < 1024
-  cells-low c m =
-      let n = names-of a ps (map stepOf ws) c m in
-      let o = Memᴰ·of-map stepOf ws (n .step) in
-      let b : Bounded (cell a (n .table) (n .column) (n .row)) = subst Bounded (o .2) (step-bounded (o .0)) in
-      let v : valueOf ps (n .row) ≤ 31 = value-low ps a (n .table) (n .column) (n .row) (b .2) (every-member (rowInRange ps) (map stepOf ws) _ e (n .step)) in
-      omega (arith, n .is, b .0, b .1)
+    first : (cs : List ℕ) → List·Memᴰ c (cellNumber t (valueOf ps r) k ∷ cs) → (List·Memᴰ c cs → c < 1024) → c < 1024
+    first cs (List·Memᴰ·head q) h = let l = low in omega arith
+    first cs (List·Memᴰ·tail n) h = h n
+
+    go : (a b : Access) → List·Memᴰ c (cellsNamed a ps (cell b t k r ∷ ss)) → (List·Memᴰ c (cellsNamed a ps ss) → c < 1024) → c < 1024
+    go reads reads n h = first (cellsNamed reads ps ss) n h
+    go reads writes n h = h n
+    go writes reads n h = h n
+    go writes writes n h = first (cellsNamed writes ps ss) n h

@@ -1,4 +1,9 @@
 pub mod Values
 pub mod Rows
 pub mod Cells
+pub mod StepKinds
+pub mod Updates
+pub mod Running
 pub mod Bounds
+pub mod Runs
+pub mod Words

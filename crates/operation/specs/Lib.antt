@@ -1,3 +1,4 @@
 pub mod Operation
 pub mod Admission
 pub mod Run
+pub mod Answer

@@ -1,6 +1,7 @@
 // Operations: questions 7 and 8, the desk, the cells that a step names, and running one on a store.
 mod admission;
 mod cell;
+mod execution;
 
 pub use admission::parameters_pass;
 pub use admission::transaction_exists;
@@ -8,3 +9,8 @@ pub use cell::cell_named;
 pub use cell::desk;
 pub use cell::parameter;
 pub use cell::source_value;
+pub use execution::Outcome;
+pub use execution::Reply;
+pub use execution::Update;
+pub use execution::apply;
+pub use execution::run;
