@@ -6,3 +6,4 @@ pub mod Tables
 pub mod Filling
 pub mod Named
 pub mod Tabled
+pub mod Classified

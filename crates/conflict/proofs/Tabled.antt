@@ -1,13 +1,13 @@
 -- A transaction's cells, looked up in the mask table, have the masks of the definition.
 -- Assumes nothing.
-use mathlib.Core.Path.{_≡_, ap}
-use mathlib.Core.Bool.{Bool, true}
+use mathlib.Core.Path.{_≡_, _∙_, ap}
+use mathlib.Core.Bool.{Bool, true, false, cond}
 use mathlib.Core.List.{List}
 use Prim.Native.Nat.{ℕ}
 use lib.Count.{ones}
 use lib.Dec.{eqb}
 use lib.ListN.{getD}
-use Rattle.plan.specs.Plan.{Access, Plan}
+use Rattle.plan.specs.Plan.{Access, reads, writes, Plan}
 use Rattle.plan.specs.Place.{transactionFrom}
 use Rattle.plan.proofs.Bool.{and-snd}
 use Rattle.plan.proofs.Every.{every-same}
@@ -15,7 +15,8 @@ use Rattle.operation.specs.Operation.{cellsNamed}
 use Rattle.operation.specs.Admission.{parametersPass, unusedZero}
 use Rattle.operation.proofs.Bounds.{transaction-fits, cells-low}
 use Rattle.conflict.specs.Touch.{deskMask, maskTable}
-use Rattle.conflict.specs.Class.{onesAre}
+use Rattle.conflict.specs.Mask.{some}
+use Rattle.conflict.specs.Class.{onesAre, isWrite, free, local, global, classBy}
 use Rattle.conflict.proofs.Tables.{getD-tabulate}
 
 pub ones-tabled : (least : ℕ) (p : Plan) (k : ℕ) (a : Access) (ws : List ℕ) (at : ℕ) (ps : List ℕ)
@@ -28,3 +29,22 @@ ones-tabled least p k a ws at ps e =
     (λ c m. ap (λ (x : ℕ). eqb (ones x) k)
     (getD-tabulate 1024 (deskMask least p) c
     (cells-low a ps (transactionFrom ws at .steps) (transaction-fits ws at) (and-snd (unusedZero (transactionFrom ws at .params) ps) _ e) c m)))
+
+-- ---- the class, by what the two tests found
+
+module _ (ws : List ℕ) (at : ℕ) (ps : List ℕ) (e : parametersPass (transactionFrom ws at) ps ≡ true) (p : Plan) where
+  pub class-writing : (b : Bool) (l : List ℕ) → l ≡ maskTable 3 p → some isWrite (transactionFrom ws at .steps) ≡ true
+      → b ≡ onesAre 1 (λ c. getD l c 0) (cellsNamed writes ps (transactionFrom ws at .steps))
+      → cond b local global ≡ classBy p (transactionFrom ws at) ps
+  unfolding classBy
+  class-writing b l t w h =
+      rw w (ap (λ (x : Bool). cond x local global)
+      (h ∙ ap (λ (m : List ℕ). onesAre 1 (λ c. getD m c 0) (cellsNamed writes ps (transactionFrom ws at .steps))) t ∙ ones-tabled 3 p 1 writes ws at ps e))
+
+  pub class-reading : (b : Bool) (l : List ℕ) → l ≡ maskTable 4 p → some isWrite (transactionFrom ws at .steps) ≡ false
+      → b ≡ onesAre 0 (λ c. getD l c 0) (cellsNamed reads ps (transactionFrom ws at .steps))
+      → cond b free local ≡ classBy p (transactionFrom ws at) ps
+  unfolding classBy
+  class-reading b l t w h =
+      rw w (ap (λ (x : Bool). cond x free local)
+      (h ∙ ap (λ (m : List ℕ). onesAre 0 (λ c. getD m c 0) (cellsNamed reads ps (transactionFrom ws at .steps))) t ∙ ones-tabled 4 p 0 reads ws at ps e))

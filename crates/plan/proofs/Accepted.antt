@@ -66,3 +66,7 @@ formed-count (suc n) (w ∷ ws) e =
 pub transaction-count : (ws : List ℕ) → planVerdict ws ≡ accepted → length (planOf ws .transactions) ≡ headTransactions (headOf ws)
 unfolding planOf
 transaction-count ws e = formed-count (headTransactions (headOf ws)) (drop 1 ws) (accepted-gives ws e .form)
+
+pub desk-count : (ws : List ℕ) → planOf ws .desks ≡ headDesks (headOf ws)
+unfolding planOf
+desk-count ws = refl

@@ -1,55 +1,70 @@
+-- The class of an operation: by whether it writes, and by the ones in the masks of its cells.
+-- Assumes nothing.
+use mathlib.Core.Path.{_∙_, sym, ap}
+use mathlib.Core.Bool.{Bool, cond}
+use Rattle.plan.specs.Decode.{accessBy}
+use Rattle.conflict.specs.Class.{free, local, global}
+use Rattle.conflict.proofs.Tabled.{class-writing, class-reading}
 use borrow.Author.Needs.{needs}
 use Rattle.conflict.proofs.class.class_of.Statement.{statement}
 use Rattle.conflict.proofs.class.class_of.Tie as tie
-use Rattle.conflict.proofs.class.class_of.Reads as reads
-use Rattle.conflict.proofs.class.class_of.Lts as lts
-use Rattle.conflict.proofs.class.has_write.Reads as has-write-reads
-use Rattle.conflict.proofs.class.ones_are.Reads as ones-are-reads
-use Rattle.conflict.proofs.mask.desk_masks.Reads as desk-masks-reads
 
--- src/class.rt:81:8
 has-write-requires : tie.Need-has-write-requires
 has-write-requires c κs = search needs
 
--- src/class.rt:82:24
 desk-masks-requires : tie.Need-desk-masks-requires
 desk-masks-requires c κs = search needs
 
--- src/class.rt:83:42
 slice-aggregate-ones-are : tie.Need-slice-aggregate-ones-are
 slice-aggregate-ones-are c = search needs
 
--- src/class.rt:83:12
 ones-are-requires : tie.Need-ones-are-requires
 ones-are-requires c κs = search needs
 
--- src/class.rt:84:13
 returns : tie.Need-returns
-returns c = ?
+unfolding accessBy
+returns c =
+    let e = c .before .before .before .before in
+    let d = e .before .before .before in
+    sym (ap (λ (b : Bool). cond b local global) (c .if2 .taken))
+    ∙ class-writing (d .args .plan .now) (d .args .at) (d .args .params) (d .pre .2) _ _ _ (c .before .before .before .desk-masks .ensures)
+    (sym (e .before .has-write .ensures) ∙ e .if1 .taken) (c .before .ones-are .ensures)
 
--- src/class.rt:86:9
 returns-2 : tie.Need-returns-2
-returns-2 c = ?
+unfolding accessBy
+returns-2 c =
+    let e = c .before .before .before .before in
+    let d = e .before .before .before in
+    sym (ap (λ (b : Bool). cond b local global) (c .if2 .left))
+    ∙ class-writing (d .args .plan .now) (d .args .at) (d .args .params) (d .pre .2) _ _ _ (c .before .before .before .desk-masks .ensures)
+    (sym (e .before .has-write .ensures) ∙ e .if1 .taken) (c .before .ones-are .ensures)
 
--- src/class.rt:88:19
 desk-masks-requires-2 : tie.Need-desk-masks-requires-2
 desk-masks-requires-2 c κs = search needs
 
--- src/class.rt:89:38
 slice-aggregate-ones-are-2 : tie.Need-slice-aggregate-ones-are-2
 slice-aggregate-ones-are-2 c = search needs
 
--- src/class.rt:89:8
 ones-are-requires-2 : tie.Need-ones-are-requires-2
 ones-are-requires-2 c κs = search needs
 
--- src/class.rt:90:9
 returns-3 : tie.Need-returns-3
-returns-3 c = ?
+unfolding accessBy
+returns-3 c =
+    let e = c .before .before .before .before in
+    let d = e .before .before .before in
+    sym (ap (λ (b : Bool). cond b free local) (c .if3 .taken))
+    ∙ class-reading (d .args .plan .now) (d .args .at) (d .args .params) (d .pre .2) _ _ _ (c .before .before .before .desk-masks2 .ensures)
+    (sym (e .before .has-write .ensures) ∙ e .if1 .left) (c .before .ones-are2 .ensures)
 
--- src/class.rt:77:1
 returns-4 : tie.Need-returns-4
-returns-4 c = ?
+unfolding accessBy
+returns-4 c =
+    let e = c .before .before .before .before in
+    let d = e .before .before .before in
+    sym (ap (λ (b : Bool). cond b free local) (c .if3 .left))
+    ∙ class-reading (d .args .plan .now) (d .args .at) (d .args .params) (d .pre .2) _ _ _ (c .before .before .before .desk-masks2 .ensures)
+    (sym (e .before .has-write .ensures) ∙ e .if1 .left) (c .before .ones-are2 .ensures)
 
 pub class-of-spec : {M : Type 1} → statement M
 class-of-spec =

@@ -1,93 +1,140 @@
+-- The classifier: each answer is the branch of the definition that the questions before it chose.
+-- Assumes nothing.
+use mathlib.Core.Path.{_≡_, _∙_, sym, ap}
+use mathlib.Core.Bool.{true}
+use Prim.Native.Nat.{ℕ, _<_}
+use native.Mathlib.Omega.{arith}
+use lib.ListN.{length}
+use borrow.Author.Tests.{not-true, not-false}
+use Rattle.plan.specs.Decode.{planOf}
+use Rattle.plan.specs.Admission.{planVerdict, accepted}
+use Rattle.plan.specs.Answer.{verdictOf}
+use Rattle.plan.specs.Place.{StandsAt, transactionFrom}
+use Rattle.plan.proofs.Accepted.{accepted-gives}
+use Rattle.operation.specs.Admission.{transactionExists, parametersPass}
+use Rattle.conflict.specs.declared.class.Class.{Class}
+use Rattle.conflict.specs.Answer.{classOfCode, withDesk, classifyResult}
+use Rattle.conflict.proofs.Classified.{plan-refused, no-transaction, stands, parameters-refused, classified}
 use borrow.Author.Needs.{needs}
 use Rattle.conflict.proofs.class.classify.Statement.{statement}
 use Rattle.conflict.proofs.class.classify.Tie as tie
-use Rattle.conflict.proofs.class.classify.Reads as reads
-use Rattle.conflict.proofs.class.classify.Lts as lts
-use Rattle.conflict.proofs.class.class_of.Reads as class-of-reads
-use Rattle.operation.proofs.parameters_pass.Reads as parameters-pass-reads
-use Rattle.operation.proofs.transaction_exists.Reads as transaction-exists-reads
-use Rattle.operation.proofs.desk.Reads as desk-reads
-use Rattle.plan.proofs.transaction_place.Reads as transaction-place-reads
-use Rattle.plan.proofs.read_plan.Reads as read-plan-reads
 
--- src/class.rt:99:44
 read-plan-requires : tie.Need-read-plan-requires
 read-plan-requires c κs = search needs
 
--- src/class.rt:99:32
 enum-known-question : tie.Need-enum-known-question
 enum-known-question c = search needs
 
--- src/class.rt:100:9
 returns : tie.Need-returns
-returns c = ?
+returns c =
+    let d = c .before .before .before .before .before in
+    sym (plan-refused (d .args .plan .now) (d .args .transaction) (d .args .params) _
+    (sym (c .before .before .before .read-plan .ensures) ∙ ap verdictOf (c .before .question .given .1)))
 
 enum-told : tie.Need-enum-told
 enum-told c = search needs
 
--- src/class.rt:102:9
+-- questions 1 to 4 are answered with yes, and then 7
+plan-passes : (c : tie.After-enum-told) → planVerdict (c .before .before .before .before .args .plan .now) ≡ accepted
+plan-passes c = sym (c .before .before .read-plan .ensures) ∙ ap verdictOf (c .enum-told .given .1)
+
 transaction-exists-requires : tie.Need-transaction-exists-requires
-transaction-exists-requires c κs = ?
+transaction-exists-requires c κs = plan-passes c
 
--- src/class.rt:103:9
 returns-2 : tie.Need-returns-2
-returns-2 c = ?
+returns-2 c =
+    let d = c .before .before .before .before .before .before in
+    sym (no-transaction (d .args .plan .now) (d .args .transaction) (d .args .params) (plan-passes (c .before .before))
+    (sym (c .before .transaction-exists .ensures) ∙ not-true _ (c .if1 .taken)))
 
--- src/class.rt:105:9
 transaction-place-requires : tie.Need-transaction-place-requires
 transaction-place-requires c κs = search needs
 
--- src/class.rt:106:9
+there : (c : tie.Else1)
+    → transactionExists (planOf (c .before .before .before .before .before .before .args .plan .now)) (c .before .before .before .before .before .before .args .transaction) ≡ true
+there c = sym (c .before .transaction-exists .ensures) ∙ not-false _ (c .if1 .left)
+
+-- the transaction stands at its place
+placed : (c : tie.After-transaction-place)
+    → StandsAt (c .before .before .before .before .before .before .before .args .plan .now) (c .transaction-place .result)
+placed c =
+    let d = c .before .before .before .before .before .before .before in
+    stands (d .args .plan .now) (d .args .transaction) (d .args .params) (plan-passes (c .before .before .before)) (there (c .before)) _ (c .transaction-place .ensures)
+
 parameters-pass-requires : tie.Need-parameters-pass-requires
-parameters-pass-requires c κs = ?
+parameters-pass-requires c κs = placed c
 
--- src/class.rt:107:9
 returns-3 : tie.Need-returns-3
-returns-3 c = ?
+returns-3 c =
+    let e = c .before .before in
+    let d = e .before .before .before .before .before .before .before in
+    sym (parameters-refused (d .args .plan .now) (d .args .transaction) (d .args .params) (plan-passes (e .before .before .before)) (there (e .before)) _
+    (e .transaction-place .ensures) (sym (c .before .parameters-pass .ensures) ∙ not-true _ (c .if2 .taken)))
 
--- src/class.rt:109:32
+-- its word stands within the plan
+inside : (c : tie.After-transaction-place)
+    → c .transaction-place .result < length (c .before .before .before .before .before .before .before .args .plan .now)
+inside c = let r = placed c .room in omega arith
+
 mul-desk : tie.Need-mul-desk
-mul-desk c = ?
+mul-desk c = let h = inside (c .before .before) in search needs
 
--- src/class.rt:109:32
 shared-slice-read-desk : tie.Need-shared-slice-read-desk
-shared-slice-read-desk c = ?
+shared-slice-read-desk c = inside (c .before .before .before)
 
--- src/class.rt:109:42
 shared-slice-read-desk-2 : tie.Need-shared-slice-read-desk-2
-shared-slice-read-desk-2 c = ?
+shared-slice-read-desk-2 c = accepted-gives _ (plan-passes (c .before .before .before .before .before .before .before)) .words-low
 
--- src/class.rt:109:9
 desk-requires : tie.Need-desk-requires
-desk-requires c κs = ?
+desk-requires c κs = accepted-gives _ (plan-passes (c .before .before .before .before .before .before .before)) .desks-low
 
--- src/class.rt:110:11
+-- question 8 is answered with yes
+passed : (c : tie.Else2)
+    → parametersPass (transactionFrom (c .before .before .before .before .before .before .before .before .before .args .plan .now) (c .before .before .transaction-place .result))
+    (c .before .before .before .before .before .before .before .before .before .args .params) ≡ true
+passed c = sym (c .before .parameters-pass .ensures) ∙ not-false _ (c .if2 .left)
+
 class-of-requires : tie.Need-class-of-requires
-class-of-requires c κs = ?
+class-of-requires c κs =
+    let e = c .before .before .before in
+    (plan-passes (e .before .before .before .before .before), placed (e .before .before), passed e)
 
--- src/class.rt:111:24
 enum-told-2 : tie.Need-enum-told-2
 enum-told-2 c = search needs
 
--- src/class.rt:112:25
 enum-told-3 : tie.Need-enum-told-3
 enum-told-3 c = search needs
 
--- src/class.rt:113:26
 enum-told-4 : tie.Need-enum-told-4
 enum-told-4 c = search needs
 
--- src/class.rt:96:1
+-- what the class and the desk found give together
+found : (c : tie.After-class-of)
+    → withDesk (classOfCode (c .class-of .result)) (c .before .desk .result)
+    ≡ classifyResult (c .before .before .before .before .before .before .before .before .before .before .before .before .before .args .plan .now)
+    (c .before .before .before .before .before .before .before .before .before .before .before .before .before .args .transaction)
+    (c .before .before .before .before .before .before .before .before .before .before .before .before .before .args .params)
+found c =
+    let f = c .before .before .before .before in
+    let e = f .before .before in
+    let d = e .before .before .before .before .before .before .before in
+    classified (d .args .plan .now) (d .args .transaction) (d .args .params) (plan-passes (e .before .before .before)) (there (e .before)) _
+    (e .transaction-place .ensures) _ _ (passed f) (c .class-of .ensures) (c .before .desk .ensures)
+
 returns-4 : tie.Need-returns-4
-returns-4 c = ?
+returns-4 c =
+    let f = c .before .before in
+    ap (λ (r : Class). withDesk (classOfCode r) (f .before .desk .result)) (sym (c .enum-told2 .given .1)) ∙ found f
 
--- src/class.rt:96:1
 returns-5 : tie.Need-returns-5
-returns-5 c = ?
+returns-5 c =
+    let f = c .before .before in
+    ap (λ (r : Class). withDesk (classOfCode r) (f .before .desk .result)) (sym (c .enum-told3 .given .1)) ∙ found f
 
--- src/class.rt:96:1
 returns-6 : tie.Need-returns-6
-returns-6 c = ?
+returns-6 c =
+    let f = c .before .before in
+    ap (λ (r : Class). withDesk (classOfCode r) (f .before .desk .result)) (sym (c .enum-told4 .given .1)) ∙ found f
 
 pub classify-spec : {M : Type 1} → statement M
 classify-spec =
