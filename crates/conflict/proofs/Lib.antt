@@ -7,3 +7,8 @@ pub mod Filling
 pub mod Named
 pub mod Tabled
 pub mod Classified
+pub mod Some
+pub mod Witness
+pub mod Touching
+pub mod MaskMeaning
+pub mod Classes

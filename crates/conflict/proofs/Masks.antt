@@ -3,12 +3,12 @@
 use mathlib.Core.Path.{_≡_, refl, _∙_, sym, ap, ap₂, fun-ext, subst}
 use mathlib.Core.Bool.{Bool, true, false, _||_, _&&_, false≢true}
 use mathlib.Core.Logic.{_⊎_, inl, inr, ⊎-elim}
-use Prim.Native.Nat.{ℕ, zero, suc, _+_, _*_, _/_, _%_, _^_, _≤_, _<_, max}
-use native.Mathlib.Nat.{pow-suc, zero-mul, zero-add, add-zero, one-mul, not-suc-le-zero, le-of-suc-le-suc, eq-or-lt-of-le}
+use Prim.Native.Nat.{ℕ, zero, suc, _+_, _-_, _*_, _/_, _%_, _^_, _<_, max}
+use native.Mathlib.Nat.{pow-suc, zero-mul, not-suc-le-zero, le-of-suc-le-suc, eq-or-lt-of-le, add-comm, mul-assoc, add-mul-div-right}
 use native.Mathlib.Omega.{arith}
 use lib.Arith.{bin-ind, digits-mod, digits-div}
 use lib.Bits.{bitOr, or-step, or-zero-l, or-zero-r, or-self, or-block, or-shr}
-use lib.Count.{ones, ones-cat}
+use lib.Pow.{pow-pos, pow-add, high}
 use Rattle.conflict.specs.Mask.{bit, maskOf}
 
 pub mask-ext : (n : ℕ) (f g : ℕ → Bool) → ((d : ℕ) → f d ≡ g d) → maskOf n f ≡ maskOf n g
@@ -65,3 +65,29 @@ bits-assoc =
 -- what was there, joined with a mask of two parts, is joined with one part and then with the other
 pub mask-split : (x n : ℕ) (f g : ℕ → Bool) → bitOr x (maskOf n (λ d. f d || g d)) ≡ bitOr (bitOr x (maskOf n f)) (maskOf n g)
 mask-split x n f g = ap (bitOr x) (sym (mask-or n f g)) ∙ sym (bits-assoc x (maskOf n f) (maskOf n g))
+
+-- ---- a desk's digit in a mask
+
+shifted-even : (b k d r : ℕ) → (b * (2 ^ suc k * 2 ^ d) + r) / 2 ^ d % 2 ≡ r / 2 ^ d % 2
+shifted-even b k d r =
+    ap (λ (x : ℕ). x / 2 ^ d % 2) (add-comm (b * (2 ^ suc k * 2 ^ d)) r ∙ ap (λ (x : ℕ). r + x) (sym (mul-assoc b (2 ^ suc k) (2 ^ d))))
+    ∙ ap (λ (x : ℕ). x % 2) (add-mul-div-right r (b * 2 ^ suc k) (pow-pos d))
+    ∙ omega (arith, ap (λ (x : ℕ). b * x) (pow-suc 2 k), mul-assoc b (2 ^ k) 2)
+
+pub mask-bit : (n : ℕ) (f : ℕ → Bool) (d : ℕ) → d < n → maskOf n f / 2 ^ d % 2 ≡ bit (f d)
+unfolding maskOf
+mask-bit zero f d h = absurd (not-suc-le-zero h)
+mask-bit (suc n) f d h = go (eq-or-lt-of-le (le-of-suc-le-suc h)) (λ l. mask-bit n f d l)
+  where
+    small : (b : Bool) → bit b % 2 ≡ bit b
+    small true = refl
+    small false = refl
+
+    go : (d ≡ n) ⊎ (d < n) → (d < n → maskOf n f / 2 ^ d % 2 ≡ bit (f d)) → (bit (f n) * 2 ^ n + maskOf n f) / 2 ^ d % 2 ≡ bit (f d)
+    go (inl e) r =
+        rw e (ap (λ (x : ℕ). x % 2) (high (bit (f n)) n (mask-lt n f)) ∙ small (f n))
+    go (inr l) r =
+        let k = n - (d + 1) in
+        let e : n ≡ suc k + d = omega arith in
+        ap (λ (x : ℕ). (bit (f n) * x + maskOf n f) / 2 ^ d % 2) (ap (λ (m : ℕ). 2 ^ m) e ∙ pow-add 2 (suc k) d)
+        ∙ shifted-even (bit (f n)) k d (maskOf n f) ∙ r l

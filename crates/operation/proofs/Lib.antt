@@ -1,5 +1,6 @@
 pub mod Values
 pub mod Rows
+pub mod Admitted
 pub mod Cells
 pub mod StepKinds
 pub mod Updates

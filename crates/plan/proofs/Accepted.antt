@@ -15,7 +15,7 @@ use Rattle.plan.specs.Admission.{parametersExist, transactionsVerdict, p
 use Rattle.plan.proofs.Bool.{and-fst, and-snd}
 
 -- a question's answer that a verdict other than its refusal shows
-yes-of : (b : Bool) (v : Verdict) (k : ℕ) → cond b v (refused k) ≡ accepted → (b ≡ true) × (v ≡ accepted)
+pub yes-of : (b : Bool) (v : Verdict) (k : ℕ) → cond b v (refused k) ≡ accepted → (b ≡ true) × (v ≡ accepted)
 yes-of true v k e = (refl, e)
 yes-of false v k e = let z : _≡_ {A = ℕ} 0 1 = cc in absurd (omega arith)
 
@@ -70,3 +70,7 @@ transaction-count ws e = formed-count (headTransactions (headOf ws)) (drop 1 ws)
 pub desk-count : (ws : List ℕ) → planOf ws .desks ≡ headDesks (headOf ws)
 unfolding planOf
 desk-count ws = refl
+
+pub all-named : (ws : List ℕ) → planVerdict ws ≡ accepted → every parametersExist (planOf ws .transactions) ≡ true
+unfolding planOf
+all-named ws e = accepted-gives ws e .names

@@ -1,0 +1,145 @@
+-- The computed class is free, local or global exactly as 01 defines them over all operations.
+-- Assumes nothing.
+use mathlib.Core.Path.{_≡_, refl, _∙_, sym, subst}
+use mathlib.Core.Bool.{Bool, true, false, cond, false≢true}
+use mathlib.Core.List.{List, List·Memᴰ}
+use mathlib.Core.Logic.{inl, inr, ⊎-elim, _↔_}
+use Prim.Native.Nat.{ℕ}
+use native.Mathlib.Decide.{ℕ-discrete}
+use native.Mathlib.Omega.{arith}
+use lib.Count.{ones}
+use lib.Dec.{eqb}
+use borrow.Author.Tests.{eq-eqb, eqb-true}
+use Rattle.plan.specs.Plan.{Source, reads, writes, Step, cell, operand, Plan}
+use Rattle.plan.specs.Decode.{planOf}
+use Rattle.plan.specs.Admission.{planVerdict, accepted}
+use Rattle.plan.proofs.Every.{every-member, member-every}
+use Rattle.operation.specs.Operation.{Operation, transactionOf, deskOf, readSet, writeSet, MayRead, MayWrite, MayTouch}
+use Rattle.operation.specs.Admission.{IsOperation}
+use Rattle.operation.proofs.Cells.{names-of, of-names}
+use Rattle.conflict.specs.Mask.{some}
+use Rattle.conflict.specs.Touch.{touchMask, writeMask}
+use Rattle.conflict.specs.Class.{OtherDesk, Free, Local, Global, WriteConflict, ReadsFrom, Class, free, local, global, isWrite, onesAre, classBy, classOf}
+use Rattle.conflict.proofs.Some.{member-some, some-member}
+use Rattle.conflict.proofs.MaskMeaning.{desk-low, one-desk, no-writer}
+use Rattle.conflict.proofs.Touching.{some-desk}
+
+-- ---- a write step and a written cell
+
+write-shape : (s : Step) → isWrite s ≡ true → (t : ℕ) × (k : ℕ) × (r : Source) × (s ≡ cell writes t k r)
+write-shape (cell reads t k r) e = absurd (false≢true e)
+write-shape (cell writes t k r) e = (t, k, r, refl)
+write-shape (operand f v) e = absurd (false≢true e)
+
+module _ (p : Plan) (o : Operation) where
+  writes-some : some isWrite (transactionOf p o .steps) ≡ true → (c : ℕ) × MayWrite p o c
+  writes-some e =
+      let m = some-member isWrite (transactionOf p o .steps) e in
+      let w = write-shape (m .0) (m .2) in
+      (_, of-names writes (o .params) (transactionOf p o .steps) (w .0) (w .1) (w .2) (subst (λ (s : Step). List·Memᴰ s (transactionOf p o .steps)) (w .3) (m .1)))
+
+  writes-none : some isWrite (transactionOf p o .steps) ≡ false → (c : ℕ) → MayWrite p o c → ⊥
+  writes-none e c m =
+      let n = names-of writes (o .params) (transactionOf p o .steps) c m in
+      false≢true (sym e ∙ member-some isWrite _ (transactionOf p o .steps) (n .step) refl)
+
+module _ (ws : List ℕ) (e : planVerdict ws ≡ accepted) (o : Operation) (i : IsOperation (planOf ws) o) where
+  -- no operation may write a cell that it may read
+  abbrev Unwritten : Type 0
+  Unwritten = (c : ℕ) → MayRead (planOf ws) o c → (o′ : Operation) → IsOperation (planOf ws) o′ → MayWrite (planOf ws) o′ c → ⊥
+
+  -- no operation of another desk may touch a cell that it may write
+  abbrev Alone : Type 0
+  Alone =
+      (c : ℕ) → MayWrite (planOf ws) o c → (o′ : Operation) → IsOperation (planOf ws) o′ → OtherDesk (planOf ws) o o′ → MayTouch (planOf ws) o′ c → ⊥
+
+  -- ---- the two computed tests
+
+  unwritten : onesAre 0 (writeMask (planOf ws)) (readSet (planOf ws) o) ≡ true → Unwritten
+  unwritten h c m =
+      no-writer ws e c .0 (eqb-true _ _ (every-member (λ c. eqb (ones (writeMask (planOf ws) c)) 0) (readSet (planOf ws) o) c h m))
+
+  of-unwritten : Unwritten → onesAre 0 (writeMask (planOf ws)) (readSet (planOf ws) o) ≡ true
+  of-unwritten h =
+      member-every (λ c. eqb (ones (writeMask (planOf ws) c)) 0) (readSet (planOf ws) o) (λ c m. eq-eqb _ _ (no-writer ws e c .1 (h c m)))
+
+  alone : onesAre 1 (touchMask (planOf ws)) (writeSet (planOf ws) o) ≡ true → Alone
+  alone h c m o′ i′ other t =
+      let k = one-desk ws e c .0 (eqb-true _ _ (every-member (λ c. eqb (ones (touchMask (planOf ws) c)) 1) (writeSet (planOf ws) o) c h m)) in
+      other (k .1 .1 o′ i′ t ∙ sym (k .1 .1 o i (inr m)))
+
+  of-alone : Alone → onesAre 1 (touchMask (planOf ws)) (writeSet (planOf ws) o) ≡ true
+  of-alone h =
+      member-every (λ c. eqb (ones (touchMask (planOf ws) c)) 1) (writeSet (planOf ws) o)
+      (λ c m. eq-eqb _ _ (one-desk ws e c .1 (deskOf (planOf ws) o, ((o, i, refl, inr m), λ o′ i′ t. same c m o′ i′ t (ℕ-discrete (deskOf (planOf ws) o′) (deskOf (planOf ws) o))))))
+    where
+      same : (c : ℕ) → MayWrite (planOf ws) o c → (o′ : Operation) → IsOperation (planOf ws) o′ → MayTouch (planOf ws) o′ c
+          → Dec (deskOf (planOf ws) o′ ≡ deskOf (planOf ws) o) → deskOf (planOf ws) o′ ≡ deskOf (planOf ws) o
+      same c m o′ i′ t (yes q) = q
+      same c m o′ i′ t (no q) = absurd (h c m o′ i′ q t)
+
+  -- ---- what the class means
+
+  abbrev Means : Class → Type 0
+  Means free = Free (planOf ws) o
+  Means local = Local (planOf ws) o
+  Means global = Global (planOf ws) o
+
+  pub class-means : Means (classOf (planOf ws) o)
+  unfolding classBy
+  class-means =
+      go (some isWrite (transactionOf (planOf ws) o .steps)) (onesAre 1 (touchMask (planOf ws)) (writeSet (planOf ws) o))
+      (onesAre 0 (writeMask (planOf ws)) (readSet (planOf ws) o)) refl refl refl
+    where
+      go : (w a q : Bool) → some isWrite (transactionOf (planOf ws) o .steps) ≡ w → onesAre 1 (touchMask (planOf ws)) (writeSet (planOf ws) o) ≡ a
+          → onesAre 0 (writeMask (planOf ws)) (readSet (planOf ws) o) ≡ q → Means (cond w (cond a local global) (cond q free local))
+      go true true q ew ea eq = (λ f. f .0 (writes-some (planOf ws) o ew .0) (writes-some (planOf ws) o ew .1), alone ea)
+      go true false q ew ea eq =
+          (λ f. f .0 (writes-some (planOf ws) o ew .0) (writes-some (planOf ws) o ew .1), λ l. false≢true (sym ea ∙ of-alone (l .1)))
+      go false a true ew ea eq = (writes-none (planOf ws) o ew, unwritten eq)
+      go false a false ew ea eq = (λ f. false≢true (sym eq ∙ of-unwritten (f .1)), λ c m. absurd (writes-none (planOf ws) o ew c m))
+
+  -- the three exclude each other
+  only-free : (k : Class) → Means k → Free (planOf ws) o → k ≡ free
+  only-free free m f = refl
+  only-free local m f = absurd (m .0 f)
+  only-free global m f = absurd (m .0 f)
+
+  only-local : (k : Class) → Means k → Local (planOf ws) o → k ≡ local
+  only-local free m l = absurd (l .0 m)
+  only-local local m l = refl
+  only-local global m l = absurd (m .1 l)
+
+  only-global : (k : Class) → Means k → Global (planOf ws) o → k ≡ global
+  only-global free m g = absurd (g .0 m)
+  only-global local m g = absurd (g .1 m)
+  only-global global m g = refl
+
+  -- ---- the theorem
+
+  pub class-free : (classOf (planOf ws) o ≡ free) ↔ Free (planOf ws) o
+  class-free = (λ q. subst Means q class-means, only-free (classOf (planOf ws) o) class-means)
+
+  pub class-local : (classOf (planOf ws) o ≡ local) ↔ Local (planOf ws) o
+  class-local = (λ q. subst Means q class-means, only-local (classOf (planOf ws) o) class-means)
+
+  pub class-global : (classOf (planOf ws) o ≡ global) ↔ Global (planOf ws) o
+  class-global = (λ q. subst Means q class-means, only-global (classOf (planOf ws) o) class-means)
+
+-- ---- 002, section 3.2: no write conflict with an operation of another desk, and none of another desk reads from it
+
+pub local-by-conflicts : (p : Plan) (o : Operation)
+    → Local p o ↔ ((Free p o → ⊥) × ((o′ : Operation) → IsOperation p o′ → OtherDesk p o o′ → (WriteConflict p o o′ → ⊥) × (ReadsFrom p o′ o → ⊥)))
+local-by-conflicts p o = (
+  λ l. (l .0, λ o′ i d. (λ w. l .1 (w .0) (w .1) o′ i d (inr (w .2)), λ r. l .1 (r .0) (r .2) o′ i d (inl (r .1)))),
+  λ l. (
+    l .0,
+    λ c m o′ i d t.
+        ⊎-elim (λ (r : MayRead p o′ c). l .1 o′ i d .1 (c, r, m)) (λ (w : MayWrite p o′ c). l .1 o′ i d .0 (c, m, w)) t,
+  ),
+)
+
+-- "With one desk nothing is global."
+pub one-desk-no-global : (ws : List ℕ) → planVerdict ws ≡ accepted → planOf ws .desks ≡ 1 → (o : Operation) → Global (planOf ws) o → ⊥
+one-desk-no-global ws e n o g =
+    g .1 (g .0, λ c m o′ i other t. other (omega (arith, desk-low (planOf ws) o (some-desk ws e), desk-low (planOf ws) o′ (some-desk ws e))))

@@ -1,0 +1,188 @@
+-- The computed test of touching says just what the papers say: some operation of that desk may access the cell.
+-- Assumes nothing.
+use mathlib.Core.Path.{_≡_, refl, _∙_, sym, ap, subst}
+use mathlib.Core.Bool.{Bool, true, false, _&&_, cond, false≢true}
+use mathlib.Core.List.{List, List·Memᴰ}
+use Prim.Native.Nat.{ℕ, _+_, _*_, _/_, _%_, _^_, _≤_, _<_}
+use native.Mathlib.Nat.{mod-lt}
+use native.Mathlib.Omega.{arith}
+use lib.Dec.{ltb, eqb}
+use lib.ListN.{length, getD}
+use borrow.Author.Tests.{eq-eqb, lt-ltb, eqb-true, ltb-true, leb-true}
+use Rattle.word.specs.Field.{headTransactions}
+use Rattle.plan.specs.Plan.{Source, param, fixed, Access, Step, cell, operand, Partitioning, byParam, unpartitioned, Transaction, Plan, noTransaction, transactionAt}
+use Rattle.plan.specs.Decode.{planOf, headOf}
+use Rattle.plan.specs.Admission.{every, accepted, planVerdict, parametersExist, partExists, stepExists, sourceExists}
+use Rattle.plan.specs.Place.{transactionFrom, transactionPlace}
+use Rattle.plan.proofs.Bool.{and-fst, and-snd, and-true}
+use Rattle.plan.proofs.Every.{every-index, every-member}
+use Rattle.plan.proofs.Accepted.{accepted-gives, all-named, transaction-count, desk-count}
+use Rattle.plan.proofs.Places.{stands-at, transaction-is}
+use Rattle.plan.proofs.Words.{transaction-params}
+use Rattle.operation.specs.Operation.{Operation, operation, transactionOf, valueOf, deskBy, deskOf, cellNumber, cellsNamed}
+use Rattle.operation.specs.Admission.{IsOperation, rowInRange}
+use Rattle.operation.proofs.Admitted.{transaction-below, rows-passed, is-operation}
+use Rattle.operation.proofs.Cells.{names-of, of-names}
+use Rattle.operation.proofs.Bounds.{FieldsFit, AllFit, transaction-fits}
+use Rattle.conflict.specs.Touch.{counted, rowTouched, cellTouched, stepTouches, stepsTouch, transactionsTouch}
+use Rattle.conflict.proofs.Some.{member-some, some-member, index-some, some-index}
+use Rattle.conflict.proofs.Witness.{witness, witness-four, witness-low, witness-passes, desk-below, witness-row, witness-desk}
+
+-- an operation of desk d names the cell by an access that counts
+pub record Accesses (least : ℕ) (p : Plan) (d c : ℕ) : Type 0 where
+  pub op : Operation
+  pub is : IsOperation p op
+  pub desk : deskOf p op ≡ d
+  pub access : Access
+  pub counts : counted least access ≡ true
+  pub names : List·Memᴰ c (cellsNamed access (op .params) (transactionOf p op .steps))
+
+-- ---- what an accepted plan says of each of its transactions
+
+record Sound (t : Transaction) : Type 0 where
+  pub few : t .params ≤ 4
+  pub fits : AllFit (t .steps)
+  pub exist : parametersExist t ≡ true
+
+sound-at : (ws : List ℕ) → planVerdict ws ≡ accepted → (k : ℕ) → k < length (planOf ws .transactions) → Sound (transactionAt (planOf ws) k)
+sound-at ws e k h =
+    let l : k < headTransactions (headOf ws) = omega (arith, transaction-count ws e) in
+    let s = stands-at ws e k l in
+    let i = transaction-is ws e k l in
+    record {
+      few = subst (λ (t : Transaction). t .params ≤ 4) (sym i) (transaction-params _ (s .form));
+      fits = subst (λ (t : Transaction). AllFit (t .steps)) (sym i) (transaction-fits ws (transactionPlace ws k));
+      exist = every-index parametersExist (planOf ws .transactions) k noTransaction (all-named ws e) h;
+    }
+
+-- ---- an operation's cell is found by the test
+
+cell-parts : (t v k : ℕ) → v < 32 → k < 4
+    → (cellNumber t v k / 128 ≡ t) × (cellNumber t v k % 4 ≡ k) × (cellNumber t v k / 4 % 32 ≡ v)
+cell-parts t v k hv hk = (omega arith, omega arith, omega arith)
+
+row-found : (n : ℕ) (q : Partitioning) (r : Source) (ps : List ℕ) (d : ℕ) → 1 ≤ n → deskBy n q ps ≡ d → rowTouched n q r (valueOf ps r) d ≡ true
+unfolding rowTouched
+row-found n (byParam q) (fixed v) ps d h e = simp (eq-eqb v v refl) (lt-ltb d n (subst (λ (x : ℕ). x < n) e (mod-lt (getD ps q 0) h)))
+row-found n (byParam q) (param i) ps d h e = go (eqb i q) refl
+  where
+    go : (b : Bool) → eqb i q ≡ b → cond (eqb i q) (eqb d (getD ps i 0 % n)) (ltb d n) ≡ true
+    go true s = simp s (eq-eqb d (getD ps i 0 % n) (sym e ∙ ap (λ (j : ℕ). getD ps j 0 % n) (sym (eqb-true i q s))))
+    go false s = simp s (lt-ltb d n (subst (λ (x : ℕ). x < n) e (mod-lt (getD ps q 0) h)))
+row-found n unpartitioned (fixed v) ps d h e = simp (eq-eqb v v refl) (eq-eqb d 0 (sym e))
+row-found n unpartitioned (param i) ps d h e = eq-eqb d 0 (sym e)
+
+value-low : (ps : List ℕ) (a : Access) (t k : ℕ) (r : Source) → FieldsFit (cell a t k r) → rowInRange ps (cell a t k r) ≡ true
+    → (k < 4) × (valueOf ps r < 32)
+unfolding rowInRange
+value-low ps a t k (param i) f e = let h = leb-true (getD ps i 0) 31 e in (f .1, omega arith)
+value-low ps a t k (fixed v) f e = (f .1, f .2)
+
+cell-found : (n : ℕ) (q : Partitioning) (t k : ℕ) (r : Source) (ps : List ℕ) (d c : ℕ) → 1 ≤ n → (k < 4) × (valueOf ps r < 32)
+    → deskBy n q ps ≡ d → c ≡ cellNumber t (valueOf ps r) k → cellTouched n q t k r c d ≡ true
+unfolding cellTouched
+cell-found n q t k r ps d c h b e s =
+    let g = cell-parts t (valueOf ps r) k (b .1) (b .0) in
+    simp (s, g .0, g .1, g .2, eq-eqb t t refl, eq-eqb k k refl) (row-found n q r ps d h e)
+
+-- ---- an operation is made for each cell that the test finds
+
+record CellStep (least n : ℕ) (t : Transaction) (d c : ℕ) : Type 0 where
+  pub access : Access
+  pub table : ℕ
+  pub column : ℕ
+  pub row : Source
+  pub step : List·Memᴰ (cell access table column row) (t .steps)
+  pub counts : counted least access ≡ true
+  pub in-table : c / 128 ≡ table
+  pub in-column : c % 4 ≡ column
+  pub in-row : rowTouched n (t .part) row (c / 4 % 32) d ≡ true
+
+step-of : (least n : ℕ) (t : Transaction) (d c : ℕ) (s : Step) → List·Memᴰ s (t .steps) → stepTouches least n (t .part) s c d ≡ true → CellStep least n t d c
+unfolding stepTouches cellTouched
+step-of least n t d c (cell a tab col r) m e =
+    let f = and-snd (counted least a) _ e in
+    let g = and-snd (eqb (c / 128) tab) _ f in
+    record {
+      access = a;
+      table = tab;
+      column = col;
+      row = r;
+      step = m;
+      counts = and-fst (counted least a) _ e;
+      in-table = eqb-true (c / 128) tab (and-fst _ _ f);
+      in-column = eqb-true (c % 4) col (and-fst _ _ g);
+      in-row = and-snd (eqb (c % 4) col) _ g;
+    }
+step-of least n t d c (operand f v) m e = absurd (false≢true e)
+
+cell-back : (c t k r : ℕ) → c / 128 ≡ t → c % 4 ≡ k → c / 4 % 32 ≡ r → c ≡ cellNumber t r k
+cell-back c t k r a b e = omega arith
+
+source-exists : (t : Transaction) (a : Access) (tab col : ℕ) (r : Source) → parametersExist t ≡ true → List·Memᴰ (cell a tab col r) (t .steps)
+    → sourceExists (t .params) r ≡ true
+unfolding parametersExist stepExists
+source-exists t a tab col r e m =
+    every-member (stepExists (t .params)) (t .steps) (cell a tab col r) (and-snd (partExists (t .params) (t .part)) _ e) m
+
+part-exists : (t : Transaction) → parametersExist t ≡ true → partExists (t .params) (t .part) ≡ true
+unfolding parametersExist
+part-exists t e = and-fst (partExists (t .params) (t .part)) _ e
+
+module _ (least : ℕ) (p : Plan) (k d c : ℕ) (lo : 1 ≤ p .desks) (hi : p .desks ≤ 8) (below : k < length (p .transactions)) where
+  made : Sound (transactionAt p k) → CellStep least (p .desks) (transactionAt p k) d c → Accesses least p d c
+  made s m =
+      let t = transactionAt p k in
+      let l : d < 32 = omega (arith, desk-below (p .desks) (t .part) (m .row) (c / 4 % 32) d lo (m .in-row)) in
+      let rn = source-exists t (m .access) (m .table) (m .column) (m .row) (s .exist) (m .step) in
+      let pn = part-exists t (s .exist) in
+      let ps = witness (t .part) (m .row) (c / 4 % 32) d in
+      record {
+        op = operation k ps;
+        is = is-operation p k ps (witness-four (t .part) (m .row) (c / 4 % 32) d)
+            (λ i. omega (arith, witness-low (t .part) (m .row) (c / 4 % 32) d (omega arith) l i)) below
+            (witness-passes t (m .row) (c / 4 % 32) d rn pn (omega arith) l);
+        desk = witness-desk (p .desks) (t .params) (t .part) (m .row) (c / 4 % 32) d (s .few) pn lo (m .in-row);
+        access = m .access;
+        counts = m .counts;
+        names = subst (λ (x : ℕ). List·Memᴰ x (cellsNamed (m .access) ps (t .steps)))
+            (sym (cell-back c (m .table) (m .column) (valueOf ps (m .row)) (m .in-table) (m .in-column)
+            (sym (witness-row (p .desks) (t .params) (t .part) (m .row) (c / 4 % 32) d (s .few) rn (m .in-row)))))
+            (of-names (m .access) ps (t .steps) (m .table) (m .column) (m .row) (m .step));
+      }
+
+-- ---- the theorem
+
+-- whether an operation of desk d may access the cell, as the mask has it
+abbrev pub touched : ℕ → Plan → ℕ → ℕ → Bool
+touched least p c d = transactionsTouch least (p .desks) (p .transactions) c d
+
+module _ (ws : List ℕ) (e : planVerdict ws ≡ accepted) where
+  pub some-desk : 1 ≤ planOf ws .desks
+  some-desk = omega (arith, desk-count ws, accepted-gives ws e .desks-low)
+
+  few-desks : planOf ws .desks ≤ 8
+  few-desks = omega (arith, desk-count ws, accepted-gives ws e .desks-high)
+
+  module _ (least d c : ℕ) where
+    pub touched-gives : touched least (planOf ws) c d ≡ true → Accesses least (planOf ws) d c
+    touched-gives h =
+        let i = some-index (λ t. stepsTouch least (planOf ws .desks) (t .part) (t .steps) c d) (planOf ws .transactions) noTransaction h in
+        let t = transactionAt (planOf ws) (i .0) in
+        let j = some-member (λ s. stepTouches least (planOf ws .desks) (t .part) s c d) (t .steps) (i .2) in
+        made least (planOf ws) (i .0) d c some-desk few-desks (i .1) (sound-at ws e (i .0) (i .1))
+        (step-of least (planOf ws .desks) t d c (j .0) (j .1) (j .2))
+
+    pub gives-touched : Accesses least (planOf ws) d c → touched least (planOf ws) c d ≡ true
+    unfolding stepTouches
+    gives-touched a =
+        let p = planOf ws in
+        let t = transactionOf p (a .op) in
+        let l = transaction-below p (a .op) (a .is) in
+        let n = names-of (a .access) (a .op .params) (t .steps) c (a .names) in
+        let v = value-low (a .op .params) (a .access) (n .table) (n .column) (n .row) (sound-at ws e (a .op .transaction) l .fits _ (n .step))
+        (every-member (rowInRange (a .op .params)) (t .steps) _ (rows-passed p (a .op) (a .is)) (n .step)) in
+        index-some (λ t. stepsTouch least (p .desks) (t .part) (t .steps) c d) (p .transactions) (a .op .transaction) noTransaction l
+        (member-some (λ s. stepTouches least (p .desks) (t .part) s c d) (cell (a .access) (n .table) (n .column) (n .row)) (t .steps) (n .step)
+        (and-true (counted least (a .access)) _ (a .counts)
+        (cell-found (p .desks) (t .part) (n .table) (n .column) (n .row) (a .op .params) d c some-desk v (a .desk) (n .is))))
