@@ -19,7 +19,8 @@ use Rattle.operation.specs.Admission.{IsOperation}
 use Rattle.operation.proofs.Cells.{names-of, of-names}
 use Rattle.conflict.specs.Mask.{some}
 use Rattle.conflict.specs.Touch.{touchMask, writeMask}
-use Rattle.conflict.specs.Class.{OtherDesk, Free, Local, Global, WriteConflict, ReadsFrom, Class, free, local, global, isWrite, onesAre, classBy, classOf}
+use Rattle.conflict.specs.Class.{OtherDesk, Free, Local, Global, WriteConflict, ReadsFrom, Class, free, local, global, isWrite}
+use Rattle.conflict.specs.Class.{onesAre, classBy, classOf}
 use Rattle.conflict.proofs.Some.{member-some, some-member}
 use Rattle.conflict.proofs.MaskMeaning.{desk-low, one-desk, no-writer}
 use Rattle.conflict.proofs.Touching.{some-desk}
@@ -35,8 +36,11 @@ module _ (p : Plan) (o : Operation) where
   writes-some : some isWrite (transactionOf p o .steps) ≡ true → (c : ℕ) × MayWrite p o c
   writes-some e =
       let m = some-member isWrite (transactionOf p o .steps) e in
-      let w = write-shape (m .0) (m .2) in
-      (_, of-names writes (o .params) (transactionOf p o .steps) (w .0) (w .1) (w .2) (subst (λ (s : Step). List·Memᴰ s (transactionOf p o .steps)) (w .3) (m .1)))
+      let w = write-shape (m .0) (m .2) in (
+        _,
+        of-names writes (o .params) (transactionOf p o .steps) (w .0) (w .1) (w .2)
+            (subst (λ (s : Step). List·Memᴰ s (transactionOf p o .steps)) (w .3) (m .1)),
+      )
 
   writes-none : some isWrite (transactionOf p o .steps) ≡ false → (c : ℕ) → MayWrite p o c → ⊥
   writes-none e c m =
@@ -51,7 +55,8 @@ module _ (ws : List ℕ) (e : planVerdict ws ≡ accepted) (o : Operation) (i : 
   -- no operation of another desk may touch a cell that it may write
   abbrev Alone : Type 0
   Alone =
-      (c : ℕ) → MayWrite (planOf ws) o c → (o′ : Operation) → IsOperation (planOf ws) o′ → OtherDesk (planOf ws) o o′ → MayTouch (planOf ws) o′ c → ⊥
+      (c : ℕ) → MayWrite (planOf ws) o c → (o′ : Operation) → IsOperation (planOf ws) o′ → OtherDesk (planOf ws) o o′
+      → MayTouch (planOf ws) o′ c → ⊥
 
   -- ---- the two computed tests
 
@@ -65,13 +70,17 @@ module _ (ws : List ℕ) (e : planVerdict ws ≡ accepted) (o : Operation) (i : 
 
   alone : onesAre 1 (touchMask (planOf ws)) (writeSet (planOf ws) o) ≡ true → Alone
   alone h c m o′ i′ other t =
-      let k = one-desk ws e c .0 (eqb-true _ _ (every-member (λ c. eqb (ones (touchMask (planOf ws) c)) 1) (writeSet (planOf ws) o) c h m)) in
+      let k = one-desk ws e c .0 (eqb-true _ _ (every-member (λ c. eqb (ones (touchMask (planOf ws) c)) 1)
+      (writeSet (planOf ws) o) c h m)) in
       other (k .1 .1 o′ i′ t ∙ sym (k .1 .1 o i (inr m)))
 
   of-alone : Alone → onesAre 1 (touchMask (planOf ws)) (writeSet (planOf ws) o) ≡ true
   of-alone h =
       member-every (λ c. eqb (ones (touchMask (planOf ws) c)) 1) (writeSet (planOf ws) o)
-      (λ c m. eq-eqb _ _ (one-desk ws e c .1 (deskOf (planOf ws) o, ((o, i, refl, inr m), λ o′ i′ t. same c m o′ i′ t (ℕ-discrete (deskOf (planOf ws) o′) (deskOf (planOf ws) o))))))
+      (λ c m. eq-eqb _ _ (one-desk ws e c .1 (
+        deskOf (planOf ws) o,
+        ((o, i, refl, inr m), λ o′ i′ t. same c m o′ i′ t (ℕ-discrete (deskOf (planOf ws) o′) (deskOf (planOf ws) o))),
+      )))
     where
       same : (c : ℕ) → MayWrite (planOf ws) o c → (o′ : Operation) → IsOperation (planOf ws) o′ → MayTouch (planOf ws) o′ c
           → Dec (deskOf (planOf ws) o′ ≡ deskOf (planOf ws) o) → deskOf (planOf ws) o′ ≡ deskOf (planOf ws) o
@@ -91,7 +100,8 @@ module _ (ws : List ℕ) (e : planVerdict ws ≡ accepted) (o : Operation) (i : 
       go (some isWrite (transactionOf (planOf ws) o .steps)) (onesAre 1 (touchMask (planOf ws)) (writeSet (planOf ws) o))
       (onesAre 0 (writeMask (planOf ws)) (readSet (planOf ws) o)) refl refl refl
     where
-      go : (w a q : Bool) → some isWrite (transactionOf (planOf ws) o .steps) ≡ w → onesAre 1 (touchMask (planOf ws)) (writeSet (planOf ws) o) ≡ a
+      go : (w a q : Bool) → some isWrite (transactionOf (planOf ws) o .steps) ≡ w
+          → onesAre 1 (touchMask (planOf ws)) (writeSet (planOf ws) o) ≡ a
           → onesAre 0 (writeMask (planOf ws)) (readSet (planOf ws) o) ≡ q → Means (cond w (cond a local global) (cond q free local))
       go true true q ew ea eq = (λ f. f .0 (writes-some (planOf ws) o ew .0) (writes-some (planOf ws) o ew .1), alone ea)
       go true false q ew ea eq =
@@ -129,7 +139,8 @@ module _ (ws : List ℕ) (e : planVerdict ws ≡ accepted) (o : Operation) (i : 
 -- ---- 002, section 3.2: no write conflict with an operation of another desk, and none of another desk reads from it
 
 pub local-by-conflicts : (p : Plan) (o : Operation)
-    → Local p o ↔ ((Free p o → ⊥) × ((o′ : Operation) → IsOperation p o′ → OtherDesk p o o′ → (WriteConflict p o o′ → ⊥) × (ReadsFrom p o′ o → ⊥)))
+    → Local p o ↔ ((Free p o → ⊥) × ((o′ : Operation) → IsOperation p o′ → OtherDesk p o o′ → (WriteConflict p o o′ → ⊥)
+    × (ReadsFrom p o′ o → ⊥)))
 local-by-conflicts p o = (
   λ l. (l .0, λ o′ i d. (λ w. l .1 (w .0) (w .1) o′ i d (inr (w .2)), λ r. l .1 (r .0) (r .2) o′ i d (inl (r .1)))),
   λ l. (
@@ -142,4 +153,12 @@ local-by-conflicts p o = (
 -- "With one desk nothing is global."
 pub one-desk-no-global : (ws : List ℕ) → planVerdict ws ≡ accepted → planOf ws .desks ≡ 1 → (o : Operation) → Global (planOf ws) o → ⊥
 one-desk-no-global ws e n o g =
-    g .1 (g .0, λ c m o′ i other t. other (omega (arith, desk-low (planOf ws) o (some-desk ws e), desk-low (planOf ws) o′ (some-desk ws e))))
+    g .1 (
+      g .0,
+      λ c m o′ i other t. other (omega (
+        arith,
+        desk-low (planOf ws) o (some-desk ws e),
+        desk-low (planOf ws) o′
+            (some-desk ws e),
+      )),
+    )

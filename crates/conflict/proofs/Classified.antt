@@ -40,7 +40,8 @@ module _ (ws : List ℕ) (k : ℕ) (ps : List ℕ) where
       unfolding classifyResult operationVerdict
       parameters-refused f = rw (e, h, transaction-is ws e k below, sym i, f)
 
-      pub classified : (c : Class) (d : ℕ) → parametersPass (transactionFrom ws at) ps ≡ true → c ≡ classBy (planOf ws) (transactionFrom ws at) ps
+      pub classified : (c : Class) (d : ℕ) → parametersPass (transactionFrom ws at) ps ≡ true → c
+          ≡ classBy (planOf ws) (transactionFrom ws at) ps
           → d ≡ deskBy (headDesks (headOf ws)) (partBy (partitioningField (getD ws at 0))) ps → withDesk c d ≡ classifyResult ws k ps
       unfolding classifyResult operationVerdict
       classified c d f g j =

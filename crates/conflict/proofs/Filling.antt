@@ -40,14 +40,16 @@ pub record LeftIn (least n : ℕ) (q : Partitioning) (m k : ℕ) (ws l : List �
   pub steps : every stepFormed (take m ws) ≡ true
   pub form : wellFormed k (drop m ws) ≡ true
   pub cells : (c : ℕ) → c < 1024
-      → bitOr (getD l c 0) (maskOf n (λ d. stepsTouch least n q (map stepOf (take m ws)) c d || transactionsTouch least n (transactionsOf k (drop m ws)) c d)) ≡ goal c
+      → bitOr (getD l c 0) (maskOf n (λ d. stepsTouch least n q (map stepOf (take m ws)) c d || transactionsTouch least n
+      (transactionsOf k (drop m ws)) c d)) ≡ goal c
 
 module _ (least n : ℕ) (goal : ℕ → ℕ) where
   left-nil : (k : ℕ) (l : List ℕ) → Left least n (suc k) [] l goal → ⊥
   unfolding wellFormed
   left-nil k l f = let e = f .form in let z : _≡_ {A = ℕ} 0 1 = cc in omega arith
 
-  left-enter : (k w : ℕ) (ws l : List ℕ) → Left least n (suc k) (w ∷ ws) l goal → LeftIn least n (partBy (partitioningField w)) (stepCount w) k ws l goal
+  left-enter : (k w : ℕ) (ws l : List ℕ) → Left least n (suc k) (w ∷ ws) l goal
+      → LeftIn least n (partBy (partitioningField w)) (stepCount w) k ws l goal
   unfolding wellFormed transactionsOf some
   left-enter k w ws l f =
       let a = and-snd (transactionFormed w) _ (f .form) in
@@ -77,10 +79,13 @@ module _ (least n : ℕ) (goal : ℕ → ℕ) where
     steps = and-snd (stepFormed w) _ (f .steps);
     form = f .form;
     cells = λ c h.
-        ap (λ (x : ℕ). bitOr x (maskOf n (λ d. stepsTouch least n q (map stepOf (take m ws)) c d || transactionsTouch least n (transactionsOf k (drop m ws)) c d))) (j .cells c h)
+        ap (λ (x : ℕ). bitOr x (maskOf n (λ d. stepsTouch least n q (map stepOf (take m ws)) c d || transactionsTouch least n
+        (transactionsOf k (drop m ws)) c d))) (j .cells c h)
         ∙ sym (mask-split (getD l c 0) n (stepTouches least n q (stepOf w) c)
         (λ d. stepsTouch least n q (map stepOf (take m ws)) c d || transactionsTouch least n (transactionsOf k (drop m ws)) c d))
-        ∙ ap (bitOr (getD l c 0)) (mask-ext n _ _ (λ d. sym (or-assoc (stepTouches least n q (stepOf w) c d) (stepsTouch least n q (map stepOf (take m ws)) c d) (transactionsTouch least n (transactionsOf k (drop m ws)) c d))))
+        ∙ ap (bitOr (getD l c 0)) (mask-ext n _ _ (λ d. sym
+        (or-assoc (stepTouches least n q (stepOf w) c d) (stepsTouch least n q (map stepOf (take m ws)) c d)
+        (transactionsTouch least n (transactionsOf k (drop m ws)) c d))))
         ∙ f .cells c h;
   }
 
@@ -115,12 +120,17 @@ start least plan e = record {
 
 module _ (least : ℕ) (plan : List ℕ) (n txs t at : ℕ) (l : List ℕ) (f : Filling least plan n txs t at l) where
   enter-both : t < txs
-      → (at < length plan) × LeftIn least n (partBy (partitioningField (getD plan at 0))) (stepCount (getD plan at 0)) (txs - (t + 1)) (drop (at + 1) plan) l (deskMask least (planOf plan))
+      → (at < length plan) × LeftIn least n (partBy (partitioningField (getD plan at 0))) (stepCount (getD plan at 0)) (txs - (t + 1))
+      (drop (at + 1) plan) l (deskMask least (planOf plan))
   enter-both h =
       ⊎-elim
-      (λ (e : drop at plan ≡ []). absurd (left-nil least n (deskMask least (planOf plan)) (txs - (t + 1)) l (rw (left-suc txs t h, e) at (f .left))))
-      (λ (e : (at < length plan) × (drop at plan ≡ getD plan at 0 ∷ drop (at + 1) plan)).
-      (e .0, left-enter least n (deskMask least (planOf plan)) (txs - (t + 1)) (getD plan at 0) (drop (at + 1) plan) l (rw (left-suc txs t h, e .1) at (f .left))))
+      (λ (e : drop at plan ≡ []). absurd (left-nil least n (deskMask least (planOf plan)) (txs - (t + 1)) l
+      (rw (left-suc txs t h, e) at (f .left))))
+      (λ (e : (at < length plan) × (drop at plan ≡ getD plan at 0 ∷ drop (at + 1) plan)). (
+        e .0,
+        left-enter least n (deskMask least (planOf plan)) (txs - (t + 1)) (getD plan at 0) (drop (at + 1) plan) l
+            (rw (left-suc txs t h, e .1) at (f .left)),
+      ))
       (at-place plan at)
 
   pub enter-here : t < txs → at < length plan
@@ -132,15 +142,18 @@ module _ (least : ℕ) (plan : List ℕ) (n txs t at : ℕ) (l : List ℕ) (f : 
   pub done : txs ≤ t → l ≡ maskTable least (planOf plan)
   done h =
       let e : txs - t ≡ 0 = omega arith in
-      whole-table (deskMask least (planOf plan)) l (f .left .long) (left-done least n (deskMask least (planOf plan)) (drop at plan) l (rw e at (f .left)))
+      whole-table (deskMask least (planOf plan)) l (f .left .long)
+      (left-done least n (deskMask least (planOf plan)) (drop at plan) l (rw e at (f .left)))
 
 module _ (least : ℕ) (plan : List ℕ) (n part steps s txs t at : ℕ) (l : List ℕ) (f : FillingIn least plan n part steps s txs t at l) where
   at-step : s < steps
-      → (at < length plan) × LeftIn least n (partBy part) (suc (steps - (s + 1))) (txs - (t + 1)) (getD plan at 0 ∷ drop (at + 1) plan) l (deskMask least (planOf plan))
+      → (at < length plan) × LeftIn least n (partBy part) (suc (steps - (s + 1))) (txs - (t + 1))
+      (getD plan at 0 ∷ drop (at + 1) plan) l (deskMask least (planOf plan))
   at-step h =
       ⊎-elim
       (λ (e : drop at plan ≡ []). absurd (omega (arith, f .left .enough, ap length e)))
-      (λ (e : (at < length plan) × (drop at plan ≡ getD plan at 0 ∷ drop (at + 1) plan)). (e .0, rw (left-suc steps s h, e .1) at (f .left)))
+      (λ (e : (at < length plan) × (drop at plan ≡ getD plan at 0 ∷ drop (at + 1) plan)).
+      (e .0, rw (left-suc steps s h, e .1) at (f .left)))
       (at-place plan at)
 
   pub step-here : s < steps → at < length plan
@@ -148,16 +161,19 @@ module _ (least : ℕ) (plan : List ℕ) (n part steps s txs t at : ℕ) (l : Li
 
   pub step-is-formed : s < steps → stepFormed (getD plan at 0) ≡ true
   step-is-formed h =
-      in-form least n (deskMask least (planOf plan)) (partBy part) (steps - (s + 1)) (txs - (t + 1)) (getD plan at 0) (drop (at + 1) plan) l (at-step h .1)
+      in-form least n (deskMask least (planOf plan)) (partBy part) (steps - (s + 1)) (txs - (t + 1)) (getD plan at 0)
+      (drop (at + 1) plan) l (at-step h .1)
 
   pub step-on : (l′ : List ℕ) → s < steps → Joined l l′ (λ c. maskOf n (stepTouches least n (partBy part) (stepOf (getD plan at 0)) c))
       → FillingIn least plan n part steps (s + 1) txs t (at + 1) l′
   step-on l′ h j = record {
-    left = in-step least n (deskMask least (planOf plan)) (partBy part) (steps - (s + 1)) (txs - (t + 1)) (getD plan at 0) (drop (at + 1) plan) l l′ (at-step h .1) j;
+    left = in-step least n (deskMask least (planOf plan)) (partBy part) (steps - (s + 1)) (txs - (t + 1)) (getD plan at 0)
+        (drop (at + 1) plan) l l′ (at-step h .1) j;
   }
 
   pub leave : steps ≤ s → Filling least plan n txs (t + 1) at l
   leave h = record {
     left = in-leave least n (deskMask least (planOf plan)) (partBy part) (txs - (t + 1)) (drop at plan) l
-        (subst (λ (m : ℕ). LeftIn least n (partBy part) m (txs - (t + 1)) (drop at plan) l (deskMask least (planOf plan))) (omega arith) (f .left));
+        (subst (λ (m : ℕ). LeftIn least n (partBy part) m (txs - (t + 1)) (drop at plan) l (deskMask least (planOf plan))) (omega arith)
+        (f .left));
   }

@@ -37,7 +37,8 @@ step-cell : (least n : ℕ) (q : Partitioning) (w c d : ℕ) → stepFormed w �
 unfolding stepOf stepTouches
 step-cell least n q w c d f hi =
     rw (le-leb (kindOf w) 4 hi)
-    (ap (λ (b : Bool). b && cellTouched n q (tableField w) (columnField w) (rowOf w) c d) (counted-kind least (kindOf w) (step-kind-low w f) hi))
+    (ap (λ (b : Bool). b && cellTouched n q (tableField w) (columnField w) (rowOf w) c d)
+    (counted-kind least (kindOf w) (step-kind-low w f) hi))
 
 step-operand : (least n : ℕ) (q : Partitioning) (w c d : ℕ) → 4 < kindOf w → stepTouches least n q (stepOf w) c d ≡ false
 unfolding stepOf stepTouches
@@ -52,7 +53,8 @@ module _ (least n : ℕ) (q : Partitioning) (w : ℕ) (l : List ℕ) (long : len
   pub operand-marks-none : 4 < kindOf w → Joined l l (λ c. maskOf n (stepTouches least n q (stepOf w) c))
   operand-marks-none h = record { long = long; cells = λ c k. unmarked least n q w c (getD l c 0) (λ d. step-operand least n q w c d h) }
 
-  pub uncounted-marks-none : stepFormed w ≡ true → kindOf w ≤ 4 → kindOf w < least → Joined l l (λ c. maskOf n (stepTouches least n q (stepOf w) c))
+  pub uncounted-marks-none : stepFormed w ≡ true → kindOf w ≤ 4 → kindOf w < least
+      → Joined l l (λ c. maskOf n (stepTouches least n q (stepOf w) c))
   uncounted-marks-none f hi h = record {
     long = long;
     cells = λ c k. unmarked least n q w c (getD l c 0) (λ d. step-cell least n q w c d f hi ∙ simp (lt-leb least (kindOf w) h));
@@ -74,10 +76,12 @@ unfolding rowsMask
 marked-none l n q w e = record {
   long = e;
   cells = λ c h.
-      sym (ap (bitOr (getD l c 0)) (mask-ext n _ (λ d. false) (λ d. simp (le-ltb (c / 4 % 32) 0 (omega arith))) ∙ mask-none n) ∙ or-zero-r (getD l c 0));
+      sym (ap (bitOr (getD l c 0)) (mask-ext n _ (λ d. false) (λ d. simp (le-ltb (c / 4 % 32) 0 (omega arith))) ∙ mask-none n)
+      ∙ or-zero-r (getD l c 0));
 }
 
-pub marked-all : (least : ℕ) (l₀ l : List ℕ) (n : ℕ) (q : Partitioning) (w row : ℕ) → stepFormed w ≡ true → kindOf w ≤ 4 → least ≤ kindOf w → 32 ≤ row
+pub marked-all : (least : ℕ) (l₀ l : List ℕ) (n : ℕ) (q : Partitioning) (w row : ℕ) → stepFormed w ≡ true → kindOf w ≤ 4
+    → least ≤ kindOf w → 32 ≤ row
     → Marked l₀ l n q w row → Joined l₀ l (λ c. maskOf n (stepTouches least n q (stepOf w) c))
 unfolding rowsMask
 marked-all least l₀ l n q w row f hi lo r m = record {
@@ -85,7 +89,8 @@ marked-all least l₀ l n q w row f hi lo r m = record {
   cells = λ c h.
       m .cells c h
       ∙ ap (bitOr (getD l₀ c 0))
-      (mask-ext n _ _ (λ d. simp (lt-ltb (c / 4 % 32) row (omega arith)) (sym (step-cell least n q w c d f hi ∙ simp (le-leb least (kindOf w) lo)))));
+      (mask-ext n _ _ (λ d. simp (lt-ltb (c / 4 % 32) row (omega arith))
+      (sym (step-cell least n q w c d f hi ∙ simp (le-leb least (kindOf w) lo)))));
 }
 
 -- the cell of this row
@@ -109,26 +114,43 @@ module _ (n : ℕ) (q : Partitioning) (w row c : ℕ) (small : row < 32) (in-tab
       (λ d. let r : c / 4 % 32 ≡ row = omega arith in
       let a : c / 128 ≡ tableField w = omega arith in
       let b : c % 4 ≡ columnField w = omega arith in
-      simp (r, a, b, eq-eqb (tableField w) (tableField w) refl, eq-eqb (columnField w) (columnField w) refl, lt-ltb row (row + 1) (omega arith)))
+      simp (
+        r,
+        a,
+        b,
+        eq-eqb (tableField w) (tableField w) refl,
+        eq-eqb (columnField w) (columnField w) refl,
+        lt-ltb row (row + 1)
+            (omega arith),
+      ))
 
   -- elsewhere: as before
   elsewhere : (c ≡ cellAt w row → ⊥) → rowsMask n q w (row + 1) c ≡ rowsMask n q w row c
   unfolding rowsMask cellTouched
-  elsewhere ne = mask-ext n _ _ (λ d. go d (eqb (c / 4 % 32) row) (eqb (c / 128) (tableField w)) (eqb (c % 4) (columnField w)) refl refl refl)
+  elsewhere ne = mask-ext n _ _ (λ d. go d (eqb (c / 4 % 32) row) (eqb (c / 128) (tableField w))
+      (eqb (c % 4) (columnField w)) refl refl refl)
     where
       go : (d : ℕ) (x a b : Bool) → eqb (c / 4 % 32) row ≡ x → eqb (c / 128) (tableField w) ≡ a → eqb (c % 4) (columnField w) ≡ b
-          → (ltb (c / 4 % 32) (row + 1) && (eqb (c / 128) (tableField w) && (eqb (c % 4) (columnField w) && rowTouched n q (rowOf w) (c / 4 % 32) d)))
-          ≡ (ltb (c / 4 % 32) row && (eqb (c / 128) (tableField w) && (eqb (c % 4) (columnField w) && rowTouched n q (rowOf w) (c / 4 % 32) d)))
+          → (ltb (c / 4 % 32) (row + 1) && (eqb (c / 128)
+          (tableField w) && (eqb (c % 4) (columnField w) && rowTouched n q (rowOf w) (c / 4 % 32) d)))
+          ≡ (ltb (c / 4 % 32) row && (eqb (c / 128)
+          (tableField w) && (eqb (c % 4) (columnField w) && rowTouched n q (rowOf w) (c / 4 % 32) d)))
       go d true true true ex ea eb =
-          absurd (ne (cell-back c (tableField w) (columnField w) row (eqb-true (c / 128) (tableField w) ea) (eqb-true (c % 4) (columnField w) eb) (eqb-true (c / 4 % 32) row ex)))
+          absurd (ne (cell-back c (tableField w) (columnField w) row (eqb-true (c / 128) (tableField w) ea)
+          (eqb-true (c % 4) (columnField w) eb) (eqb-true (c / 4 % 32) row ex)))
       go d true true false ex ea eb = simp (ea, eb, and-false)
       go d true false b ex ea eb = simp (ea, and-false)
       go d false a b ex ea eb =
           ⊎-elim (λ (l : c / 4 % 32 < row). simp (lt-ltb (c / 4 % 32) row l, lt-ltb (c / 4 % 32) (row + 1) (omega arith)))
-          (λ (g : row ≤ c / 4 % 32). simp (le-ltb (c / 4 % 32) row g, le-ltb (c / 4 % 32) (row + 1) (omega (arith, eqb-false (c / 4 % 32) row ex))))
+          (λ (g : row ≤ c / 4 % 32). simp (
+            le-ltb (c / 4 % 32) row g,
+            le-ltb (c / 4 % 32) (row + 1)
+                (omega (arith, eqb-false (c / 4 % 32) row ex)),
+          ))
           (lt-or-ge (c / 4 % 32) row)
 
-pub marked-more : (l₀ l : List ℕ) (n : ℕ) (q : Partitioning) (w row m : ℕ) → row < 32 → m ≡ maskOf n (rowTouched n q (rowOf w) row) → Marked l₀ l n q w row
+pub marked-more : (l₀ l : List ℕ) (n : ℕ) (q : Partitioning) (w row m : ℕ) → row < 32 → m ≡ maskOf n (rowTouched n q (rowOf w) row)
+    → Marked l₀ l n q w row
     → Marked l₀ (set l (cellAt w row) (bitOr (getD l (cellAt w row) 0) m)) n q w (row + 1)
 marked-more l₀ l n q w row m small e k = record {
   long = length-set l _ _ ∙ k .long;
@@ -141,7 +163,8 @@ marked-more l₀ l n q w row m small e k = record {
         ap (λ (i : ℕ). getD (set l (cellAt w row) (bitOr (getD l (cellAt w row) 0) m)) i 0) s
         ∙ getD-set-same l (cellAt w row) (bitOr (getD l (cellAt w row) 0) m) 0 (omega (arith, k .long))
         ∙ ap₂ bitOr
-        (ap (λ (i : ℕ). getD l i 0) (sym s) ∙ k .cells c h ∙ ap (bitOr (getD l₀ c 0)) (before-here n q w row c small h s) ∙ or-zero-r (getD l₀ c 0))
+        (ap (λ (i : ℕ). getD l i 0) (sym s) ∙ k .cells c h ∙ ap (bitOr (getD l₀ c 0)) (before-here n q w row c small h s)
+        ∙ or-zero-r (getD l₀ c 0))
         (e ∙ sym (after-here n q w row c small h s))
     here-or-not c h (no s) =
         getD-set-other l (cellAt w row) c (bitOr (getD l (cellAt w row) 0) m) 0 s

@@ -40,7 +40,8 @@ module _ (p : Plan) (d c : ℕ) where
   touch-by o reads m = inl m
   touch-by o writes m = inr m
 
-  write-by : (o : Operation) (a : Access) → counted 4 a ≡ true → List·Memᴰ c (cellsNamed a (o .params) (transactionOf p o .steps)) → MayWrite p o c
+  write-by : (o : Operation) (a : Access) → counted 4 a ≡ true → List·Memᴰ c (cellsNamed a (o .params) (transactionOf p o .steps))
+      → MayWrite p o c
   write-by o reads e m = absurd (false≢true e)
   write-by o writes e m = m
 
@@ -116,5 +117,6 @@ module _ (ws : List ℕ) (e : planVerdict ws ≡ accepted) (c : ℕ) where
       let n = ones-mask (p .desks) (touched 4 p c) in (
         λ o o′ i m. none-of-count (p .desks) (touched 4 p c) (sym n ∙ o) (deskOf p o′) (desk-low p o′ (some-desk ws e))
             (gives-touched ws e 4 (deskOf p o′) c (of-writer p (deskOf p o′) c (o′, i, refl, m))),
-        λ f. n ∙ count-of-none (p .desks) (touched 4 p c) (λ d l h. let u = writer-of p d c (touched-gives ws e 4 d c h) in f (u .0) (u .1) (u .3)),
+        λ f. n ∙ count-of-none (p .desks) (touched 4 p c)
+            (λ d l h. let u = writer-of p d c (touched-gives ws e 4 d c h) in f (u .0) (u .1) (u .3)),
       )

@@ -90,23 +90,27 @@ module _ (ws : List ℕ) (at : ℕ) (p : StandsAt ws at) where
   module _ (ps : List ℕ) (k : ℕ) (low : 3 ≤ k) (high : k ≤ 4) (n : ℕ) (mask : ℕ → ℕ) (s : ℕ) where
     ones-here : s < stepCount (getD ws at 0) → kindOf (getD ws (at + 1 + s) 0) ≡ k
         → onesAre n mask (cellsNamed (accessBy k) ps (stepsFrom ws at s))
-        ≡ (eqb (ones (mask (cellOf ps (getD ws (at + 1 + s) 0)))) n && onesAre n mask (cellsNamed (accessBy k) ps (stepsFrom ws at (s + 1))))
+        ≡ (eqb (ones (mask (cellOf ps (getD ws (at + 1 + s) 0)))) n && onesAre n mask
+        (cellsNamed (accessBy k) ps (stepsFrom ws at (s + 1))))
     unfolding every
     ones-here h e =
         ap (λ (ss : List Step). onesAre n mask (cellsNamed (accessBy k) ps ss)) (steps-cons ws at s p h)
         ∙ ap (onesAre n mask) (named-here k low high ps (getD ws (at + 1 + s) 0) (stepsFrom ws at (s + 1)) (step-formed ws at s p h) e)
 
-    module _ (h : s < stepCount (getD ws at 0)) (e : kindOf (getD ws (at + 1 + s) 0) ≡ k) (c x : ℕ) (i : c ≡ cellOf ps (getD ws (at + 1 + s) 0))
+    module _ (h : s < stepCount (getD ws at 0)) (e : kindOf (getD ws (at + 1 + s) 0) ≡ k) (c x : ℕ)
+        (i : c ≡ cellOf ps (getD ws (at + 1 + s) 0))
         (q : x ≡ ones (mask c)) where
       pub ones-fail : (x ≡ n → ⊥) → onesAre n mask (cellsNamed (accessBy k) ps (stepsFrom ws at s)) ≡ false
       ones-fail f = ones-here h e ∙ rw (← i, ← q, ne-eqb x n f)
 
       pub ones-pass : x ≡ n
-          → onesAre n mask (cellsNamed (accessBy k) ps (stepsFrom ws at s)) ≡ onesAre n mask (cellsNamed (accessBy k) ps (stepsFrom ws at (s + 1)))
+          → onesAre n mask (cellsNamed (accessBy k) ps (stepsFrom ws at s))
+          ≡ onesAre n mask (cellsNamed (accessBy k) ps (stepsFrom ws at (s + 1)))
       ones-pass f = ones-here h e ∙ rw (← i, ← q, eq-eqb x n f)
 
     pub ones-other : s < stepCount (getD ws at 0) → (kindOf (getD ws (at + 1 + s) 0) ≡ k → ⊥)
-        → onesAre n mask (cellsNamed (accessBy k) ps (stepsFrom ws at s)) ≡ onesAre n mask (cellsNamed (accessBy k) ps (stepsFrom ws at (s + 1)))
+        → onesAre n mask (cellsNamed (accessBy k) ps (stepsFrom ws at s))
+        ≡ onesAre n mask (cellsNamed (accessBy k) ps (stepsFrom ws at (s + 1)))
     ones-other h e =
         ap (λ (ss : List Step). onesAre n mask (cellsNamed (accessBy k) ps ss)) (steps-cons ws at s p h)
         ∙ ap (onesAre n mask) (named-other k low high ps (getD ws (at + 1 + s) 0) (stepsFrom ws at (s + 1)) (step-formed ws at s p h) e)

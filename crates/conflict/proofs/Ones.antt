@@ -59,7 +59,8 @@ one-of-count (suc n) f z = go (f n) refl (one-of-count n f)
           n,
           omega arith,
           q,
-          λ e h t. ⊎-elim (λ (s : e ≡ n). s) (λ (l : e < n). absurd (none-of-count n f (omega arith) e l t)) (eq-or-lt-of-le (le-of-suc-le-suc h)),
+          λ e h t. ⊎-elim (λ (s : e ≡ n). s) (λ (l : e < n). absurd (none-of-count n f (omega arith) e l t))
+              (eq-or-lt-of-le (le-of-suc-le-suc h)),
         )
     go false q r =
         let b : bit (f n) ≡ 0 = ap bit q in
@@ -67,7 +68,8 @@ one-of-count (suc n) f z = go (f n) refl (one-of-count n f)
           k .0,
           omega (arith, k .1),
           k .2,
-          λ e h t. ⊎-elim (λ (s : e ≡ n). absurd (false≢true (sym q ∙ ap f (sym s) ∙ t))) (λ (l : e < n). k .3 e l t) (eq-or-lt-of-le (le-of-suc-le-suc h)),
+          λ e h t. ⊎-elim (λ (s : e ≡ n). absurd (false≢true (sym q ∙ ap f (sym s) ∙ t))) (λ (l : e < n). k .3 e l t)
+              (eq-or-lt-of-le (le-of-suc-le-suc h)),
         )
 
 pub count-of-one : (n : ℕ) (f : ℕ → Bool) → OnlyOne n f → countOf n f ≡ 1

@@ -25,7 +25,8 @@ zeroTest n = leb n 0 || eqb 1 (maskOf n (λ d. eqb d 0))
 
 pub zero-law : (n : ℕ) → 1 ≤ n → n ≤ 8 → 1 ≡ maskOf n (λ d. eqb d 0)
 unfolding maskOf
-zero-law n lo hi = eqb→eq _ _ (or-second (leb n 0) (eqb 1 (maskOf n (λ d. eqb d 0))) (lt-leb n 0 (omega arith)) (at 9 zeroTest tt n (omega arith)))
+zero-law n lo hi = eqb→eq _ _ (or-second (leb n 0) (eqb 1 (maskOf n (λ d. eqb d 0))) (lt-leb n 0 (omega arith))
+    (at 9 zeroTest tt n (omega arith)))
 
 -- all desks below n, and one desk below n, in a table
 abbrev pub allTest : List ℕ → Bool

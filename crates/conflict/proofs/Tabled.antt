@@ -28,7 +28,8 @@ ones-tabled least p k a ws at ps e =
     every-same _ _ (cellsNamed a ps (transactionFrom ws at .steps))
     (λ c m. ap (λ (x : ℕ). eqb (ones x) k)
     (getD-tabulate 1024 (deskMask least p) c
-    (cells-low a ps (transactionFrom ws at .steps) (transaction-fits ws at) (and-snd (unusedZero (transactionFrom ws at .params) ps) _ e) c m)))
+    (cells-low a ps (transactionFrom ws at .steps) (transaction-fits ws at)
+    (and-snd (unusedZero (transactionFrom ws at .params) ps) _ e) c m)))
 
 -- ---- the class, by what the two tests found
 
@@ -39,7 +40,8 @@ module _ (ws : List ℕ) (at : ℕ) (ps : List ℕ) (e : parametersPass (transac
   unfolding classBy
   class-writing b l t w h =
       rw w (ap (λ (x : Bool). cond x local global)
-      (h ∙ ap (λ (m : List ℕ). onesAre 1 (λ c. getD m c 0) (cellsNamed writes ps (transactionFrom ws at .steps))) t ∙ ones-tabled 3 p 1 writes ws at ps e))
+      (h ∙ ap (λ (m : List ℕ). onesAre 1 (λ c. getD m c 0) (cellsNamed writes ps (transactionFrom ws at .steps))) t
+      ∙ ones-tabled 3 p 1 writes ws at ps e))
 
   pub class-reading : (b : Bool) (l : List ℕ) → l ≡ maskTable 4 p → some isWrite (transactionFrom ws at .steps) ≡ false
       → b ≡ onesAre 0 (λ c. getD l c 0) (cellsNamed reads ps (transactionFrom ws at .steps))
@@ -47,4 +49,5 @@ module _ (ws : List ℕ) (at : ℕ) (ps : List ℕ) (e : parametersPass (transac
   unfolding classBy
   class-reading b l t w h =
       rw w (ap (λ (x : Bool). cond x free local)
-      (h ∙ ap (λ (m : List ℕ). onesAre 0 (λ c. getD m c 0) (cellsNamed reads ps (transactionFrom ws at .steps))) t ∙ ones-tabled 4 p 0 reads ws at ps e))
+      (h ∙ ap (λ (m : List ℕ). onesAre 0 (λ c. getD m c 0) (cellsNamed reads ps (transactionFrom ws at .steps))) t
+      ∙ ones-tabled 4 p 0 reads ws at ps e))

@@ -20,7 +20,8 @@ unfolding tabulate
 getD-tabulate zero f i h = absurd (not-suc-le-zero h)
 getD-tabulate (suc n) f i h =
     ⊎-elim
-    (λ (e : i ≡ n). ap (λ (j : ℕ). getD (tabulate n f ++ (f n ∷ [])) j 0) (e ∙ sym (length-tabulate n f)) ∙ getD-append-seam (tabulate n f) (f n) [] 0 ∙ ap f (sym e))
+    (λ (e : i ≡ n). ap (λ (j : ℕ). getD (tabulate n f ++ (f n ∷ [])) j 0) (e ∙ sym (length-tabulate n f))
+    ∙ getD-append-seam (tabulate n f) (f n) [] 0 ∙ ap f (sym e))
     (λ (l : i < n). List·getD-append (tabulate n f) (f n ∷ []) 0 i (omega (arith, length-tabulate n f)) ∙ getD-tabulate n f i l)
     (eq-or-lt-of-le (le-of-suc-le-suc h))
 

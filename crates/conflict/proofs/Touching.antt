@@ -10,7 +10,8 @@ use lib.Dec.{ltb, eqb}
 use lib.ListN.{length, getD}
 use borrow.Author.Tests.{eq-eqb, lt-ltb, eqb-true, ltb-true, leb-true}
 use Rattle.word.specs.Field.{headTransactions}
-use Rattle.plan.specs.Plan.{Source, param, fixed, Access, Step, cell, operand, Partitioning, byParam, unpartitioned, Transaction, Plan, noTransaction, transactionAt}
+use Rattle.plan.specs.Plan.{Source, param, fixed, Access, Step, cell, operand, Partitioning, byParam, unpartitioned, Transaction, Plan}
+use Rattle.plan.specs.Plan.{noTransaction, transactionAt}
 use Rattle.plan.specs.Decode.{planOf, headOf}
 use Rattle.plan.specs.Admission.{every, accepted, planVerdict, parametersExist, partExists, stepExists, sourceExists}
 use Rattle.plan.specs.Place.{transactionFrom, transactionPlace}
@@ -61,7 +62,8 @@ cell-parts : (t v k : ℕ) → v < 32 → k < 4
     → (cellNumber t v k / 128 ≡ t) × (cellNumber t v k % 4 ≡ k) × (cellNumber t v k / 4 % 32 ≡ v)
 cell-parts t v k hv hk = (omega arith, omega arith, omega arith)
 
-row-found : (n : ℕ) (q : Partitioning) (r : Source) (ps : List ℕ) (d : ℕ) → 1 ≤ n → deskBy n q ps ≡ d → rowTouched n q r (valueOf ps r) d ≡ true
+row-found : (n : ℕ) (q : Partitioning) (r : Source) (ps : List ℕ) (d : ℕ) → 1 ≤ n → deskBy n q ps ≡ d
+    → rowTouched n q r (valueOf ps r) d ≡ true
 unfolding rowTouched
 row-found n (byParam q) (fixed v) ps d h e = simp (eq-eqb v v refl) (lt-ltb d n (subst (λ (x : ℕ). x < n) e (mod-lt (getD ps q 0) h)))
 row-found n (byParam q) (param i) ps d h e = go (eqb i q) refl
@@ -98,7 +100,8 @@ record CellStep (least n : ℕ) (t : Transaction) (d c : ℕ) : Type 0 where
   pub in-column : c % 4 ≡ column
   pub in-row : rowTouched n (t .part) row (c / 4 % 32) d ≡ true
 
-step-of : (least n : ℕ) (t : Transaction) (d c : ℕ) (s : Step) → List·Memᴰ s (t .steps) → stepTouches least n (t .part) s c d ≡ true → CellStep least n t d c
+step-of : (least n : ℕ) (t : Transaction) (d c : ℕ) (s : Step) → List·Memᴰ s (t .steps) → stepTouches least n (t .part) s c d ≡ true
+    → CellStep least n t d c
 unfolding stepTouches cellTouched
 step-of least n t d c (cell a tab col r) m e =
     let f = and-snd (counted least a) _ e in
@@ -119,7 +122,8 @@ step-of least n t d c (operand f v) m e = absurd (false≢true e)
 cell-back : (c t k r : ℕ) → c / 128 ≡ t → c % 4 ≡ k → c / 4 % 32 ≡ r → c ≡ cellNumber t r k
 cell-back c t k r a b e = omega arith
 
-source-exists : (t : Transaction) (a : Access) (tab col : ℕ) (r : Source) → parametersExist t ≡ true → List·Memᴰ (cell a tab col r) (t .steps)
+source-exists : (t : Transaction) (a : Access) (tab col : ℕ) (r : Source) → parametersExist t ≡ true
+    → List·Memᴰ (cell a tab col r) (t .steps)
     → sourceExists (t .params) r ≡ true
 unfolding parametersExist stepExists
 source-exists t a tab col r e m =
@@ -180,9 +184,11 @@ module _ (ws : List ℕ) (e : planVerdict ws ≡ accepted) where
         let t = transactionOf p (a .op) in
         let l = transaction-below p (a .op) (a .is) in
         let n = names-of (a .access) (a .op .params) (t .steps) c (a .names) in
-        let v = value-low (a .op .params) (a .access) (n .table) (n .column) (n .row) (sound-at ws e (a .op .transaction) l .fits _ (n .step))
+        let v = value-low (a .op .params) (a .access) (n .table) (n .column) (n .row)
+        (sound-at ws e (a .op .transaction) l .fits _ (n .step))
         (every-member (rowInRange (a .op .params)) (t .steps) _ (rows-passed p (a .op) (a .is)) (n .step)) in
         index-some (λ t. stepsTouch least (p .desks) (t .part) (t .steps) c d) (p .transactions) (a .op .transaction) noTransaction l
-        (member-some (λ s. stepTouches least (p .desks) (t .part) s c d) (cell (a .access) (n .table) (n .column) (n .row)) (t .steps) (n .step)
+        (member-some (λ s. stepTouches least (p .desks) (t .part) s c d) (cell (a .access) (n .table) (n .column) (n .row)) (t .steps)
+        (n .step)
         (and-true (counted least (a .access)) _ (a .counts)
         (cell-found (p .desks) (t .part) (n .table) (n .column) (n .row) (a .op .params) d c some-desk v (a .desk) (n .is))))

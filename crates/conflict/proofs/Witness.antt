@@ -92,7 +92,8 @@ rows-pass ps h (cell a t c (param i)) = le-leb (getD ps i 0) 31 (h i)
 rows-pass ps h (cell a t c (fixed v)) = refl
 rows-pass ps h (operand f v) = refl
 
-pub witness-passes : (t : Transaction) (r : Source) (row d : ℕ) → sourceExists (t .params) r ≡ true → partExists (t .params) (t .part) ≡ true
+pub witness-passes : (t : Transaction) (r : Source) (row d : ℕ) → sourceExists (t .params) r ≡ true → partExists (t .params) (t .part)
+    ≡ true
     → row < 32 → d < 32 → parametersPass t (witness (t .part) r row d) ≡ true
 unfolding parametersPass unusedZero witness valueAt
 witness-passes t r row d rn pn hr hd =
@@ -105,7 +106,8 @@ witness-passes t r row d rn pn hr hd =
     zero-from : (j : ℕ) → t .params ≤ j → getD (witness (t .part) r row d) j 0 ≡ 0
     zero-from j h =
         ⊎-elim
-        (λ (l : j < 4). four-at (valueAt (t .part) r row d) j l ∙ simp (row-unused (t .params) r j rn h, part-unused (t .params) (t .part) j pn h))
+        (λ (l : j < 4). four-at (valueAt (t .part) r row d) j l
+        ∙ simp (row-unused (t .params) r j rn h, part-unused (t .params) (t .part) j pn h))
         (λ (g : 4 ≤ j). four-past (valueAt (t .part) r row d) j g) (lt-or-ge j 4)
 
 -- ---- its desk, and the row that it gives
@@ -130,7 +132,8 @@ witness-row n p q (param i) row d few e t =
 witness-row n p (byParam q) (fixed v) row d few e t = sym (eqb-true row v (and-fst _ _ t))
 witness-row n p unpartitioned (fixed v) row d few e t = sym (eqb-true row v (and-fst _ _ t))
 
-pub witness-desk : (n p : ℕ) (q : Partitioning) (r : Source) (row d : ℕ) → p ≤ 4 → partExists p q ≡ true → 1 ≤ n → rowTouched n q r row d ≡ true
+pub witness-desk : (n p : ℕ) (q : Partitioning) (r : Source) (row d : ℕ) → p ≤ 4 → partExists p q ≡ true → 1 ≤ n
+    → rowTouched n q r row d ≡ true
     → deskBy n q (witness q r row d) ≡ d
 unfolding rowTouched partExists witness valueAt isRow isPart
 witness-desk n p (byParam j) (fixed v) row d few e h t =
@@ -144,7 +147,8 @@ witness-desk n p (byParam j) (param i) row d few e h t = go (ℕ-discrete i j)
         ∙ sym (eqb-true d (row % n) (simp (eq-eqb i j s) at t))
     go (no s) =
         ap (λ (x : ℕ). x % n)
-        (four-at (valueAt (byParam j) (param i) row d) j (omega (arith, ltb-true j p e)) ∙ simp (ne-eqb j i (λ k. s (sym k)), eq-eqb j j refl))
+        (four-at (valueAt (byParam j) (param i) row d) j (omega (arith, ltb-true j p e))
+        ∙ simp (ne-eqb j i (λ k. s (sym k)), eq-eqb j j refl))
         ∙ mod-eq-of-lt (ltb-true d n (simp (ne-eqb i j s) at t))
 witness-desk n p unpartitioned (fixed v) row d few e h t = sym (eqb-true d 0 (and-snd (eqb row v) _ t))
 witness-desk n p unpartitioned (param i) row d few e h t = sym (eqb-true d 0 t)

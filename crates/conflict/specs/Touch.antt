@@ -7,7 +7,8 @@ use mathlib.Core.List.{List, [], _∷_, _++_}
 use lib.Bits.{bitOr}
 use lib.ListN.{length, getD}
 use lib.Dec.{ltb, leb, eqb}
-use Rattle.plan.specs.Plan.{Source, param, fixed, Access, reads, writes, Step, cell, operand, Partitioning, byParam, unpartitioned, Transaction, Plan}
+use Rattle.plan.specs.Plan.{Source, param, fixed, Access, reads, writes, Step, cell, operand, Partitioning, byParam, unpartitioned}
+use Rattle.plan.specs.Plan.{Transaction, Plan}
 use Rattle.conflict.specs.Mask.{maskOf, some}
 
 -- "3 read, 4 write"

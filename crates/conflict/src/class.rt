@@ -55,8 +55,10 @@ fn desks_in(mask: u8) -> u32
 
 // Whether each cell that the steps of this kind name has this many desks in its mask.
 fn ones_are(plan: &[u32], at: usize, params: [u32; 4], kind: u32, masks: &[u8], desks: u32) -> bool
-    requires { ⌜ StandsAt (now plan) at × (parametersPass (transactionFrom (now plan) at) params ≡ true) × (3 ≤ kind) × (kind ≤ 4) × (length (now masks) ≡ 1024) ⌝ }
-    ensures { λ r. ⌜ r ≡ onesAre desks (λ c. getD (now (masks .entry)) c 0) (cellsNamed (accessBy kind) params (transactionFrom (now (plan .entry)) at .steps)) ⌝ }
+    requires { ⌜ StandsAt (now plan) at × (parametersPass (transactionFrom (now plan) at) params ≡ true)
+        × (3 ≤ kind) × (kind ≤ 4) × (length (now masks) ≡ 1024) ⌝ }
+    ensures { λ r. ⌜ r ≡ onesAre desks (λ c. getD (now (masks .entry)) c 0)
+        (cellsNamed (accessBy kind) params (transactionFrom (now (plan .entry)) at .steps)) ⌝ }
 {
     let steps = (plan[at] / fields::STEPS % 16) as usize;
     let mut s: usize = 0;
@@ -75,7 +77,8 @@ fn ones_are(plan: &[u32], at: usize, params: [u32; 4], kind: u32, masks: &[u8], 
 
 // The class of an operation of the transaction at this place. One table of masks is filled.
 pub fn class_of(plan: &[u32], at: usize, params: [u32; 4]) -> Class
-    requires { ⌜ (planVerdict (now plan) ≡ accepted) × StandsAt (now plan) at × (parametersPass (transactionFrom (now plan) at) params ≡ true) ⌝ }
+    requires { ⌜ (planVerdict (now plan) ≡ accepted) × StandsAt (now plan) at
+        × (parametersPass (transactionFrom (now plan) at) params ≡ true) ⌝ }
     ensures { λ r. ⌜ classOfCode r ≡ classBy (planOf (now (plan .entry))) (transactionFrom (now (plan .entry)) at) params ⌝ }
 {
     if has_write(plan, at) {

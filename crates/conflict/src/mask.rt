@@ -13,7 +13,8 @@ use word::fields;
 // Joins the desks of the step in this word to the masks of the cells that it names, if its kind is counted.
 fn mark(table: &mut [u8; 1024], word: u32, partitioning: u32, desks: u32, least: u32)
     requires { ⌜ (1 ≤ desks) × (desks ≤ 8) × (stepFormed word ≡ true) × (length (now table) ≡ 1024) ⌝ }
-    ensures { λ r. ⌜ Joined (now (table .entry)) (now (table .exit)) (λ c. maskOf desks (stepTouches least desks (partBy partitioning) (stepOf word) c)) ⌝ }
+    ensures { λ r. ⌜ Joined (now (table .entry)) (now (table .exit))
+        (λ c. maskOf desks (stepTouches least desks (partBy partitioning) (stepOf word) c)) ⌝ }
 {
     let kind = word / fields::KIND;
     if 4 < kind {

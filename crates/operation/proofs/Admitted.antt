@@ -23,7 +23,8 @@ module _ (p : Plan) (o : Operation) (i : IsOperation p o) where
   -- 8
   pub parameters-passed : parametersPass (transactionOf p o) (o .params) ≡ true
   unfolding operationVerdict
-  parameters-passed = yes-of (parametersPass (transactionOf p o) (o .params)) _ 8 (yes-of (transactionExists p (o .transaction)) _ 7 (i .passes) .1) .0
+  parameters-passed = yes-of (parametersPass (transactionOf p o) (o .params)) _ 8
+      (yes-of (transactionExists p (o .transaction)) _ 7 (i .passes) .1) .0
 
   pub rows-passed : every (rowInRange (o .params)) (transactionOf p o .steps) ≡ true
   unfolding parametersPass

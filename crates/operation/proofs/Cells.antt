@@ -53,7 +53,8 @@ module _ (a : Access) (ps : List ℕ) where
           (λ (n : List·Memᴰ c (cellsNamed a ps ss)). later (cell b t k r) ss c (rest n)) (List·Memᴰ·cases-cons h)
       go false e h rest = later (cell b t k r) ss c (rest h)
 
-  pub of-names : (ss : List Step) (t k : ℕ) (r : Source) → List·Memᴰ (cell a t k r) ss → List·Memᴰ (cellNumber t (valueOf ps r) k) (cellsNamed a ps ss)
+  pub of-names : (ss : List Step) (t k : ℕ) (r : Source) → List·Memᴰ (cell a t k r) ss
+      → List·Memᴰ (cellNumber t (valueOf ps r) k) (cellsNamed a ps ss)
   unfolding cellsNamed
   of-names (s ∷ ss) t k r (List·Memᴰ·head p) =
       subst (λ (x : Step). List·Memᴰ (cellNumber t (valueOf ps r) k) (cellsNamed a ps (x ∷ ss))) p (rw (same-self a) (List·Memᴰ·head refl))

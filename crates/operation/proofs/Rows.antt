@@ -28,7 +28,8 @@ module _ (ws : List ℕ) (at : ℕ) (ps : List ℕ) where
 
   module _ (s : ℕ) (q : Asking s) where
     rest-here : s < stepCount (getD ws at 0)
-        → parametersPass (transactionFrom ws at) ps ≡ (rowInRange ps (stepOf (getD ws (at + 1 + s) 0)) && every (rowInRange ps) (stepsFrom ws at (s + 1)))
+        → parametersPass (transactionFrom ws at) ps
+        ≡ (rowInRange ps (stepOf (getD ws (at + 1 + s) 0)) && every (rowInRange ps) (stepsFrom ws at (s + 1)))
     unfolding every
     rest-here h = q .rest ∙ rw (steps-cons ws at s (q .whole) h)
 

@@ -4,7 +4,8 @@ use mathlib.Core.Bool.{Bool, true, false, cond}
 use mathlib.Core.List.{List, [], _∷_, List·Memᴰ}
 use mathlib.Core.Logic.{_⊎_}
 use lib.ListN.{getD}
-use Rattle.plan.specs.Plan.{Source, param, fixed, Access, reads, writes, Step, cell, operand, Partitioning, byParam, unpartitioned, Transaction, Plan, transactionAt}
+use Rattle.plan.specs.Plan.{Source, param, fixed, Access, reads, writes, Step, cell, operand, Partitioning, byParam, unpartitioned}
+use Rattle.plan.specs.Plan.{Transaction, Plan, transactionAt}
 
 -- the number of a transaction, and parameter words
 pub record Operation : Type 0 where

@@ -10,7 +10,8 @@ use lib.ListN.{length, take, drop}
 use borrow.Author.Tests.{leb-true}
 use Rattle.word.specs.Field.{kindOf, headDesks, headTransactions, headWords, stepCount}
 use Rattle.plan.specs.Decode.{headOf, transactionsOf, planOf}
-use Rattle.plan.specs.Admission.{Verdict, accepted, refused, hasHead, countsInRange, wellFormed, transactionFormed, stepFormed, every}
+use Rattle.plan.specs.Admission.{Verdict, accepted, refused, hasHead, countsInRange, wellFormed, transactionFormed, stepFormed}
+use Rattle.plan.specs.Admission.{every}
 use Rattle.plan.specs.Admission.{parametersExist, transactionsVerdict, planVerdict}
 use Rattle.plan.proofs.Bool.{and-fst, and-snd}
 

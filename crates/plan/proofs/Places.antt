@@ -30,7 +30,8 @@ lt-or-ge a b = go (ltb a b) refl
 pub left-suc : (n k : ℕ) → k < n → n - k ≡ suc (n - (k + 1))
 left-suc n k h = omega arith
 
-pub place-next : (ws : List ℕ) (k : ℕ) → transactionPlace ws (k + 1) ≡ transactionPlace ws k + 1 + stepCount (getD ws (transactionPlace ws k) 0)
+pub place-next : (ws : List ℕ) (k : ℕ) → transactionPlace ws (k + 1)
+    ≡ transactionPlace ws k + 1 + stepCount (getD ws (transactionPlace ws k) 0)
 unfolding transactionPlace
 place-next ws k = rw add-one
 

@@ -14,7 +14,8 @@ use lib.ListN.{length, getD, take, drop, drop-of-length-le}
 use lib.Seq.{drop-cons}
 use Rattle.word.specs.Field.{parameterCount, stepCount, partitioningField}
 use Rattle.plan.specs.Decode.{transactionsOf, stepOf, partBy}
-use Rattle.plan.specs.Admission.{Verdict, accepted, refused, every, wellFormed, parametersExist, transactionFormed, stepFormed, stepExists, partExists}
+use Rattle.plan.specs.Admission.{Verdict, accepted, refused, every, wellFormed, parametersExist, transactionFormed, stepFormed}
+use Rattle.plan.specs.Admission.{stepExists, partExists}
 use Rattle.plan.specs.Admission.{transactionsVerdict}
 
 -- the verdict when n transactions are still to come in the words ws; m: a parameter was missing already
@@ -25,7 +26,8 @@ rest n ws m = cond (wellFormed n ws) (cond (not m && every parametersExist (tran
 restIn : ℕ → ℕ → ℕ → List ℕ → Bool → Verdict
 restIn k p n ws m =
     cond (leb k (length ws) && (every stepFormed (take k ws) && wellFormed n (drop k ws)))
-    (cond (not m && (every (stepExists p) (map stepOf (take k ws)) && every parametersExist (transactionsOf n (drop k ws)))) accepted (refused 4))
+    (cond (not m && (every (stepExists p) (map stepOf (take k ws)) && every parametersExist (transactionsOf n (drop k ws)))) accepted
+    (refused 4))
     (refused 3)
 
 -- ---- one word of a list
@@ -53,7 +55,8 @@ unfolding rest wellFormed
 rest-bad n w ws m e = simp e
 
 rest-good : (n w : ℕ) (ws : List ℕ) (m : Bool) → transactionFormed w ≡ true
-    → rest (suc n) (w ∷ ws) m ≡ restIn (stepCount w) (parameterCount w) n ws (m || not (partExists (parameterCount w) (partBy (partitioningField w))))
+    → rest (suc n) (w ∷ ws) m ≡ restIn (stepCount w) (parameterCount w) n ws
+    (m || not (partExists (parameterCount w) (partBy (partitioningField w))))
 unfolding rest restIn wellFormed transactionsOf every parametersExist
 rest-good n w ws m e = simp (e, noted)
 
@@ -74,7 +77,8 @@ in-good : (k p n w : ℕ) (ws : List ℕ) (m : Bool) → stepFormed w ≡ true
 unfolding restIn every
 in-good k p n w ws m e = simp (e, noted, leb·suc-suc)
 
--- ---- the word at a place of the plan. A step's or a transaction's word is looked for at `at`: `there` says that it stands there, well wellFormed
+-- ---- the word at a place of the plan. A step's or a transaction's word is looked for at `at`: `there` says that it stands there,
+-- well wellFormed
 
 abbrev pub there : (ℕ → Bool) → List ℕ → ℕ → Bool
 there form plan at = ltb at (length plan) && form (getD plan at 0)
@@ -121,9 +125,11 @@ module _ (txs t : ℕ) (plan : List ℕ) (at : ℕ) (m : Bool) where
 
   pub tx-step : t < txs → there transactionFormed plan at ≡ true
       → restAt txs t plan at m
-      ≡ restInAt (stepCount (getD plan at 0)) 0 (parameterCount (getD plan at 0)) txs t plan (at + 1) (m || not (partExists (parameterCount (getD plan at 0)) (partBy (partitioningField (getD plan at 0)))))
+      ≡ restInAt (stepCount (getD plan at 0)) 0 (parameterCount (getD plan at 0)) txs t plan (at + 1)
+      (m || not (partExists (parameterCount (getD plan at 0)) (partBy (partitioningField (getD plan at 0)))))
   unfolding restAt restInAt
-  tx-step h f = rw (sub-zero, left-suc txs t h, stands transactionFormed plan at f .1) (rest-good (txs - (t + 1)) (getD plan at 0) (drop (at + 1) plan) m (stands transactionFormed plan at f .2))
+  tx-step h f = rw (sub-zero, left-suc txs t h, stands transactionFormed plan at f .1)
+      (rest-good (txs - (t + 1)) (getD plan at 0) (drop (at + 1) plan) m (stands transactionFormed plan at f .2))
 
   pub end-more : txs ≤ t → at < length plan → restAt txs t plan at m ≡ refused 3
   unfolding restAt
@@ -146,7 +152,8 @@ module _ (steps s p txs t : ℕ) (plan : List ℕ) (at : ℕ) (m : Bool) where
       (split-there stepFormed plan at f)
 
   pub step-step : s < steps → there stepFormed plan at ≡ true
-      → restInAt steps s p txs t plan at m ≡ restInAt steps (s + 1) p txs t plan (at + 1) (m || not (stepExists p (stepOf (getD plan at 0))))
+      → restInAt steps s p txs t plan at m ≡ restInAt steps (s + 1) p txs t plan (at + 1)
+      (m || not (stepExists p (stepOf (getD plan at 0))))
   unfolding restInAt
   step-step h f =
       rw (left-suc steps s h, stands stepFormed plan at f .1)

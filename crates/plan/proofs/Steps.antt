@@ -43,9 +43,11 @@ module _ (ws : List ℕ) (at s : ℕ) (p : StandsAt ws at) (h : s < stepCount (g
   pub step-formed : stepFormed (getD ws (at + 1 + s) 0) ≡ true
   step-formed =
       let n = stepCount (getD ws at 0) in
-      let l : length (take n (drop (at + 1) ws)) ≡ n = length-take-le n (drop (at + 1) ws) (omega (arith, p .room, length-drop (at + 1) ws)) in
+      let l : length (take n (drop (at + 1) ws)) ≡ n = length-take-le n (drop (at + 1) ws)
+      (omega (arith, p .room, length-drop (at + 1) ws)) in
       let k : s < length (take n (drop (at + 1) ws)) = omega (arith, l) in
-      rw (getD-take n (drop (at + 1) ws) s 0 h, getD-drop (at + 1) ws s 0) at (every-index stepFormed (take n (drop (at + 1) ws)) s 0 (p .steps) k)
+      rw (getD-take n (drop (at + 1) ws) s 0 h, getD-drop (at + 1) ws s 0) at
+      (every-index stepFormed (take n (drop (at + 1) ws)) s 0 (p .steps) k)
 
 -- what holds of every step holds of each, as the walk meets it
 module _ (f : Step → Bool) (ws : List ℕ) (at : ℕ) (p : StandsAt ws at) (e : every f (transactionFrom ws at .steps) ≡ true) where

@@ -54,7 +54,8 @@ returns-3 c =
     let e = c .before .before .before .before in
     let d = e .before .before .before in
     sym (ap (λ (b : Bool). cond b free local) (c .if3 .taken))
-    ∙ class-reading (d .args .plan .now) (d .args .at) (d .args .params) (d .pre .2) _ _ _ (c .before .before .before .desk-masks2 .ensures)
+    ∙ class-reading (d .args .plan .now) (d .args .at) (d .args .params) (d .pre .2) _ _ _
+    (c .before .before .before .desk-masks2 .ensures)
     (sym (e .before .has-write .ensures) ∙ e .if1 .left) (c .before .ones-are2 .ensures)
 
 returns-4 : tie.Need-returns-4
@@ -63,7 +64,8 @@ returns-4 c =
     let e = c .before .before .before .before in
     let d = e .before .before .before in
     sym (ap (λ (b : Bool). cond b free local) (c .if3 .left))
-    ∙ class-reading (d .args .plan .now) (d .args .at) (d .args .params) (d .pre .2) _ _ _ (c .before .before .before .desk-masks2 .ensures)
+    ∙ class-reading (d .args .plan .now) (d .args .at) (d .args .params) (d .pre .2) _ _ _
+    (c .before .before .before .desk-masks2 .ensures)
     (sym (e .before .has-write .ensures) ∙ e .if1 .left) (c .before .ones-are2 .ensures)
 
 pub class-of-spec : {M : Type 1} → statement M

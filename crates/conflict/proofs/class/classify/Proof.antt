@@ -51,7 +51,8 @@ transaction-place-requires : tie.Need-transaction-place-requires
 transaction-place-requires c κs = search needs
 
 there : (c : tie.Else1)
-    → transactionExists (planOf (c .before .before .before .before .before .before .args .plan .now)) (c .before .before .before .before .before .before .args .transaction) ≡ true
+    → transactionExists (planOf (c .before .before .before .before .before .before .args .plan .now))
+    (c .before .before .before .before .before .before .args .transaction) ≡ true
 there c = sym (c .before .transaction-exists .ensures) ∙ not-false _ (c .if1 .left)
 
 -- the transaction stands at its place
@@ -59,7 +60,8 @@ placed : (c : tie.After-transaction-place)
     → StandsAt (c .before .before .before .before .before .before .before .args .plan .now) (c .transaction-place .result)
 placed c =
     let d = c .before .before .before .before .before .before .before in
-    stands (d .args .plan .now) (d .args .transaction) (d .args .params) (plan-passes (c .before .before .before)) (there (c .before)) _ (c .transaction-place .ensures)
+    stands (d .args .plan .now) (d .args .transaction) (d .args .params) (plan-passes (c .before .before .before)) (there (c .before)) _
+    (c .transaction-place .ensures)
 
 parameters-pass-requires : tie.Need-parameters-pass-requires
 parameters-pass-requires c κs = placed c
@@ -68,7 +70,8 @@ returns-3 : tie.Need-returns-3
 returns-3 c =
     let e = c .before .before in
     let d = e .before .before .before .before .before .before .before in
-    sym (parameters-refused (d .args .plan .now) (d .args .transaction) (d .args .params) (plan-passes (e .before .before .before)) (there (e .before)) _
+    sym (parameters-refused (d .args .plan .now) (d .args .transaction) (d .args .params) (plan-passes (e .before .before .before))
+    (there (e .before)) _
     (e .transaction-place .ensures) (sym (c .before .parameters-pass .ensures) ∙ not-true _ (c .if2 .taken)))
 
 -- its word stands within the plan
@@ -90,7 +93,8 @@ desk-requires c κs = accepted-gives _ (plan-passes (c .before .before .before .
 
 -- question 8 is answered with yes
 passed : (c : tie.Else2)
-    → parametersPass (transactionFrom (c .before .before .before .before .before .before .before .before .before .args .plan .now) (c .before .before .transaction-place .result))
+    → parametersPass (transactionFrom (c .before .before .before .before .before .before .before .before .before .args .plan .now)
+    (c .before .before .transaction-place .result))
     (c .before .before .before .before .before .before .before .before .before .args .params) ≡ true
 passed c = sym (c .before .parameters-pass .ensures) ∙ not-false _ (c .if2 .left)
 
@@ -111,14 +115,16 @@ enum-told-4 c = search needs
 -- what the class and the desk found give together
 found : (c : tie.After-class-of)
     → withDesk (classOfCode (c .class-of .result)) (c .before .desk .result)
-    ≡ classifyResult (c .before .before .before .before .before .before .before .before .before .before .before .before .before .args .plan .now)
+    ≡ classifyResult
+    (c .before .before .before .before .before .before .before .before .before .before .before .before .before .args .plan .now)
     (c .before .before .before .before .before .before .before .before .before .before .before .before .before .args .transaction)
     (c .before .before .before .before .before .before .before .before .before .before .before .before .before .args .params)
 found c =
     let f = c .before .before .before .before in
     let e = f .before .before in
     let d = e .before .before .before .before .before .before .before in
-    classified (d .args .plan .now) (d .args .transaction) (d .args .params) (plan-passes (e .before .before .before)) (there (e .before)) _
+    classified (d .args .plan .now) (d .args .transaction) (d .args .params) (plan-passes (e .before .before .before))
+    (there (e .before)) _
     (e .transaction-place .ensures) _ _ (passed f) (c .class-of .ensures) (c .before .desk .ensures)
 
 returns-4 : tie.Need-returns-4

@@ -64,8 +64,11 @@ loop-less c = search needs
 
 loop-again : tie.Need-loop-again Inv-loop μ-loop
 loop-again c =
-    let d = c .before .before .before in
-    (d .loop .inv .0, d .loop .inv .1 ∙ writing-here _ _ (d .before .before .pre) (d .loop .s) (omega arith) ∙ simp (ne-eqb _ _ (c .if1 .left)))
+    let d = c .before .before .before in (
+      d .loop .inv .0,
+      d .loop .inv .1 ∙ writing-here _ _ (d .before .before .pre) (d .loop .s) (omega arith)
+          ∙ simp (ne-eqb _ _ (c .if1 .left)),
+    )
 
 returns-2 : tie.Need-returns-2 Inv-loop μ-loop
 returns-2 c = sym (c .before .loop .inv .1 ∙ writing-none _ _ (c .before .before .before .pre) (c .before .loop .s) (omega arith))

@@ -43,13 +43,15 @@ loop-holds : tie.Need-loop-holds Inv-loop μ-loop
 loop-holds c =
     let d = c .before .before .before in (
       refl,
-      ap (λ (ss : List Step). onesAre (d .args .desks) (λ c. getD (d .args .masks .now) c 0) (cellsNamed (accessBy (d .args .kind)) (d .args .params) ss))
+      ap (λ (ss : List Step). onesAre (d .args .desks) (λ c. getD (d .args .masks .now) c 0)
+          (cellsNamed (accessBy (d .args .kind)) (d .args .params) ss))
           (sym (steps-all (d .args .plan .now) (d .args .at))),
     )
 
 -- the step's word stands within the plan
 here : (c : tie.In-loop Inv-loop μ-loop)
-    → c .before .before .before .before .before .args .at + 1 + c .before .loop .s < length (c .before .before .before .before .before .args .plan .now)
+    → c .before .before .before .before .before .args .at + 1 + c .before .loop .s < length
+    (c .before .before .before .before .before .args .plan .now)
 here c = step-here _ _ _ (c .before .before .before .before .before .pre .0) (omega arith)
 
 add-word : tie.Need-add-word Inv-loop μ-loop
@@ -74,7 +76,8 @@ low-row : (c : tie.Then1 Inv-loop μ-loop)
     (c .before .before .before .before .before .before .before .args .at + 1 + c .before .before .before .loop .s) 0)) ≤ 31
 low-row c =
     let d = c .before .before .before in
-    row-passes _ _ (d .before .before .before .before .pre .0) _ (d .before .before .before .before .pre .1) (d .loop .s) (omega arith) (omega arith)
+    row-passes _ _ (d .before .before .before .before .pre .0) _ (d .before .before .before .before .pre .1) (d .loop .s) (omega arith)
+    (omega arith)
 
 cell-named-requires : tie.Need-cell-named-requires Inv-loop μ-loop
 cell-named-requires c κs = low-row c

@@ -58,8 +58,13 @@ shared-slice-read-mark c = step-at (c .before .before)
 mark-requires : tie.Need-mark-requires Inv-loop2 μ-loop2 Inv-loop μ-loop
 mark-requires c κs =
     let d = c .before .before in
-    let a = accepted-gives _ (d .before .before .before .before .before .before .before .pre) in
-    (a .desks-low, a .desks-high, step-is-formed _ _ _ _ _ _ _ _ _ _ (d .before .loop2 .inv) (d .loop2-test .taken), d .before .loop2 .inv .left .long)
+    let a = accepted-gives _ (d .before .before .before .before .before .before .before .pre) in (
+      a .desks-low,
+      a .desks-high,
+      step-is-formed _ _ _ _ _ _ _ _ _ _ (d .before .loop2 .inv)
+          (d .loop2-test .taken),
+      d .before .loop2 .inv .left .long,
+    )
 
 add-at-2 : tie.Need-add-at-2 Inv-loop2 μ-loop2 Inv-loop μ-loop
 add-at-2 c = let h = step-at (c .before .before .before) in omega arith

@@ -55,11 +55,13 @@ loop-less : tie.Need-loop-less Inv-loop μ-loop
 loop-less c = omega arith
 
 loop-again : tie.Need-loop-again Inv-loop μ-loop
-loop-again c = marked-more _ _ _ _ _ _ _ (c .before .before .loop-test .taken) (c .row-mask .ensures) (c .before .before .before .loop .inv)
+loop-again c = marked-more _ _ _ _ _ _ _ (c .before .before .loop-test .taken) (c .row-mask .ensures)
+    (c .before .before .before .loop .inv)
 
 returns-3 : tie.Need-returns-3 Inv-loop μ-loop
 returns-3 c =
-    marked-all _ _ _ _ _ _ _ (c .before .before .before .before .pre .2) (c .before .before .before .if1 .left) (c .before .before .if2 .left)
+    marked-all _ _ _ _ _ _ _ (c .before .before .before .before .pre .2) (c .before .before .before .if1 .left)
+    (c .before .before .if2 .left)
     (c .loop-test .left) (c .before .loop .inv)
 
 pub mark-spec : {M : Type 1} → statement M

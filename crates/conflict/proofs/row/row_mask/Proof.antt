@@ -6,7 +6,8 @@ use native.Mathlib.Nat.{mod-lt}
 use native.Mathlib.Omega.{arith}
 use borrow.Author.Tests.{eq-eqb, ne-eqb}
 use Rattle.plan.specs.Decode.{partBy}
-use Rattle.conflict.proofs.RowMasks.{zero-law, all-is, desk-is, fixed-none, fixed-unsplit, fixed-along, param-unsplit, param-same, param-other}
+use Rattle.conflict.proofs.RowMasks.{zero-law, all-is, desk-is, fixed-none, fixed-unsplit, fixed-along, param-unsplit}
+use Rattle.conflict.proofs.RowMasks.{param-same, param-other}
 use borrow.Author.Needs.{needs}
 use Rattle.conflict.proofs.row.row_mask.Statement.{statement}
 use Rattle.conflict.proofs.row.row_mask.Tie as tie

@@ -19,7 +19,8 @@ abbrev μ-loop : tie.MeasureT-loop
 μ-loop plan at params word steps s₀ s = steps - s
 
 mul-word : tie.Need-mul-word Inv-loop μ-loop
-mul-word c = let r = c .before .pre .room in let h : c .before .args .at < length (c .before .args .plan .now) = omega arith in search needs
+mul-word c = let r = c .before .pre .room in let h : c .before .args .at < length
+    (c .before .args .plan .now) = omega arith in search needs
 
 shared-slice-read-word : tie.Need-shared-slice-read-word Inv-loop μ-loop
 shared-slice-read-word c = omega (arith, c .before .before .pre .room)
@@ -30,19 +31,24 @@ unused-zero-requires c κs = search needs
 returns : tie.Need-returns Inv-loop μ-loop
 returns c =
     let d = c .before .before .before .before in
-    sym (unused-fails (d .args .plan .now) (d .args .at) (d .args .params) (sym (c .before .unused-zero .ensures) ∙ not-true _ (c .if1 .taken)))
+    sym (unused-fails (d .args .plan .now) (d .args .at) (d .args .params)
+    (sym (c .before .unused-zero .ensures) ∙ not-true _ (c .if1 .taken)))
 
 cast-steps : tie.Need-cast-steps Inv-loop μ-loop
 cast-steps c = search needs
 
 loop-holds : tie.Need-loop-holds Inv-loop μ-loop
 loop-holds c =
-    let d = c .before .before .before .before in
-    (refl, asking-start (d .args .plan .now) (d .args .at) (d .args .params) (d .pre) (sym (c .before .unused-zero .ensures) ∙ not-false _ (c .if1 .left)))
+    let d = c .before .before .before .before in (
+      refl,
+      asking-start (d .args .plan .now) (d .args .at) (d .args .params) (d .pre)
+          (sym (c .before .unused-zero .ensures) ∙ not-false _ (c .if1 .left)),
+    )
 
 -- the step's word stands within the plan
 here : (c : tie.In-loop Inv-loop μ-loop)
-    → c .before .before .before .before .before .before .args .at + 1 + c .before .loop .s < length (c .before .before .before .before .before .before .args .plan .now)
+    → c .before .before .before .before .before .before .args .at + 1 + c .before .loop .s < length
+    (c .before .before .before .before .before .before .args .plan .now)
 here c = step-here _ _ _ (c .before .loop .inv .1 .whole) (omega arith)
 
 add-row-in-range : tie.Need-add-row-in-range Inv-loop μ-loop
@@ -73,8 +79,11 @@ loop-less c = search needs
 
 loop-again : tie.Need-loop-again Inv-loop μ-loop
 loop-again c =
-    let d = c .before .before .before .before in
-    (d .loop .inv .0, asking-next _ _ _ _ (d .loop .inv .1) (omega arith) (sym (c .before .row-in-range .ensures) ∙ not-false _ (c .if2 .left)))
+    let d = c .before .before .before .before in (
+      d .loop .inv .0,
+      asking-next _ _ _ _ (d .loop .inv .1) (omega arith)
+          (sym (c .before .row-in-range .ensures) ∙ not-false _ (c .if2 .left)),
+    )
 
 returns-3 : tie.Need-returns-3 Inv-loop μ-loop
 returns-3 c = sym (asking-done _ _ _ _ (c .before .loop .inv .1) (omega arith))

@@ -47,8 +47,11 @@ loop-again : tie.Need-loop-again Inv-loop μ-loop
 loop-again c =
     let ps = c .before .before .before .args .t2 in
     let i = c .before .before .loop .i in
-    let h : i < length ps = omega arith in
-    (c .before .before .loop .inv .0, c .before .before .loop .inv .1 ∙ every-here (λ w. eqb w 0) ps i 0 h ∙ simp (eq-eqb _ _ (c .if1 .left)))
+    let h : i < length ps = omega arith in (
+      c .before .before .loop .inv .0,
+      c .before .before .loop .inv .1 ∙ every-here (λ w. eqb w 0) ps i 0 h
+          ∙ simp (eq-eqb _ _ (c .if1 .left)),
+    )
 
 returns-2 : tie.Need-returns-2 Inv-loop μ-loop
 returns-2 c =

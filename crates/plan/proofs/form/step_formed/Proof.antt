@@ -24,7 +24,13 @@ returns-3 : tie.Need-returns-3
 unfolding stepFormed
 returns-3 c =
     let d = c .before .before .before in
-    simp (le-leb _ _ (d .before .if1 .left), le-leb _ _ (d .if2 .left), ← c .before .before .source .ensures, lt-ltb _ _ (c .before .if3 .taken))
+    simp (
+      le-leb _ _ (d .before .if1 .left),
+      le-leb _ _ (d .if2 .left),
+      ← c .before .before .source .ensures,
+      lt-ltb _ _
+          (c .before .if3 .taken),
+    )
     (c .reserved-zero .ensures)
 
 returns-4 : tie.Need-returns-4

@@ -14,7 +14,8 @@ source-requires c κs = search needs
 returns : tie.Need-returns
 returns c =
     let d = c .before .before in
-    simp (step-exists (d .args .parameters) (d .args .word) (d .pre), ← c .before .source .ensures, eq-eqb _ _ (c .if1 .taken)) (sym (or-false _))
+    simp (step-exists (d .args .parameters) (d .args .word) (d .pre), ← c .before .source .ensures, eq-eqb _ _ (c .if1 .taken))
+    (sym (or-false _))
 
 returns-2 : tie.Need-returns-2
 returns-2 c =

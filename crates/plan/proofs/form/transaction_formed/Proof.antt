@@ -22,7 +22,13 @@ returns-4 : tie.Need-returns-4
 unfolding transactionFormed
 returns-4 c =
     let d = c .before .before .before in
-    simp (eq-eqb _ _ (d .if1 .left), le-leb _ _ (c .before .before .if2 .left), le-leb _ _ (c .before .if3 .left), lt-leb _ _ (c .if4 .taken))
+    simp (
+      eq-eqb _ _ (d .if1 .left),
+      le-leb _ _ (c .before .before .if2 .left),
+      le-leb _ _ (c .before .if3 .left),
+      lt-leb _ _
+          (c .if4 .taken),
+    )
 
 reserved-zero-requires : tie.Need-reserved-zero-requires
 reserved-zero-requires c κs = search needs

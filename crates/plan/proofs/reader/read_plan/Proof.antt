@@ -20,7 +20,12 @@ shared-slice-read-head c = search needs
 
 returns-3 : tie.Need-returns-3
 unfolding planVerdict hasHead
-returns-3 c = simp (le-leb _ _ (c .before .before .before .if1 .left), le-leb _ _ (c .before .before .if2 .left), ne-eqb _ _ (c .if3 .taken))
+returns-3 c = simp (
+  le-leb _ _ (c .before .before .before .if1 .left),
+  le-leb _ _ (c .before .before .if2 .left),
+  ne-eqb _ _
+      (c .if3 .taken),
+)
 
 cast-if4 : tie.Need-cast-if4
 cast-if4 c = search needs

@@ -8,7 +8,8 @@ use mathlib.Core.Logic.{⊎-elim}
 use native.Mathlib.Omega.{arith}
 use lib.ListN.{length, getD, drop}
 use Rattle.plan.specs.Admission.{transactionsVerdict, accepted, refused, transactionFormed, stepFormed}
-use Rattle.plan.proofs.Rest.{there, stands, restAt, restInAt, walk-start, tx-fault, tx-step, end-more, end-done, step-fault, step-step, steps-done}
+use Rattle.plan.proofs.Rest.{there, stands, restAt, restInAt, walk-start, tx-fault, tx-step, end-more, end-done, step-fault}
+use Rattle.plan.proofs.Rest.{step-step, steps-done}
 use borrow.Author.Needs.{needs}
 use Rattle.plan.proofs.reader.read_transactions.Statement.{statement}
 use Rattle.plan.proofs.reader.read_transactions.Tie as tie
@@ -36,12 +37,14 @@ transaction-at-requires c κs = search needs
 
 -- a well-formed transaction's word stands at the place, and so does a step's
 tx-there : (c : tie.Else1 Inv-loop μ-loop Inv-transactions μ-transactions)
-    → there transactionFormed (c .before .before .before .before .before .args .plan .now) (c .before .before .before .transactions .at) ≡ true
+    → there transactionFormed (c .before .before .before .before .before .args .plan .now) (c .before .before .before .transactions .at)
+    ≡ true
 tx-there c = sym (c .before .transaction-at .ensures) ∙ not-false _ (c .if1 .left)
 
 tx-here : (c : tie.Else1 Inv-loop μ-loop Inv-transactions μ-transactions)
     → c .before .before .before .transactions .at < length (c .before .before .before .before .before .args .plan .now)
-tx-here c = stands transactionFormed (c .before .before .before .before .before .args .plan .now) (c .before .before .before .transactions .at) (tx-there c) .0
+tx-here c = stands transactionFormed (c .before .before .before .before .before .args .plan .now)
+    (c .before .before .before .transactions .at) (tx-there c) .0
 
 mul-word : tie.Need-mul-word Inv-loop μ-loop Inv-transactions μ-transactions
 mul-word c = let h = tx-here c in search needs
@@ -60,19 +63,23 @@ add-at c = let h = tx-here (c .before .before) in omega arith
 loop-holds : tie.Need-loop-holds Inv-loop μ-loop Inv-transactions μ-transactions
 loop-holds c =
     let d = c .before .before in
-    rw (c .partitioning-missing .ensures) (sym (tx-step _ _ _ _ _ (d .before .before .transactions-test .taken) (tx-there d)) ∙ d .before .before .before .transactions .inv)
+    rw (c .partitioning-missing .ensures) (sym (tx-step _ _ _ _ _ (d .before .before .transactions-test .taken) (tx-there d))
+    ∙ d .before .before .before .transactions .inv)
 
 step-at-requires : tie.Need-step-at-requires Inv-loop μ-loop Inv-transactions μ-transactions
 step-at-requires c κs = search needs
 
 step-there : (c : tie.Else2 Inv-loop μ-loop Inv-transactions μ-transactions)
-    → there stepFormed (c .before .before .before .before .before .before .before .before .before .before .before .args .plan .now) (c .before .before .before .loop .at) ≡ true
+    → there stepFormed (c .before .before .before .before .before .before .before .before .before .before .before .args .plan .now)
+    (c .before .before .before .loop .at) ≡ true
 step-there c = sym (c .before .step-at .ensures) ∙ not-false _ (c .if2 .left)
 
 step-here : (c : tie.Else2 Inv-loop μ-loop Inv-transactions μ-transactions)
-    → c .before .before .before .loop .at < length (c .before .before .before .before .before .before .before .before .before .before .before .args .plan .now)
+    → c .before .before .before .loop .at < length
+    (c .before .before .before .before .before .before .before .before .before .before .before .args .plan .now)
 step-here c =
-    stands stepFormed (c .before .before .before .before .before .before .before .before .before .before .before .args .plan .now) (c .before .before .before .loop .at)
+    stands stepFormed (c .before .before .before .before .before .before .before .before .before .before .before .args .plan .now)
+    (c .before .before .before .loop .at)
     (step-there c) .0
 
 mul-step-missing : tie.Need-mul-step-missing Inv-loop μ-loop Inv-transactions μ-transactions
@@ -85,7 +92,8 @@ shared-slice-read-step-missing c = step-here (c .before)
 step-missing-requires :
     tie.Need-step-missing-requires Inv-loop μ-loop Inv-transactions μ-transactions
 step-missing-requires c κs =
-    stands stepFormed (c .before .before .before .before .before .before .before .before .before .before .before .before .args .plan .now) (c .before .before .before .before .loop .at)
+    stands stepFormed (c .before .before .before .before .before .before .before .before .before .before .before .before .args .plan .now)
+    (c .before .before .before .before .loop .at)
     (step-there (c .before)) .2
 
 add-at-2 : tie.Need-add-at-2 Inv-loop μ-loop Inv-transactions μ-transactions
@@ -100,7 +108,8 @@ loop-less c = omega arith
 loop-again : tie.Need-loop-again Inv-loop μ-loop Inv-transactions μ-transactions
 loop-again c =
     let d = c .before .before in
-    rw (c .step-missing .ensures) (sym (step-step _ _ _ _ _ _ _ _ (d .before .before .loop-test .taken) (step-there d)) ∙ d .before .before .before .loop .inv)
+    rw (c .step-missing .ensures) (sym (step-step _ _ _ _ _ _ _ _ (d .before .before .loop-test .taken) (step-there d))
+    ∙ d .before .before .before .loop .inv)
 
 add-t : tie.Need-add-t Inv-loop μ-loop Inv-transactions μ-transactions
 add-t c = omega arith
@@ -114,15 +123,18 @@ transactions-again c = sym (steps-done _ _ _ _ _ _ _ _ (c .loop-test .left)) ∙
 returns : tie.Need-returns Inv-loop μ-loop Inv-transactions μ-transactions
 returns c =
     ⊎-elim (λ w. absurd (omega arith))
-    (⊎-elim (λ w. sym (tx-fault _ _ _ _ _ (w .0 .taken) (sym (w .1 .ensures) ∙ not-true _ (w .2 .taken))) ∙ c .before .before .transactions .inv)
+    (⊎-elim (λ w. sym (tx-fault _ _ _ _ _ (w .0 .taken) (sym (w .1 .ensures) ∙ not-true _ (w .2 .taken)))
+    ∙ c .before .before .transactions .inv)
     (λ w. sym (step-fault _ _ _ _ _ _ _ _ (w .6 .taken) (sym (w .7 .ensures) ∙ not-true _ (w .8 .taken))) ∙ w .5 .inv))
     (c .before .transactions-test .came)
 
 -- past both loops with no fault
 at-end : (c : tie.Else3 Inv-loop μ-loop Inv-transactions μ-transactions)
-    → restAt (c .before .before .before .before .args .transactions) (c .before .before .transactions .t) (c .before .before .before .before .args .plan .now)
+    → restAt (c .before .before .before .before .args .transactions) (c .before .before .transactions .t)
+    (c .before .before .before .before .args .plan .now)
     (c .before .transactions-test .at) (c .before .transactions-test .missing)
-    ≡ transactionsVerdict (c .before .before .before .before .args .transactions) (drop 1 (c .before .before .before .before .args .plan .now))
+    ≡ transactionsVerdict (c .before .before .before .before .args .transactions)
+    (drop 1 (c .before .before .before .before .args .plan .now))
 at-end c =
     ⊎-elim (λ w. ap₂ (restAt _ _ _) (w .1) (w .2) ∙ c .before .before .transactions .inv)
     (⊎-elim (λ w. absurd (omega arith)) (λ w. absurd (omega arith)))

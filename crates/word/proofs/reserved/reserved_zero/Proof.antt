@@ -36,7 +36,9 @@ unfolding reservedZero
 returns c =
     let hk : kindOf (c .before .before .args .word) < 16 = search needs in
     let hs : c .before .source .result < 8 = omega (arith, c .before .source .ensures, source-lt (c .before .before .args .word)) in
-    rw reserved-law (ap (λ (s : ℕ). zeroBits (kindOf (c .before .before .args .word)) s (c .before .before .args .word)) (c .before .source .ensures))
+    rw reserved-law (ap (λ (s : ℕ). zeroBits (kindOf (c .before .before .args .word)) s (c .before .before .args .word))
+    (c .before .source .ensures))
 
 pub reserved-zero-spec : {M : Type 1} → statement M
-reserved-zero-spec = tie.close (tie.spec cast-kind source-requires cast-source mul-result mul-result-2 index-1-result index-2-result returns)
+reserved-zero-spec = tie.close (tie.spec cast-kind source-requires cast-source mul-result mul-result-2 index-1-result index-2-result
+    returns)

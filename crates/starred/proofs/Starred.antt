@@ -1,0 +1,20 @@
+-- The definitions give every row of the table: antt computes them.
+-- Assumes nothing.
+use mathlib.Core.Path.{_≡_, refl}
+use mathlib.Core.List.{map}
+use lib.Count.{ones}
+use Rattle.word.specs.Reserved.{sourceField, reservedZero}
+use Rattle.plan.specs.Decode.{accessBy, actionBy, stepOf, partBy, transactionsOf, planOf}
+use Rattle.plan.specs.Admission.{every, hasHead, countsInRange, transactionFormed, stepFormed, wellFormed, sourceExists, stepExists, partExists}
+use Rattle.plan.specs.Admission.{parametersExist, transactionsVerdict, planVerdict}
+use Rattle.operation.specs.Operation.{cellsNamed}
+use Rattle.operation.specs.Admission.{transactionExists, unusedZero, rowInRange, parametersPass, operationVerdict}
+use Rattle.conflict.specs.Mask.{maskOf, some}
+use Rattle.conflict.specs.Touch.{rowTouched, cellTouched, stepTouches, deskMask}
+use Rattle.conflict.specs.Class.{classBy}
+use Rattle.conflict.specs.Answer.{classifyResult}
+use Rattle.starred.specs.Table.{Row, resultOf, table}
+
+pub starred : map (λ (r : Row). resultOf (r .input)) table ≡ map (λ (r : Row). r .result) table
+unfolding ones sourceField reservedZero accessBy actionBy stepOf partBy transactionsOf planOf every hasHead countsInRange transactionFormed stepFormed wellFormed sourceExists stepExists partExists parametersExist transactionsVerdict planVerdict cellsNamed transactionExists unusedZero rowInRange parametersPass operationVerdict maskOf some rowTouched cellTouched stepTouches deskMask classBy classifyResult
+starred = refl
