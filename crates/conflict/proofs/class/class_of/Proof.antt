@@ -1,9 +1,10 @@
 -- The class of an operation: by whether it writes, and by the ones in the masks of its cells.
 -- Assumes nothing.
-use mathlib.Core.Path.{_∙_, sym, ap}
+use mathlib.Core.Path.{_≡_, _∙_, sym, ap}
 use mathlib.Core.Bool.{Bool, cond}
-use Rattle.plan.specs.Decode.{accessBy}
-use Rattle.conflict.specs.Class.{free, local, global}
+use Rattle.plan.specs.Decode.{accessBy, planOf}
+use Rattle.plan.specs.Place.{transactionFrom}
+use Rattle.conflict.specs.Class.{free, local, global, classBy}
 use Rattle.conflict.proofs.Tabled.{class-writing, class-reading}
 use borrow.Author.Needs.{needs}
 use Rattle.conflict.proofs.class.class_of.Statement.{statement}
@@ -21,23 +22,25 @@ slice-aggregate-ones-are c = search needs
 ones-are-requires : tie.Need-ones-are-requires
 ones-are-requires c κs = search needs
 
-returns : tie.Need-returns
+-- what the ones in the masks say of an operation that writes
+writing : (c : tie.After-ones-are)
+    → cond (c .ones-are .result) local global
+    ≡ classBy (planOf (c .before .before .before .before .before .before .args .plan .now))
+    (transactionFrom (c .before .before .before .before .before .before .args .plan .now)
+    (c .before .before .before .before .before .before .args .at))
+    (c .before .before .before .before .before .before .args .params)
 unfolding accessBy
-returns c =
-    let e = c .before .before .before .before in
+writing c =
+    let e = c .before .before .before in
     let d = e .before .before .before in
-    sym (ap (λ (b : Bool). cond b local global) (c .if2 .taken))
-    ∙ class-writing (d .args .plan .now) (d .args .at) (d .args .params) (d .pre .2) _ _ _ (c .before .before .before .desk-masks .ensures)
-    (sym (e .before .has-write .ensures) ∙ e .if1 .taken) (c .before .ones-are .ensures)
+    class-writing (d .args .plan .now) (d .args .at) (d .args .params) (d .pre .2) _ _ _ (c .before .before .desk-masks .ensures)
+    (sym (e .before .has-write .ensures) ∙ e .if1 .taken) (c .ones-are .ensures)
+
+returns : tie.Need-returns
+returns c = sym (ap (λ (b : Bool). cond b local global) (c .if2 .taken)) ∙ writing (c .before)
 
 returns-2 : tie.Need-returns-2
-unfolding accessBy
-returns-2 c =
-    let e = c .before .before .before .before in
-    let d = e .before .before .before in
-    sym (ap (λ (b : Bool). cond b local global) (c .if2 .left))
-    ∙ class-writing (d .args .plan .now) (d .args .at) (d .args .params) (d .pre .2) _ _ _ (c .before .before .before .desk-masks .ensures)
-    (sym (e .before .has-write .ensures) ∙ e .if1 .taken) (c .before .ones-are .ensures)
+returns-2 c = sym (ap (λ (b : Bool). cond b local global) (c .if2 .left)) ∙ writing (c .before)
 
 desk-masks-requires-2 : tie.Need-desk-masks-requires-2
 desk-masks-requires-2 c κs = search needs
@@ -48,25 +51,25 @@ slice-aggregate-ones-are-2 c = search needs
 ones-are-requires-2 : tie.Need-ones-are-requires-2
 ones-are-requires-2 c κs = search needs
 
-returns-3 : tie.Need-returns-3
+-- and of one that only reads
+reading : (c : tie.After-ones-are2)
+    → cond (c .ones-are2 .result) free local
+    ≡ classBy (planOf (c .before .before .before .before .before .before .args .plan .now))
+    (transactionFrom (c .before .before .before .before .before .before .args .plan .now)
+    (c .before .before .before .before .before .before .args .at))
+    (c .before .before .before .before .before .before .args .params)
 unfolding accessBy
-returns-3 c =
-    let e = c .before .before .before .before in
+reading c =
+    let e = c .before .before .before in
     let d = e .before .before .before in
-    sym (ap (λ (b : Bool). cond b free local) (c .if3 .taken))
-    ∙ class-reading (d .args .plan .now) (d .args .at) (d .args .params) (d .pre .2) _ _ _
-    (c .before .before .before .desk-masks2 .ensures)
-    (sym (e .before .has-write .ensures) ∙ e .if1 .left) (c .before .ones-are2 .ensures)
+    class-reading (d .args .plan .now) (d .args .at) (d .args .params) (d .pre .2) _ _ _ (c .before .before .desk-masks2 .ensures)
+    (sym (e .before .has-write .ensures) ∙ e .if1 .left) (c .ones-are2 .ensures)
+
+returns-3 : tie.Need-returns-3
+returns-3 c = sym (ap (λ (b : Bool). cond b free local) (c .if3 .taken)) ∙ reading (c .before)
 
 returns-4 : tie.Need-returns-4
-unfolding accessBy
-returns-4 c =
-    let e = c .before .before .before .before in
-    let d = e .before .before .before in
-    sym (ap (λ (b : Bool). cond b free local) (c .if3 .left))
-    ∙ class-reading (d .args .plan .now) (d .args .at) (d .args .params) (d .pre .2) _ _ _
-    (c .before .before .before .desk-masks2 .ensures)
-    (sym (e .before .has-write .ensures) ∙ e .if1 .left) (c .before .ones-are2 .ensures)
+returns-4 c = sym (ap (λ (b : Bool). cond b free local) (c .if3 .left)) ∙ reading (c .before)
 
 pub class-of-spec : {M : Type 1} → statement M
 class-of-spec =
