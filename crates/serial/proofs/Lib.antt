@@ -1,0 +1,16 @@
+pub mod Tests
+pub mod Lists
+pub mod Stores
+pub mod Sorting
+pub mod Conflicts
+pub mod Runs
+pub mod Queues
+pub mod Token
+pub mod Invariant
+pub mod Ranked
+pub mod Immediate
+pub mod Visiting
+pub mod Routes
+pub mod Calls
+pub mod Histories
+pub mod Claim
