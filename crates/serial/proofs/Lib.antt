@@ -14,3 +14,9 @@ pub mod Routes
 pub mod Calls
 pub mod Histories
 pub mod Claim
+pub mod StableSort
+pub mod SerialOrder
+pub mod Transactions
+pub mod Classes
+pub mod Example
+pub mod ExampleHistory

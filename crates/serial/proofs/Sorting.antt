@@ -118,3 +118,7 @@ module _ {A : Type 0} (key : A → ℕ) where
   pub sortOnto-append : (es xs ys : List A) → sortOnto key es (xs ++ ys) ≡ sortOnto key (sortOnto key es xs) ys
   sortOnto-append es [] ys = refl
   sortOnto-append es (x ∷ xs) ys = sortOnto-append (insert key x es) xs ys
+
+  pub all-sort : (P : A → Type 0) (es fs : List A) → All P es → All P fs → All P (sortOnto key es fs)
+  all-sort P es [] a b = a
+  all-sort P es (f ∷ fs) a b = all-sort P (insert key f es) fs (All-insert P f es (b .0) a) (b .1)

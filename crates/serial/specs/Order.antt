@@ -1,5 +1,7 @@
 -- The serial order: what is noted of a finished operation, its place in the order, and putting in order.
-use Prim.Native.Nat.{ℕ, suc, _+_, _*_}
+use Prim.Native.Nat.{ℕ, suc, _+_, _*_, _≤_, _<_}
+use mathlib.Core.Path.{_≡_}
+use mathlib.Core.Logic.{_⊎_}
 use mathlib.Core.Bool.{cond}
 use mathlib.Core.List.{List, [], _∷_, _++_}
 use lib.Dec.{ltb}
@@ -27,6 +29,18 @@ placeOf n (immediateRun g p) = placeAt n g (suc p)
 
 abbrev pub place : {Op : Type 0} → ℕ → Finished Op → ℕ
 place n e = placeOf n (e .slot)
+
+-- the same rule with no reckoning of places: "Globals by visit, then order of running", which is their number; a run at once "after
+-- the g-th global and before the next, ..; with equal g by desk"
+abbrev pub Before : Slot → Slot → Type 0
+Before (globalRun j) (globalRun k) = j < k
+Before (globalRun k) (immediateRun g p) = k ≤ g
+Before (immediateRun g p) (globalRun k) = g < k
+Before (immediateRun g p) (immediateRun h q) = (g < h) ⊎ ((g ≡ h) × (p < q))
+
+-- "then order of running": by the number of the call
+abbrev pub Precedes : {Op : Type 0} → Finished Op → Finished Op → Type 0
+Precedes e f = Before (e .slot) (f .slot) ⊎ ((e .slot ≡ f .slot) × (e .by < f .by))
 
 -- ---- putting in order by a key: each goes behind all earlier ones whose key is not greater, so equal keys stay in order of running
 
