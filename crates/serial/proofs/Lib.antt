@@ -20,3 +20,4 @@ pub mod Transactions
 pub mod Classes
 pub mod Example
 pub mod ExampleHistory
+pub mod Bridge

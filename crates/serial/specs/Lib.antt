@@ -8,3 +8,4 @@ pub mod Order
 pub mod SerialRun
 pub mod Claim
 pub mod Visits
+pub mod Machine
