@@ -21,3 +21,8 @@ pub mod Classes
 pub mod Example
 pub mod ExampleHistory
 pub mod Bridge
+pub mod Turns
+pub mod Circle
+pub mod TokenTheorems
+pub mod Answered
+pub mod Standing

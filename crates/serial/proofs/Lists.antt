@@ -22,6 +22,14 @@ pub All-append : {A : Type 0} (P : A → Type 0) (xs ys : List A) → All P xs �
 All-append P [] ys h k = k
 All-append P (x ∷ xs) ys h k = (h .0, All-append P xs ys (h .1) k)
 
+pub All-left : {A : Type 0} (P : A → Type 0) (xs ys : List A) → All P (xs ++ ys) → All P xs
+All-left P [] ys h = tt
+All-left P (x ∷ xs) ys h = (h .0, All-left P xs ys (h .1))
+
+pub All-right : {A : Type 0} (P : A → Type 0) (xs ys : List A) → All P (xs ++ ys) → All P ys
+All-right P [] ys h = h
+All-right P (x ∷ xs) ys h = All-right P xs ys (h .1)
+
 pub All-part : {A : Type 0} (P Q : A → Type 0) (xs : List A) → ((x : A) → P x → Q x) → All P xs → All Q xs
 All-part P Q [] f h = tt
 All-part P Q (x ∷ xs) f h = (f x (h .0), All-part P Q xs f (h .1))
