@@ -1,19 +1,18 @@
 -- For later (02): a visit answers its queue in order, and each waiting request is answered at its desk's next accepted visit. None of
 -- this asks how the desks came to be as they are.
 -- Assumes nothing.
-use Prim.Native.Nat.{ℕ, _<_}
-use mathlib.Core.Path.{_≡_, refl, sym, _∙_, ap, subst}
-use mathlib.Core.Logic.{_≢_, _⊎_, inl, inr, ⊎-elim}
+use Prim.Native.Nat.{ℕ}
+use mathlib.Core.Path.{_≡_, refl, ap}
+use mathlib.Core.Logic.{_≢_}
 use mathlib.Core.Bool.{Bool, true, false, cond, true≢false}
-use mathlib.Core.List.{List, [], _∷_, _++_, map, List·Memᴰ, List·Memᴰ·head, List·Memᴰ·tail}
+use mathlib.Core.List.{List, [], _∷_, map, List·Memᴰ, List·Memᴰ·head, List·Memᴰ·tail}
 use native.Mathlib.Omega.{arith}
-use lib.Dec.{eqb}
 use Rattle.serial.specs.Store.{Store}
 use Rattle.serial.specs.Frame.{Frame}
 use Rattle.serial.specs.Desk.{Request, Desk, Call, request, visit, deskCalled, Answer, refused, waits, isRefused, given}
 use Rattle.serial.specs.System.{System, Laws}
 use Rattle.serial.specs.Step.{Route, immediate, enqueue, redirect, route, runOne, repliesOf, requestStep, caughtUp, acceptedStep, visitStep}
-use Rattle.serial.specs.History.{assign, answerAt, stepAt, desksAfter}
+use Rattle.serial.specs.History.{answerAt, stepAt, desksAfter}
 use Rattle.serial.specs.Visits.{Visit, visitOf, visitsAt, visits}
 use Rattle.serial.proofs.Tests.{by-same, eqb-yes, eqb-no, eqb-self}
 use Rattle.serial.proofs.Lists.{All, All-left, All-right}

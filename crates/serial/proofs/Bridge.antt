@@ -2,15 +2,13 @@
 -- and it is serializable under the premise in its own words.
 -- Assumes nothing.
 use Prim.Native.Nat.{ℕ, _<_}
-use mathlib.Core.Path.{_≡_, refl, sym, _∙_, ap}
-use mathlib.Core.Bool.{false}
+use mathlib.Core.Path.{_≡_, refl, _∙_, ap}
 use mathlib.Core.List.{List, [], _∷_, _++_, map, map-append, List·Memᴰ}
 use Rattle.serial.specs.Store.{Store}
 use Rattle.serial.specs.Desk.{Desk, Call, request, visit, isRefused}
 use Rattle.serial.specs.System.{System, Laws}
 use Rattle.serial.specs.Step.{serve}
 use Rattle.serial.specs.History.{assign, answers, desksAfter, newDesks, Framed, Proper}
-use Rattle.serial.specs.Frame.{startFrame}
 use Rattle.serial.specs.SerialRun.{serial}
 use Rattle.serial.specs.Claim.{Serializable, Claim}
 use Rattle.serial.specs.Machine.{Machine, Words, atDesk, machineStep, machineAnswers, machineAfter, seen, IfVisit, MachineProper}

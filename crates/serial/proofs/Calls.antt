@@ -2,18 +2,16 @@
 -- Assumes nothing.
 use Prim.Native.Nat.{ℕ, suc, _+_, _<_}
 use mathlib.Core.Path.{_≡_, refl, sym, _∙_, ap}
-use mathlib.Core.Bool.{false}
-use mathlib.Core.List.{List, [], _∷_, _++_, append-nil, List·Memᴰ, List·Memᴰ·cases-cons}
-use mathlib.Core.Logic.{⊎-elim}
+use mathlib.Core.List.{List, [], _∷_, _++_, append-nil, List·Memᴰ}
 use native.Mathlib.Omega.{arith}
 use lib.ListN.{length, length-append}
 use Rattle.serial.specs.Store.{Store}
 use Rattle.serial.specs.Frame.{Frame}
-use Rattle.serial.specs.Desk.{Request, Desk, isRefused, given, sent}
+use Rattle.serial.specs.Desk.{Request, Desk, given, sent}
 use Rattle.serial.specs.System.{System, Laws}
 use Rattle.serial.specs.Step.{Route, immediate, enqueue, redirect, requestStep, outgoing, visitStep}
 use Rattle.serial.specs.History.{assign}
-use Rattle.serial.specs.Order.{Finished, immediateRun, place, insert}
+use Rattle.serial.specs.Order.{immediateRun, place, insert}
 use Rattle.serial.specs.SerialRun.{Serial, noteNothing, noteRequest, noteVisit, ranked, order}
 use Rattle.serial.proofs.Tests.{by-same, eqb-yes, eqb-no, eqb-self}
 use Rattle.serial.proofs.Lists.{All, All-mem, mem-All, one-more, snoc-nil, assign-map, assign-self}
@@ -81,6 +79,7 @@ module _ (S : System) (L : Laws S) (b : Store) where
           frames = I .frames;
           tags = I .tags;
           g-low = I .g-low;
+          turns = I .turns;
           low = I .low;
           behind = I .behind;
           aside = I .aside;

@@ -1,7 +1,7 @@
 -- Visits in the order of their numbers: the desks of n successive ones differ, so a visit drops just the oldest of the last n.
 -- Assumes nothing.
-use Prim.Native.Nat.{ℕ, zero, suc, _+_, _-_, _*_, _/_, _%_, _≤_, _<_}
-use mathlib.Core.Path.{_≡_, refl, sym, _∙_, ap, subst}
+use Prim.Native.Nat.{ℕ, zero, suc, _+_, _-_, _*_, _/_, _%_, _<_}
+use mathlib.Core.Path.{_≡_, refl, sym, _∙_, ap}
 use mathlib.Core.Logic.{_≢_}
 use mathlib.Core.List.{List, [], _∷_, _++_, append-assoc, append-nil}
 use native.Mathlib.Omega.{arith}
@@ -12,7 +12,7 @@ use Rattle.serial.specs.Store.{Update}
 use Rattle.serial.specs.Frame.{foreign}
 use Rattle.serial.specs.Visits.{Visit, appended, lastOf}
 use Rattle.serial.proofs.Tests.{by-same, by-less, eqb-yes, eqb-no}
-use Rattle.serial.proofs.Lists.{All, All-part}
+use Rattle.serial.proofs.Lists.{All}
 use Rattle.serial.proofs.Turns.{MarkedBy, Entry}
 
 -- ---- dropping a desk's updates

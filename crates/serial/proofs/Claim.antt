@@ -2,7 +2,7 @@
 -- Assumes nothing.
 use Prim.Native.Nat.{ℕ, suc, _<_}
 use mathlib.Core.Path.{_≡_, refl, sym, _∙_}
-use mathlib.Core.Logic.{_≢_, inl, inr}
+use mathlib.Core.Logic.{inl, inr}
 use mathlib.Core.List.{List}
 use lib.ListN.{length, getD}
 use Rattle.serial.specs.Store.{Store}
@@ -11,7 +11,7 @@ use Rattle.serial.specs.Desk.{Desk}
 use Rattle.serial.specs.System.{System, Laws}
 use Rattle.serial.specs.Order.{placeAt, place, beyond}
 use Rattle.serial.specs.SerialRun.{Serial, order, storeAfter}
-use Rattle.serial.specs.Claim.{JustOne, Serializable, Claim}
+use Rattle.serial.specs.Claim.{JustOne, Claim}
 use Rattle.serial.proofs.Lists.{All-part}
 use Rattle.serial.proofs.Conflicts.{Hears, NotOf, BehindOf, Leaves}
 use Rattle.serial.proofs.Invariant.{upto-off, upto-hears}

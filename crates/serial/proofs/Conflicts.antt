@@ -5,7 +5,7 @@ use mathlib.Core.Path.{_≡_, refl, sym, _∙_}
 use mathlib.Core.Logic.{_≢_, _⊎_, inl, inr}
 use Rattle.serial.specs.Store.{Update, Within}
 use Rattle.serial.specs.Desk.{Request}
-use Rattle.serial.specs.System.{Class, free, local, System, Laws, Touches}
+use Rattle.serial.specs.System.{free, local, System, Laws, Touches}
 use Rattle.serial.specs.Order.{Finished}
 
 module _ (S : System) where

@@ -1,22 +1,20 @@
 -- An instance with two desks, made of transactions by steps and classes by masks: the laws hold of it.
 -- Assumes nothing.
 use Prim.Native.Nat.{ℕ, _<_}
-use mathlib.Core.Path.{_≡_, refl, sym, _∙_, ap}
+use mathlib.Core.Path.{_≡_, refl}
 use mathlib.Core.Logic.{_⊎_, inl, inr, ⊎-elim}
-use mathlib.Core.Bool.{Bool, true, false, _||_}
+use mathlib.Core.Bool.{Bool, true, _||_}
 use mathlib.Core.List.{List, [], _∷_, _++_, List·Memᴰ, List·Memᴰ·eq-of-singleton, List·Memᴰ·not-nil}
 use mathlib.Core.List.{List·Memᴰ·head, List·Memᴰ·tail, List·Memᴰ·append-cases, List·Memᴰ·cases-cons, Memᴰ·append-left, Memᴰ·append-right}
 use native.Mathlib.Omega.{arith}
 use lib.ListN.{length}
 use lib.Dec.{eqb, ltb, eqb→eq}
-use Rattle.plan.specs.Plan.{Source, param, fixed, reads, writes, sets, Step, cell, operand, Partitioning, byParam, unpartitioned, Transaction, Plan}
+use Rattle.plan.specs.Plan.{param, fixed, reads, writes, sets, cell, operand, Partitioning, byParam, unpartitioned, Transaction, Plan}
 use Rattle.plan.specs.Admission.{every}
 use Rattle.operation.specs.Operation.{Operation, operation, deskOf, cellsNamed, readSet, writeSet, MayRead, MayWrite}
 use Rattle.operation.specs.Run.{Reply, run}
-use Rattle.serial.specs.Store.{Store}
 use Rattle.serial.specs.Desk.{Request, Desk, Call, request, visit}
-use Rattle.serial.specs.System.{Class, free, local, global, System, Laws}
-use Rattle.serial.proofs.Tests.{true-T}
+use Rattle.serial.specs.System.{free, local, global, System, Laws}
 use Rattle.serial.proofs.Transactions.{run-reply-reads, run-update-reads, run-update-writes}
 use Rattle.serial.proofs.Classes.{classBy, class-free-writes, class-free-reads, class-local-alone}
 

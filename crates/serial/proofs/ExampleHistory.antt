@@ -3,7 +3,7 @@
 use Prim.Native.Nat.{ℕ}
 use mathlib.Core.Path.{_≡_, refl}
 use mathlib.Core.Bool.{Bool, true, false, true≢false}
-use mathlib.Core.List.{List, [], _∷_, map, List·Memᴰ, List·Memᴰ·head, List·Memᴰ·tail}
+use mathlib.Core.List.{List, [], _∷_, map, List·Memᴰ·head, List·Memᴰ·tail}
 use native.Mathlib.Omega.{arith}
 use Rattle.plan.specs.Admission.{every}
 use Rattle.operation.specs.Operation.{cellsNamed}
@@ -16,7 +16,7 @@ use Rattle.serial.specs.Order.{Finished}
 use Rattle.serial.specs.SerialRun.{Serial, serial, order, storeAfter, due}
 use Rattle.serial.specs.Claim.{Serializable, Claim}
 use Rattle.serial.proofs.Claim.{serializable}
-use Rattle.serial.proofs.Example.{Op, file₀, file₁, raise, look, catalogue, example, example-laws}
+use Rattle.serial.proofs.Example.{Op, file₀, raise, look, catalogue, example, example-laws}
 
 abbrev ask : ℕ → ℕ → Op → Call Op Unit
 ask p client o = request p (record { client = client; op = o }) tt

@@ -1,7 +1,7 @@
 -- Every call of a proper history, and so the whole of it, keeps the desks, the serial run, the replies and the frames in agreement.
 -- Assumes nothing.
-use Prim.Native.Nat.{ℕ, _+_, _<_}
-use mathlib.Core.Path.{_≡_, refl, ap}
+use Prim.Native.Nat.{ℕ, _<_}
+use mathlib.Core.Path.{_≡_, refl}
 use mathlib.Core.Bool.{Bool, true, false, cond}
 use mathlib.Core.List.{List, [], _∷_, _++_, map, append-assoc, append-nil}
 use native.Mathlib.Omega.{arith}
@@ -88,6 +88,7 @@ module _ (S : System) (L : Laws S) (b : Store) where
           frames = ((le-refl _, λ e. refl), tt);
           tags = tt;
           g-low = λ p. le-refl _;
+          turns = λ p q h l k. le-refl _;
           low = tt;
           behind = λ p h. tt;
           aside = λ p h. tt;

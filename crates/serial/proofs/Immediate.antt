@@ -1,13 +1,12 @@
 -- A free or local operation that runs at once: it enters the serial order in the middle, and what holds after every call is kept.
 -- Assumes nothing.
-use Prim.Native.Nat.{ℕ, zero, suc, _+_, _*_, _%_, _≤_, _<_}
-use mathlib.Core.Path.{_≡_, refl, sym, _∙_, ap, subst}
-use mathlib.Core.Logic.{_≢_, _⊎_, inl, inr, ⊎-elim}
-use mathlib.Core.List.{List, [], _∷_, _++_, map, append-assoc, append-nil}
+use Prim.Native.Nat.{ℕ, suc, _≤_, _<_}
+use mathlib.Core.Path.{_≡_, sym, _∙_, ap}
+use mathlib.Core.Logic.{_≢_, inl, inr}
+use mathlib.Core.List.{List, [], _∷_, _++_}
 use native.Mathlib.Omega.{arith}
 use native.Mathlib.Nat.{le-refl}
 use lib.ListN.{length, getD, List·getD-eq-default}
-use lib.Dec.{eqb}
 use Rattle.serial.specs.Store.{Store, Update, applyUpdate, applyAll, Same, Within}
 use Rattle.serial.specs.Frame.{Frame}
 use Rattle.serial.specs.Desk.{Request}
@@ -16,7 +15,7 @@ use Rattle.serial.specs.Step.{runOne}
 use Rattle.serial.specs.History.{assign}
 use Rattle.serial.specs.Order.{Finished, immediateRun, placeAt, place, upto, beyond, insert}
 use Rattle.serial.specs.SerialRun.{storeAfter, due}
-use Rattle.serial.proofs.Tests.{by-same, by-less, eqb-yes, eqb-no, eqb-self}
+use Rattle.serial.proofs.Tests.{by-same, by-less, eqb-no, eqb-self}
 use Rattle.serial.proofs.Lists.{All-part, snoc-own, snoc-other}
 use Rattle.serial.proofs.Stores.{Same-sym, Same-trans, apply-same, apply-off}
 use Rattle.serial.proofs.Sorting
@@ -127,6 +126,7 @@ module _ (S : System) (L : Laws S) where
             frames = I .frames;
             tags = I .tags;
             g-low = I .g-low;
+            turns = I .turns;
             low = Sorting.All-insert (place n) (Low (place n) (placeAt n m n)) new es (omega (arith, place-mono S L {j = g p} {k = m} 0 (I .g-low p))) (I .low);
             behind = λ q h. by-same q p (λ e. rw e (rw (Sorting.beyond-insert-hi (place n) spot new es (le-refl _)) (I .behind p below)))
                 (λ e. Sorting.beyond-insert (place n) (BehindOf S q) (placeAt n (g q) (suc q)) new es (at-not p q (t .op) e hr) (I .behind q h));

@@ -1,9 +1,8 @@
 -- What holds after every call of a history.
 -- Assumes nothing.
-use Prim.Native.Nat.{ℕ, zero, suc, _+_, _*_, _%_, _≤_, _<_}
-use mathlib.Core.Path.{_≡_, refl, sym, _∙_, ap, subst}
-use mathlib.Core.Logic.{_≢_, _⊎_, inl, inr, ⊎-elim}
-use mathlib.Core.List.{List, [], _∷_, _++_, map, append-assoc, append-nil}
+use Prim.Native.Nat.{ℕ, suc, _+_, _%_, _≤_, _<_}
+use mathlib.Core.Path.{_≡_, sym, _∙_, ap, subst}
+use mathlib.Core.List.{List, []}
 use native.Mathlib.Omega.{arith}
 use native.Mathlib.Nat.{mul-le-mul-right}
 use lib.ListN.{getD}
@@ -40,6 +39,8 @@ module _ (S : System) where
     pub tags : All (Tagged S) (tk .updates)
     -- behind desk p's place stands nothing of desk p's; behind the last global, at p's place, only other desks' runs at once
     pub g-low : (p : ℕ) → g p ≤ m
+    -- whose turn comes first has heard least
+    pub turns : (p q : ℕ) → p < n → q < n → aw p ≤ aw q → g p ≤ g q
     pub low : All (Low (place n) (placeAt n m n)) es
     pub behind : (p : ℕ) → p < n → All (BehindOf S p) (beyond (place n) (placeAt n (g p) (suc p)) es)
     pub aside : (p : ℕ) → p < n → All (BesideOf S p) (beyond (place n) (placeAt n m (suc p)) es)

@@ -4,7 +4,7 @@ use Prim.Native.Nat.{ℕ, suc}
 use mathlib.Core.Path.{_≡_, refl, ap}
 use mathlib.Core.Logic.{_≢_}
 use mathlib.Core.List.{List, [], _∷_}
-use Rattle.serial.specs.Store.{Store, Update, applyAll, Same, Within}
+use Rattle.serial.specs.Store.{Store, applyAll, Same, Within}
 use Rattle.serial.specs.Desk.{Request}
 use Rattle.serial.specs.System.{System, Laws}
 use Rattle.serial.specs.Step.{runOne, runAll, repliesOf, updatesOf}

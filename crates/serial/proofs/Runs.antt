@@ -4,7 +4,6 @@ use Prim.Native.Nat.{ℕ}
 use mathlib.Core.Path.{_≡_, refl, sym, _∙_, ap}
 use mathlib.Core.Logic.{_≢_, inl, inr}
 use mathlib.Core.List.{List, [], _∷_, _++_}
-use lib.Dec.{eqb}
 use Rattle.serial.specs.Store.{Store, Update, applyUpdate, Same, Within}
 use Rattle.serial.specs.System.{System, Laws, Touches}
 use Rattle.serial.specs.Step.{runOne}

@@ -1,7 +1,7 @@
 -- For the reader's trust: the serial order follows 01's rule as it is written, and is a permutation of the finished operations.
 -- Assumes nothing.
 use Prim.Native.Nat.{ℕ, suc, _+_, _*_, _≤_, _<_}
-use mathlib.Core.Path.{_≡_, refl, ap₂, ap}
+use mathlib.Core.Path.{_≡_, ap₂, ap}
 use mathlib.Core.Logic.{_⊎_, inl, inr}
 use mathlib.Core.Bool.{Bool, true, false}
 use mathlib.Core.List.{List, [], _∷_, _++_, Perm}

@@ -6,7 +6,7 @@ use mathlib.Core.List.{List, [], _∷_, _++_}
 use native.Mathlib.Omega.{arith}
 use Rattle.serial.specs.Order.{upto, beyond, insert, sortOnto}
 use Rattle.serial.proofs.Tests.{by-less, ltb-yes, ltb-no}
-use Rattle.serial.proofs.Lists.{All, All-append, All-part}
+use Rattle.serial.proofs.Lists.{All, All-append}
 
 module _ {A : Type 0} (key : A → ℕ) where
   abbrev pub Low : ℕ → A → Type 0

@@ -1,8 +1,8 @@
 -- Putting in order by a key is a stable sort: the result is sorted, keeps the order of equal keys, and is a permutation.
 -- Assumes nothing.
 use Prim.Native.Nat.{ℕ, _≤_, _<_}
-use mathlib.Core.Path.{_≡_, refl, subst}
-use mathlib.Core.Logic.{_⊎_, inl, inr, ⊎-elim}
+use mathlib.Core.Path.{_≡_, subst}
+use mathlib.Core.Logic.{_⊎_, inl, inr}
 use mathlib.Core.List.{List, [], _∷_, _++_, append-nil, Perm, Perm·refl, Perm·trans, Perm·symm, Perm·append-right, perm-middle}
 use native.Mathlib.Omega.{arith}
 use Rattle.serial.specs.Order.{upto, beyond, insert, sortOnto}

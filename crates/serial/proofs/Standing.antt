@@ -1,11 +1,11 @@
 -- For later (02): on the cells it hears of, a desk's store is the serial store at its place; with the updates that it is still owed it is
 -- the serial store at the end; and if the latest frame is empty all stores agree on the cells that two desks may touch.
 -- Assumes nothing.
-use Prim.Native.Nat.{ℕ, suc, _<_}
+use Prim.Native.Nat.{ℕ, suc, _≤_, _<_}
 use mathlib.Core.Path.{_≡_, refl, sym, _∙_, subst}
 use mathlib.Core.Logic.{_≢_}
 use mathlib.Core.List.{List, [], _∷_}
-use lib.ListN.{length, getD}
+use lib.ListN.{getD}
 use Rattle.serial.specs.Store.{Store, Update, applyAll, Same}
 use Rattle.serial.specs.Frame.{Frame, startFrame}
 use Rattle.serial.specs.Desk.{Desk, Call}
@@ -61,6 +61,13 @@ module _ (S : System) (L : Laws S) (b : Store) (cs : List (Call (S .Op) (S .Extr
   -- on the cells that desk p hears of, those that no other desk's local may write, its store is the serial one at its place
   pub store-is-serial-at-place : (p : ℕ) → p < n → Same (Hears S p) (desks p .store) (storeAfter S (upto (place n) (placeOfDesk p) theOrder) b)
   store-is-serial-at-place p h = history-good S L b cs pr .inv .here p h
+
+  -- whose turn comes first has heard least: at its turn, what a desk has heard every desk has
+  pub heard-by-turn : (p q : ℕ) → p < n → q < n → desks p .awaited ≤ desks q .awaited → theRun .heard p ≤ theRun .heard q
+  heard-by-turn = history-good S L b cs pr .inv .turns
+
+  pub turn-is-first : (p q : ℕ) → q < n → desks p .awaited ≡ latest .number → desks p .awaited ≤ desks q .awaited
+  turn-is-first p q h e = rw e (history-good S L b cs pr .inv .wait-low q h)
 
   -- behind its place stands nothing of desk p's but free operations
   pub nothing-own-behind : (p : ℕ) → p < n → All (BehindOf S p) (beyond (place n) (placeOfDesk p) theOrder)

@@ -6,7 +6,7 @@ use mathlib.Core.Logic.{_≢_, inr}
 use mathlib.Core.Bool.{cond}
 use mathlib.Core.List.{List, [], _∷_, _++_}
 use native.Mathlib.Omega.{arith}
-use lib.Dec.{eqb, ltb}
+use lib.Dec.{ltb}
 use Rattle.serial.specs.Store.{Store, Update, applyUpdate, applyAll, Within}
 use Rattle.serial.specs.Frame.{foreign, tag, untag}
 use Rattle.serial.specs.System.{System, Laws}

@@ -3,15 +3,15 @@
 -- Assumes nothing.
 use Prim.Native.Nat.{ℕ, suc, _+_, _-_, _%_, _<_}
 use mathlib.Core.Path.{_≡_, refl, sym, _∙_, ap, subst}
-use mathlib.Core.Logic.{_⊎_, inl, inr, ⊎-elim}
-use mathlib.Core.Bool.{true, false}
+use mathlib.Core.Logic.{inl, inr}
+use mathlib.Core.Bool.{true}
 use mathlib.Core.List.{List, [], _∷_, _++_, append-assoc, append-nil, List·Memᴰ}
 use native.Mathlib.Omega.{arith}
 use lib.ListN.{length, drop, getD, length-append}
 use lib.Seq.{drop-nil}
 use Rattle.serial.specs.Store.{Store}
 use Rattle.serial.specs.Frame.{Frame, startFrame, foreign}
-use Rattle.serial.specs.Desk.{Desk, Call, visit, deskCalled, isRefused}
+use Rattle.serial.specs.Desk.{Desk, Call, visit}
 use Rattle.serial.specs.System.{System, Laws}
 use Rattle.serial.specs.History.{answerAt, stepAt, answers, desksAfter, newDesks, Proper}
 use Rattle.serial.specs.SerialRun.{Serial}
@@ -19,7 +19,7 @@ use Rattle.serial.specs.Visits.{Visit, appended, lastOf, frameAfter, lat
 use Rattle.serial.proofs.Tests.{true-T}
 use Rattle.serial.proofs.Calls.{Replies, Good}
 use Rattle.serial.proofs.Histories.{framesAfter, accepted-latest, call-good, new-good, history-good}
-use Rattle.serial.proofs.Turns.{Entry, frameBehind, Turn, turn}
+use Rattle.serial.proofs.Turns.{Entry, Turn, turn}
 use Rattle.serial.proofs.Circle.{Numbered, numbered-append, numbered-at, drops-oldest, carries-on}
 
 -- vs are the accepted visits so far, tk the latest frame

@@ -2,11 +2,11 @@
 -- Assumes nothing.
 use Prim.Native.Nat.{ℕ}
 use mathlib.Core.Path.{_≡_, refl, ap}
-use mathlib.Core.List.{List, [], _∷_, List·Memᴰ, List·Memᴰ·head, List·Memᴰ·tail}
+use mathlib.Core.List.{[], _∷_, List·Memᴰ, List·Memᴰ·head, List·Memᴰ·tail}
 use lib.ListN.{set}
 use Rattle.plan.specs.Plan.{Plan}
 use Rattle.operation.specs.Operation.{Operation, transactionOf, MayRead, MayWrite}
-use Rattle.operation.specs.Run.{Reply, Outcome, run}
+use Rattle.operation.specs.Run.{Outcome, run}
 use Rattle.operation.specs.Run as steps
 use Rattle.operation.proofs.Runs.{reads-decide, writes-within}
 use Rattle.serial.specs.Store.{Store, Update, applyUpdate, Same, Within}

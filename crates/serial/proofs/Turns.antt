@@ -1,6 +1,6 @@
 -- What a call adds to the accepted visits: nothing, or the visit whose number is the latest frame's, at the desk whose turn it is.
 -- Assumes nothing.
-use Prim.Native.Nat.{ℕ, suc, _+_, _%_, _<_}
+use Prim.Native.Nat.{ℕ, suc, _%_, _<_}
 use mathlib.Core.Path.{_≡_, refl, sym, _∙_, ap}
 use mathlib.Core.Logic.{_⊎_, inl, inr}
 use mathlib.Core.Bool.{Bool, true, false, cond}

@@ -1,13 +1,12 @@
 -- An accepted visit: its queue becomes the last globals, and what holds after every call is kept.
 -- Assumes nothing.
-use Prim.Native.Nat.{ℕ, zero, suc, _+_, _*_, _%_, _≤_, _<_}
+use Prim.Native.Nat.{ℕ, suc, _+_, _%_, _≤_, _<_}
 use mathlib.Core.Path.{_≡_, refl, sym, _∙_, ap, subst}
-use mathlib.Core.Logic.{_≢_, _⊎_, inl, inr, ⊎-elim}
-use mathlib.Core.List.{List, [], _∷_, _++_, map, append-assoc, append-nil}
+use mathlib.Core.Logic.{_≢_, inl, inr}
+use mathlib.Core.List.{List, [], _∷_, _++_, append-nil}
 use native.Mathlib.Omega.{arith}
 use native.Mathlib.Nat.{add-mod-right, le-refl}
 use lib.ListN.{length, getD, List·getD-eq-default}
-use lib.Dec.{eqb}
 use Rattle.serial.specs.Store.{Store, Update, applyAll, Same, Within}
 use Rattle.serial.specs.Frame.{Frame, foreign, tag, untag}
 use Rattle.serial.specs.Desk.{Request}
@@ -155,6 +154,15 @@ module _ (S : System) (L : Laws S) where
           (λ e. snoc-other past (repliesOf S queue mine) i e ∙ I .giving i
           ∙ sym (Runs.due-append S L i es last b ∙ rw (Queues.ranked-due-other S L (length past) i m queue end (λ k. e (sym k))) (append-nil (due S i es b))))
 
+      visit-turns : (q r : ℕ) → q < n → r < n → aw′ q ≤ aw′ r → g′ q ≤ g′ r
+      visit-turns q r h l k =
+          by-same r p
+          (λ e. rw (eqb-yes e) (by-same q p (λ i. rw (eqb-yes i) (le-refl _)) (λ i. rw (eqb-no i) (omega (arith, I .g-low q)))))
+          (λ e. let k′ : aw′ q ≤ aw r = rw (eqb-no e) at k in
+          rw (eqb-no e)
+          (by-same q p (λ i. let k″ : tk .number + n ≤ aw r = rw (eqb-yes i) at k′ in absurd (omega (arith, I .wait-high r l)))
+          (λ i. rw (eqb-no i) (I .turns q r h l (rw (eqb-no i) at k′)))))
+
       pub visit-inv : Inv S b (assign p (runAll S queue mine) stores) (assign p [] queues) aw′ g′ (m + length queue) (es ++ last) (past ++ (repliesOf S queue mine ∷ [])) (fs ++ (outgoing ∷ [])) outgoing
       visit-inv =
           record {
@@ -166,6 +174,7 @@ module _ (S : System) (L : Laws S) where
                 (All-part (Known tk) (Known outgoing) fs (λ f h. (omega (arith, h .0), λ e. absurd (omega (arith, h .0)))) (I .frames)) ((le-refl _, λ e. refl), tt);
             tags = sent-tags;
             g-low = λ q. by-same q p (λ e. rw (eqb-yes e) (le-refl _)) (λ e. rw (eqb-no e) (omega (arith, I .g-low q)));
+            turns = visit-turns;
             low = All-append (Low (place n) (placeAt n (m + length queue) n)) es last
                 (All-part (Low (place n) (placeAt n m n)) (Low (place n) (placeAt n (m + length queue) n)) es (λ e h. omega (arith, place-mono S L {j = m} {k = m + length queue} n (omega arith))) (I .low))
                 (All-part (Low (place n) (placeAt n (m + length queue) 0)) (Low (place n) (placeAt n (m + length queue) n)) last (λ e h. omega arith) (ranked-low S L (length past) m queue));

@@ -1,7 +1,7 @@
 -- The step of a desk: what a request and a visit leave and answer.
 use Prim.Native.Nat.{ℕ, suc, _+_}
 use mathlib.Core.Bool.{Bool, true, false, cond}
-use mathlib.Core.List.{List, [], _∷_, _++_, map}
+use mathlib.Core.List.{List, [], _∷_, _++_}
 use lib.Dec.{eqb}
 use Rattle.serial.specs.Store.{Store, Update, applyUpdate, applyAll}
 use Rattle.serial.specs.Frame.{Frame, foreign, tag, untag}
