@@ -11,7 +11,8 @@ use Rattle.serial.specs.Store.{Store}
 use Rattle.serial.specs.Frame.{Frame}
 use Rattle.serial.specs.Desk.{Request, Desk, Call, request, visit, deskCalled, Answer, refused, waits, isRefused, given}
 use Rattle.serial.specs.System.{System, Laws}
-use Rattle.serial.specs.Step.{Route, immediate, enqueue, redirect, route, runOne, repliesOf, requestStep, caughtUp, acceptedStep, visitStep}
+use Rattle.serial.specs.Step.{Route, immediate, enqueue, redirect, route, runOne, repliesOf, requestStep, caughtUp, acceptedStep}
+use Rattle.serial.specs.Step.{visitStep}
 use Rattle.serial.specs.History.{answerAt, stepAt, desksAfter}
 use Rattle.serial.specs.Visits.{Visit, visitOf, visitsAt, visits}
 use Rattle.serial.proofs.Tests.{by-same, eqb-yes, eqb-no, eqb-self}
@@ -26,7 +27,8 @@ module _ (S : System) where
 
   -- ---- a visit
 
-  replies-clients : (q : List (Request Op)) (s : Store) → map (λ (r : ℕ × Reply). r .0) (repliesOf S q s) ≡ map (λ (r : Request Op). r .client) q
+  replies-clients : (q : List (Request Op)) (s : Store) → map (λ (r : ℕ × Reply). r .0) (repliesOf S q s)
+      ≡ map (λ (r : Request Op). r .client) q
   replies-clients [] s = refl
   replies-clients (r ∷ q) s = ap (λ (l : List ℕ). r .client ∷ l) (replies-clients q (runOne S (r .op) s))
 

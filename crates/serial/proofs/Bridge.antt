@@ -63,7 +63,8 @@ module _ {S : System} (M : Machine S) (N : Words M) where
   open Machine M using (State, C, does, callOf, answerOf)
   open Words N using (W, frameOf, shown, out)
 
-  framed : (ws : List W) (c : C) (k : Call (S .Op) (S .Extra)) → callOf c ≡ k → IfVisit M N k (List·Memᴰ (shown c) ws) → Framed S (map frameOf ws) k
+  framed : (ws : List W) (c : C) (k : Call (S .Op) (S .Extra)) → callOf c ≡ k → IfVisit M N k (List·Memᴰ (shown c) ws) →
+      Framed S (map frameOf ws) k
   framed ws c (request p r x) e h = tt
   framed ws c (visit p f x) e h = rw (N .shown-frame c p f x e) (mem-map frameOf (shown c) ws h)
 
@@ -82,7 +83,13 @@ module _ {S : System} (M : Machine S) (N : Words M) where
       let a : answerOf (does (w q) c .1) ≡ serve S (seen M w q) (callOf c) .1 = seen-answer M w c h ok in (
         pr .0,
         λ e. framed ws c (callOf c) refl (pr .2 (ap isRefused a ∙ e)),
-        rw (← a, N .out-frame (w q) c (pr .0) (pr .1) (ok q (pr .0)), ← map-append frameOf ws (out (does (w q) c .1)), ← seen-step M w c h ok)
+        rw (
+          ← a,
+          N .out-frame (w q) c (pr .0) (pr .1) (ok q (pr .0)),
+          ← map-append frameOf ws
+              (out (does (w q) c .1)),
+          ← seen-step M w c h ok,
+        )
             (proper-seen cs (machineStep M w c) (ws ++ out (does (w q) c .1)) (ok-step M w c h ok) (pr .3)),
       )
 

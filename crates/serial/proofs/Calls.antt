@@ -49,7 +49,8 @@ module _ (S : System) where
   open System S using (n, Op, Reply)
 
   -- after some calls: w the desks, s the serial run, past the replies to each call, fs the frames, tk the latest of them
-  pub record Good (b : Store) (w : ℕ → Desk Op) (s : Serial Op) (past : List (List (ℕ × Reply))) (fs : List Frame) (tk : Frame) : Type 0 where
+  pub record Good (b : Store) (w : ℕ → Desk Op) (s : Serial Op) (past : List (List (ℕ × Reply))) (fs : List Frame)
+      (tk : Frame) : Type 0 where
     pub queues-same : s .queues ≡ queuesOf w
     pub calls-past : s .calls ≡ length past
     pub latest-below : s .latest < n
@@ -66,7 +67,8 @@ module _ (S : System) (L : Laws S) (b : Store) where
   all-join : (p : ℕ) (q : List (Request Op)) (r : Request Op) → All (OfDesk S p) q → desk (r .op) ≡ p → All (OfDesk S p) (join q r)
   all-join p q r h e = mem-All (OfDesk S p) (join q r) (λ t m. All-mem (OfDesk S p) t (r ∷ q) (L .join-only q r t m) (e, h))
 
-  module _ {w : ℕ → Desk Op} {s : Serial Op} {past : Replies Reply} {fs : List Frame} {tk : Frame} (k : Good S b w s past fs tk) (p : ℕ) where
+  module _ {w : ℕ → Desk Op} {s : Serial Op} {past : Replies Reply} {fs : List Frame} {tk : Frame} (k : Good S b w s past fs tk)
+      (p : ℕ) where
     -- with nothing answered, any queues that hold only their desk's requests
     quiet-inv : (queues′ : ℕ → List (Request Op)) → ((q : ℕ) → All (OfDesk S q) (queues′ q)) →
         Inv S b (storesOf w) queues′ (awaitedOf w) (s .heard) (length (s .globals)) (order S s) (past ++ ([] ∷ [])) fs tk
@@ -116,7 +118,8 @@ module _ (S : System) (L : Laws S) (b : Store) where
         let o : order S (noteRequest S immediate s p r)
         ≡ insert (place n) (record { slot = immediateRun (s .heard p) p; by = length past; request = r }) (order S s) =
         sortOnto-append (place n) [] (s .finished) (record { slot = immediateRun (s .heard p) p; by = s .calls; request = r } ∷ [])
-        ∙ ap (λ (i : ℕ). insert (place n) (record { slot = immediateRun (s .heard p) p; by = i; request = r }) (order S s)) (k .calls-past) in
+        ∙ ap (λ (i : ℕ). insert (place n) (record { slot = immediateRun (s .heard p) p; by = i; request = r }) (order S s))
+        (k .calls-past) in
         record {
           queues-same = k .queues-same ∙ sym (part-kept aQueue d refl);
           calls-past = ap suc (k .calls-past) ∙ one-more past (given (requestStep S immediate (w p) r .1));

@@ -40,10 +40,12 @@ appended-append (u ∷ us) vs = rw (appended-append us vs) (sym (append-assoc (u
 
 far-apart : (n a b r : ℕ) → a * n + r < b * n + r → b * n + r < a * n + r + n → ⊥
 far-apart n a b r h l =
-    by-less a b (λ k. omega (arith, suc-mul a n, mul-le-mul-right {m = suc a} {n = b} n k)) (λ k. omega (arith, mul-le-mul-right {m = b} {n = a} n k))
+    by-less a b (λ k. omega (arith, suc-mul a n, mul-le-mul-right {m = suc a} {n = b} n k))
+    (λ k. omega (arith, mul-le-mul-right {m = b} {n = a} n k))
 
 pub mod-apart : (n i v : ℕ) → i < v → v < i + n → i % n ≢ v % n
-mod-apart n i v h l e = far-apart n (i / n) (v / n) (v % n) (omega (arith, div-add-mod' i n, div-add-mod' v n)) (omega (arith, div-add-mod' i n, div-add-mod' v n))
+mod-apart n i v h l e = far-apart n (i / n) (v / n) (v % n) (omega (arith, div-add-mod' i n, div-add-mod' v n))
+    (omega (arith, div-add-mod' i n, div-add-mod' v n))
 
 module _ (n : ℕ) where
   -- numbered k, k + 1, .. in order
@@ -64,7 +66,9 @@ module _ (n : ℕ) where
   pub numbered-at : (k : ℕ) (vs : List Visit) (i : ℕ) (d : Visit) → Numbered k vs → i < length vs → Entry n (k + i) (getD vs i d)
   numbered-at k [] i d h l = absurd (omega arith)
   numbered-at k (v ∷ vs) zero d h l = rw add-zero (h .0)
-  numbered-at k (v ∷ vs) (suc i) d h l = let e : k + suc i ≡ suc k + i = omega arith in rw e (numbered-at (suc k) vs i d (h .1) (omega arith))
+  numbered-at k (v ∷ vs) (suc i) d h l =
+      let e : k + suc i ≡ suc k + i = omega arith in
+      rw e (numbered-at (suc k) vs i d (h .1) (omega arith))
 
   -- a visit at the desk of number v drops nothing of the fewer than n visits before it
   foreign-all : (k v : ℕ) (vs : List Visit) → Numbered k vs → k + length vs ≡ v → v < k + n → foreign (v % n) (appended vs) ≡ appended vs
@@ -85,13 +89,16 @@ module _ (n : ℕ) where
     pub drops-oldest : foreign (v % n) (appended (lastOf n vs)) ≡ appended (drop (suc v - n) vs)
     drops-oldest =
         by-less v n
-        (λ l. let a : v - n ≡ 0 = omega arith in let c : suc v - n ≡ 0 = omega arith in rw (a, c) (foreign-all 0 v vs h (omega arith) (omega arith)))
+        (λ l. let a : v - n ≡ 0 = omega arith in
+        let c : suc v - n ≡ 0 = omega arith in
+        rw (a, c) (foreign-all 0 v vs h (omega arith) (omega arith)))
         (λ l. let d : Visit = record { desk = 0; number = 0; updates = [] } in
         let i : ℕ = v - n in
         let c : suc v - n ≡ suc i = omega arith in
         let x : Visit = getD vs i d in
         let e : Entry n (0 + i) x = numbered-at 0 vs i d h (omega arith) in
-        let q : x .desk ≡ v % n = e .desk-is ∙ sym (add-mod-right (0 + i) n) ∙ ap (λ (y : ℕ). y % n) (let z : 0 + i + n ≡ v = omega arith in z) in
+        let z : 0 + i + n ≡ v = omega arith in
+        let q : x .desk ≡ v % n = e .desk-is ∙ sym (add-mod-right (0 + i) n) ∙ ap (λ (y : ℕ). y % n) z in
         rw (drop-cons vs i d (omega arith), c)
         (foreign-append (v % n) (x .updates) (appended (drop (suc i) vs))
         ∙ rw (

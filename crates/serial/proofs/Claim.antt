@@ -12,8 +12,9 @@ use Rattle.serial.specs.System.{System, Laws}
 use Rattle.serial.specs.Order.{placeAt, place, beyond}
 use Rattle.serial.specs.SerialRun.{Serial, order, storeAfter}
 use Rattle.serial.specs.Claim.{JustOne, Claim}
+use Rattle.serial.specs.Hearing.{Hears}
 use Rattle.serial.proofs.Lists.{All-part}
-use Rattle.serial.proofs.Conflicts.{Hears, NotOf, BehindOf, Leaves}
+use Rattle.serial.proofs.Conflicts.{NotOf, BehindOf, Leaves}
 use Rattle.serial.proofs.Invariant.{upto-off, upto-hears}
 use Rattle.serial.proofs.Calls.{Replies, Good}
 use Rattle.serial.proofs.Histories.{history-good}
@@ -33,7 +34,8 @@ module _ (S : System) (L : Laws S) where
   not-just p o (inl f) c j h = L .free-writes o f c h
   not-just p o (inr d) c j h = d (j .1 o (inr h))
 
-  module _ {b : Store} {w : ℕ → Desk Op} {s : Serial Op} {past : Replies Reply} {fs : List Frame} {tk : Frame} (k : Good S b w s past fs tk) where
+  module _ {b : Store} {w : ℕ → Desk Op} {s : Serial Op} {past : Replies Reply} {fs : List Frame} {tk : Frame}
+      (k : Good S b w s past fs tk) where
     one-cell : (p c : ℕ) → p < n → JustOne S p c → getD (w p .store) c 0 ≡ getD (storeAfter S (order S s) b) c 0
     one-cell p c h j =
         let i : ℕ = placeAt n (s .heard p) (suc p) in

@@ -72,7 +72,8 @@ module _ (n : ℕ) (touched written : ℕ → ℕ → Bool) where
   free-none rs [] c e m = List·Memᴰ·not-nil m
   free-none rs (w ∷ ws) c e m = by-never (every (touchedBy 1) (w ∷ ws)) e
 
-  count : (f : ℕ → ℕ → Bool) (k : ℕ) (cs : List ℕ) (c : ℕ) → every (λ c. eqb (ones n (f c)) k) cs ≡ true → List·Memᴰ c cs → ones n (f c) ≡ k
+  count : (f : ℕ → ℕ → Bool) (k : ℕ) (cs : List ℕ) (c : ℕ) → every (λ c. eqb (ones n (f c)) k) cs ≡ true →
+      List·Memᴰ c cs → ones n (f c) ≡ k
   count f k cs c e m = eqb→eq (ones n (f c)) k (true-T _ (every-member (λ c. eqb (ones n (f c)) k) cs c e m))
 
   free-unwritten : (rs ws : List ℕ) (c : ℕ) → classBy rs ws ≡ free → List·Memᴰ c rs → ones n (written c) ≡ 0

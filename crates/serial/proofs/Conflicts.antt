@@ -7,40 +7,39 @@ use Rattle.serial.specs.Store.{Update, Within}
 use Rattle.serial.specs.Desk.{Request}
 use Rattle.serial.specs.System.{free, local, System, Laws, Touches}
 use Rattle.serial.specs.Order.{Finished}
+use Rattle.serial.specs.Hearing.{OwnCell, Hears}
 
 module _ (S : System) where
   open System S using (n, Op, desk, class, Reads, Writes)
 
-  -- some local operation of desk p may write c
-  abbrev pub OwnCell : ℕ → ℕ → Type 0
-  OwnCell p c = (o : Op) × (class o ≡ local) × (desk o ≡ p) × Writes o c
-
-  -- no local operation of another desk than p may write c
-  abbrev pub Hears : ℕ → ℕ → Type 0
-  Hears p c = (r : ℕ) → r ≢ p → OwnCell r c → ⊥
-
-  -- it runs at desk p at once; it does so at another; it is free or another desk's
+  -- it runs at desk p at once
   abbrev pub RunsAt : ℕ → Op → Type 0
   RunsAt p o = (class o ≡ free) ⊎ ((class o ≡ local) × (desk o ≡ p))
 
+  -- it runs at once, and not at desk p unless it is free
   abbrev pub RunsElsewhere : ℕ → Op → Type 0
   RunsElsewhere p o = (class o ≡ free) ⊎ ((class o ≡ local) × (desk o ≢ p))
 
+  -- it is free, or another desk's
   abbrev pub NotOf : ℕ → Op → Type 0
   NotOf p o = (class o ≡ free) ⊎ (desk o ≢ p)
 
+  -- the same of a finished operation
   abbrev pub BesideOf : ℕ → Finished Op → Type 0
   BesideOf p e = RunsElsewhere p (e .request .op)
 
   abbrev pub BehindOf : ℕ → Finished Op → Type 0
   BehindOf p e = NotOf p (e .request .op)
 
+  -- it may write no cell of P
   abbrev pub Leaves : (ℕ → Type 0) → Finished Op → Type 0
   Leaves P e = (c : ℕ) → P c → Writes (e .request .op) c → ⊥
 
+  -- it reads cells of P only
   abbrev pub ReadsIn : (ℕ → Type 0) → Request Op → Type 0
   ReadsIn P t = (c : ℕ) → Reads (t .op) c → P c
 
+  -- its operation is desk p's
   abbrev pub OfDesk : ℕ → Request Op → Type 0
   OfDesk p t = desk (t .op) ≡ p
 
@@ -55,6 +54,8 @@ module _ (S : System) where
 module _ (S : System) (L : Laws S) where
   open System S using (Op, desk, class, Writes)
 
+  -- ---- an operation that runs at desk p touches cells that p hears of
+
   pub free-hears : (p : ℕ) (o : Op) (c : ℕ) → class o ≡ free → Touches S o c → Hears S p c
   free-hears p o c f (inl h) r ne w = L .free-reads o f c h (w .0) (w .3)
   free-hears p o c f (inr h) r ne w = L .free-writes o f c h
@@ -65,6 +66,9 @@ module _ (S : System) (L : Laws S) where
   pub at-hears : (p : ℕ) (o : Op) (c : ℕ) → RunsAt S p o → Touches S o c → Hears S p c
   at-hears p o c (inl f) h = free-hears p o c f h
   at-hears p o c (inr l) h = desk-hears p o c (l .1) h
+
+  -- ---- what runs at desk p at once writes its own cells; nothing of another desk's touches these; and nothing that runs at once elsewhere
+  -- writes what p hears of
 
   pub at-own : (p : ℕ) (o : Op) (c : ℕ) → RunsAt S p o → Writes o c → OwnCell S p c
   at-own p o c (inl f) h = absurd (L .free-writes o f c h)

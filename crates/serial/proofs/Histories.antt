@@ -13,15 +13,10 @@ use Rattle.serial.specs.System.{System, Laws}
 use Rattle.serial.specs.Step.{Route, immediate, enqueue, redirect, route, requestStep, acceptedStep, serve}
 use Rattle.serial.specs.History.{assign, answerAt, stepAt, answers, desksAfter, newDesks, Framed, Proper}
 use Rattle.serial.specs.SerialRun.{Serial, note, noteAll, newSerial, serial}
-use Rattle.serial.specs.Visits.{frameAfter, latestFrame}
+use Rattle.serial.specs.Visits.{frameAfter, latestFrame, framesAfter}
 use Rattle.serial.proofs.Tests.{true-T}
 use Rattle.serial.proofs.Routes.{routed}
 use Rattle.serial.proofs.Calls.{Replies, Good, still-good, request-good, frame-is-latest, visit-good}
-
--- all frames, once these answers are given
-abbrev pub framesAfter : {R : Type 0} → List Frame → List (Answer R) → List Frame
-framesAfter fs [] = fs
-framesAfter fs (a ∷ ans) = framesAfter (fs ++ sent a) ans
 
 module _ (S : System) where
   open System S using (Op, Extra, Reply)
@@ -43,7 +38,8 @@ module _ (S : System) (L : Laws S) (b : Store) where
   -- what holds once the call c was met by m
   abbrev Next : (ℕ → Desk Op) → Serial Op → Replies Reply → List Frame → Frame → Call Op Extra → Desk Op × Answer Reply → Type 0
   Next w s past fs tk c m =
-      Good S b (assign (deskCalled c) (m .0) w) (note S (isRefused (m .1)) s c) (past ++ (given (m .1) ∷ [])) (fs ++ sent (m .1)) (frameAfter tk (m .1))
+      Good S b (assign (deskCalled c) (m .0) w) (note S (isRefused (m .1)) s c) (past ++ (given (m .1) ∷ [])) (fs ++ sent (m .1))
+      (frameAfter tk (m .1))
 
   module _ {w : ℕ → Desk Op} {s : Serial Op} {past : Replies Reply} {fs : List Frame} {tk : Frame} (k : Good S b w s past fs tk) where
     -- an accepted visit brings the latest frame

@@ -15,16 +15,16 @@ use Rattle.serial.specs.Step.{runOne}
 use Rattle.serial.specs.History.{assign}
 use Rattle.serial.specs.Order.{Finished, immediateRun, placeAt, place, upto, beyond, insert}
 use Rattle.serial.specs.SerialRun.{storeAfter, due}
+use Rattle.serial.specs.Hearing.{OwnCell, Hears, owed}
 use Rattle.serial.proofs.Tests.{by-same, by-less, eqb-no, eqb-self}
 use Rattle.serial.proofs.Lists.{All-part, snoc-own, snoc-other}
 use Rattle.serial.proofs.Stores.{Same-sym, Same-trans, apply-same, apply-off}
 use Rattle.serial.proofs.Sorting
 use Rattle.serial.proofs.Sorting.{Low}
 use Rattle.serial.proofs.Conflicts
-use Rattle.serial.proofs.Conflicts.{OwnCell, Hears, RunsAt, RunsElsewhere, NotOf, BesideOf, BehindOf, OutCell, Tagged}
+use Rattle.serial.proofs.Conflicts.{RunsAt, RunsElsewhere, NotOf, BesideOf, BehindOf, OutCell, Tagged}
 use Rattle.serial.proofs.Runs
 use Rattle.serial.proofs.Token
-use Rattle.serial.proofs.Token.{owed}
 use Rattle.serial.proofs.Invariant.{Inv, place-mono}
 
 module _ (S : System) (L : Laws S) where
@@ -38,7 +38,8 @@ module _ (S : System) (L : Laws S) where
   at-elsewhere p q o ne (inl f) = inl f
   at-elsewhere p q o ne (inr l) = inr (l .0, λ e. ne (sym e ∙ l .1))
 
-  module _ {b : Store} {stores : ℕ → Store} {queues : ℕ → List (Request Op)} {aw g : ℕ → ℕ} {m : ℕ} {es : List (Finished Op)} {past : List (List (ℕ × Reply))}
+  module _ {b : Store} {stores : ℕ → Store} {queues : ℕ → List (Request Op)} {aw g : ℕ → ℕ} {m : ℕ} {es : List (Finished Op)}
+      {past : List (List (ℕ × Reply))}
       {fs : List Frame} {tk : Frame} (I : Inv S b stores queues aw g m es past fs tk) (p : ℕ) (below : p < n) where
     -- ---- A free or local operation runs at desk p
 
@@ -67,7 +68,8 @@ module _ (S : System) (L : Laws S) where
 
       -- no other desk hears of it
       unheard : (q : ℕ) → q ≢ p → (a : Store) → Same (Hears S q) a (applyUpdate made a)
-      unheard q ne a = Same-sym (applyUpdate made a) a (apply-off {P = Hears S q} {Q = OwnCell S p} made a made-own (λ c k o. k p (λ e. ne (sym e)) o))
+      unheard q ne a = Same-sym (applyUpdate made a) a
+          (apply-off {P = Hears S q} {Q = OwnCell S p} made a made-own (λ c k o. k p (λ e. ne (sym e)) o))
 
       -- all that stands behind it runs as before, and its write goes to the end
       new-end : storeAfter S (insert (place n) new es) b ≡ applyUpdate made (storeAfter S es b)
@@ -75,12 +77,16 @@ module _ (S : System) (L : Laws S) where
           Runs.mid-store S L p new hr (upto (place n) spot es) (beyond (place n) spot es) b (I .behind p below)
           ∙ ap (λ (l : List (Finished Op)). applyUpdate made (storeAfter S l b)) (Sorting.upto-beyond (place n) spot es)
 
-      new-upto : (j : ℕ) → spot ≤ j → storeAfter S (upto (place n) j (insert (place n) new es)) b ≡ applyUpdate made (storeAfter S (upto (place n) j es) b)
+      new-upto : (j : ℕ) → spot ≤ j → storeAfter S (upto (place n) j (insert (place n) new es)) b
+          ≡ applyUpdate made (storeAfter S (upto (place n) j es) b)
       new-upto j h =
           rw (Sorting.upto-insert-hi (place n) j new es h, Sorting.upto-split (place n) spot j es h)
-          (Runs.mid-store S L p new hr (upto (place n) spot es) (upto (place n) j (beyond (place n) spot es)) b (Sorting.all-upto (place n) (BehindOf S p) j (beyond (place n) spot es) (I .behind p below)))
+          (Runs.mid-store S L p new hr (upto (place n) spot es) (upto (place n) j (beyond (place n) spot es)) b
+          (Sorting.all-upto (place n) (BehindOf S p) j (beyond (place n) spot es) (I .behind p below)))
 
-      immediate-here : (q : ℕ) → q < n → Same (Hears S q) (assign p (runOne S (t .op) (stores p)) stores q) (storeAfter S (upto (place n) (placeAt n (g q) (suc q)) (insert (place n) new es)) b)
+      immediate-here : (q : ℕ) → q < n →
+          Same (Hears S q) (assign p (runOne S (t .op) (stores p)) stores q)
+          (storeAfter S (upto (place n) (placeAt n (g q) (suc q)) (insert (place n) new es)) b)
       immediate-here q h =
           let k : ℕ = placeAt n (g q) (suc q) in
           by-same q p
@@ -88,9 +94,12 @@ module _ (S : System) (L : Laws S) where
           (λ e. rw (eqb-no e)
           (by-less k spot (λ l. rw (Sorting.upto-insert-lo (place n) k new es l) (I .here q h))
           (λ l. rw (new-upto k l)
-          (Same-trans (stores q) (storeAfter S (upto (place n) k es) b) (applyUpdate made (storeAfter S (upto (place n) k es) b)) (I .here q h) (unheard q e (storeAfter S (upto (place n) k es) b))))))
+          (Same-trans (stores q) (storeAfter S (upto (place n) k es) b) (applyUpdate made (storeAfter S (upto (place n) k es) b))
+          (I .here q h) (unheard q e (storeAfter S (upto (place n) k es) b))))))
 
-      immediate-there : (q : ℕ) → q < n → Same (Hears S q) (applyAll (owed aw q (tk .updates)) (assign p (runOne S (t .op) (stores p)) stores q)) (storeAfter S (insert (place n) new es) b)
+      immediate-there : (q : ℕ) → q < n →
+          Same (Hears S q) (applyAll (owed aw q (tk .updates)) (assign p (runOne S (t .op) (stores p)) stores q))
+          (storeAfter S (insert (place n) new es) b)
       immediate-there q h =
           by-same q p
           (λ e. rw (
@@ -103,9 +112,11 @@ module _ (S : System) (L : Laws S) where
           )
           (apply-same made (applyAll (owed aw p (tk .updates)) (stores p)) (storeAfter S es b) (I .there p below)))
           (λ e. rw (eqb-no e, new-end)
-          (Same-trans (applyAll (owed aw q (tk .updates)) (stores q)) (storeAfter S es b) (applyUpdate made (storeAfter S es b)) (I .there q h) (unheard q e (storeAfter S es b))))
+          (Same-trans (applyAll (owed aw q (tk .updates)) (stores q)) (storeAfter S es b) (applyUpdate made (storeAfter S es b))
+          (I .there q h) (unheard q e (storeAfter S es b))))
 
-      immediate-giving : (i : ℕ) → getD (past ++ (((t .client, reply (t .op) (stores p)) ∷ []) ∷ [])) i [] ≡ due S i (insert (place n) new es) b
+      immediate-giving : (i : ℕ) → getD (past ++ (((t .client, reply (t .op) (stores p)) ∷ []) ∷ [])) i []
+          ≡ due S i (insert (place n) new es) b
       immediate-giving i =
           by-same i (length past)
           (λ e. rw e
@@ -114,10 +125,12 @@ module _ (S : System) (L : Laws S) where
           (sym (Runs.mid-due-own S L p new hr (upto (place n) spot es) (beyond (place n) spot es) b (I .behind p below)
           (rw (Sorting.upto-beyond (place n) spot es) (sym (I .giving (length past)) ∙ List·getD-eq-default past [] (le-refl _)))))))
           (λ e. snoc-other past ((t .client, reply (t .op) (stores p)) ∷ []) i e ∙ I .giving i
-          ∙ sym (Runs.mid-due-other S L p new hr (upto (place n) spot es) (beyond (place n) spot es) b (I .behind p below) i (λ k. e (sym k))
+          ∙ sym (Runs.mid-due-other S L p new hr (upto (place n) spot es) (beyond (place n) spot es) b (I .behind p below) i
+          (λ k. e (sym k))
           ∙ ap (λ (l : List (Finished Op)). due S i l b) (Sorting.upto-beyond (place n) spot es)))
 
-      pub immediate-inv : Inv S b (assign p (runOne S (t .op) (stores p)) stores) queues aw g m (insert (place n) new es) (past ++ (((t .client, reply (t .op) (stores p)) ∷ []) ∷ [])) fs tk
+      pub immediate-inv : Inv S b (assign p (runOne S (t .op) (stores p)) stores) queues aw g m (insert (place n) new es)
+          (past ++ (((t .client, reply (t .op) (stores p)) ∷ []) ∷ [])) fs tk
       immediate-inv =
           record {
             wait-low = I .wait-low;
@@ -127,11 +140,16 @@ module _ (S : System) (L : Laws S) where
             tags = I .tags;
             g-low = I .g-low;
             turns = I .turns;
-            low = Sorting.All-insert (place n) (Low (place n) (placeAt n m n)) new es (omega (arith, place-mono S L {j = g p} {k = m} 0 (I .g-low p))) (I .low);
+            low = Sorting.All-insert (place n) (Low (place n) (placeAt n m n)) new es
+                (omega (arith, place-mono S L {j = g p} {k = m} 0 (I .g-low p))) (I .low);
             behind = λ q h. by-same q p (λ e. rw e (rw (Sorting.beyond-insert-hi (place n) spot new es (le-refl _)) (I .behind p below)))
-                (λ e. Sorting.beyond-insert (place n) (BehindOf S q) (placeAt n (g q) (suc q)) new es (at-not p q (t .op) e hr) (I .behind q h));
-            aside = λ q h. by-same q p (λ e. rw e (rw (Sorting.beyond-insert-hi (place n) (placeAt n m (suc p)) new es (place-mono S L (suc p) (I .g-low p))) (I .aside p below)))
-                (λ e. Sorting.beyond-insert (place n) (BesideOf S q) (placeAt n m (suc q)) new es (at-elsewhere p q (t .op) e hr) (I .aside q h));
+                (λ e. Sorting.beyond-insert (place n) (BehindOf S q) (placeAt n (g q) (suc q)) new es (at-not p q (t .op) e hr)
+                (I .behind q h));
+            aside = λ q h. by-same q p (λ e. rw e
+                (rw (Sorting.beyond-insert-hi (place n) (placeAt n m (suc p)) new es (place-mono S L (suc p) (I .g-low p)))
+                (I .aside p below)))
+                (λ e. Sorting.beyond-insert (place n) (BesideOf S q) (placeAt n m (suc q)) new es (at-elsewhere p q (t .op) e hr)
+                (I .aside q h));
             here = immediate-here;
             there = immediate-there;
             queued = I .queued;

@@ -100,7 +100,8 @@ cond-map : {A B : Type 0} (f : A → B) (b : Bool) (x y : A) → f (cond b x y) 
 cond-map f true x y = refl
 cond-map f false x y = refl
 
-pub assign-map : {A B : Type 0} (f : A → B) (p : ℕ) (x : A) (w : ℕ → A) → (λ (q : ℕ). f (assign p x w q)) ≡ assign p (f x) (λ (q : ℕ). f (w q))
+pub assign-map : {A B : Type 0} (f : A → B) (p : ℕ) (x : A) (w : ℕ → A) → (λ (q : ℕ). f (assign p x w q))
+    ≡ assign p (f x) (λ (q : ℕ). f (w q))
 assign-map f p x w = fun-ext (λ q. cond-map f (eqb q p) x (w q))
 
 pub assign-self : {A : Type 0} (p : ℕ) (w : ℕ → A) → assign p (w p) w ≡ w

@@ -24,16 +24,25 @@ module _ (S : System) (L : Laws S) where
     pub replies-same : (ts : List (Request Op)) (a b : Store) → All (ReadsIn S P) ts → Same P a b → repliesOf S ts a ≡ repliesOf S ts b
     replies-same [] a b h s = refl
     replies-same (t ∷ ts) a b h s =
-        rw (reply-same S L {P = P} (t .op) a b (h .0) s, replies-same ts (runOne S (t .op) a) (runOne S (t .op) b) (h .1) (runOne-same S L {P = P} (t .op) a b (h .0) s)) refl
+        rw (
+          reply-same S L {P = P} (t .op) a b (h .0) s,
+          replies-same ts (runOne S (t .op) a) (runOne S (t .op) b) (h .1)
+              (runOne-same S L {P = P} (t .op) a b (h .0) s),
+        ) refl
 
     pub updates-same : (ts : List (Request Op)) (a b : Store) → All (ReadsIn S P) ts → Same P a b → updatesOf S ts a ≡ updatesOf S ts b
     updates-same [] a b h s = refl
     updates-same (t ∷ ts) a b h s =
-        rw (updates-same ts (runOne S (t .op) a) (runOne S (t .op) b) (h .1) (runOne-same S L {P = P} (t .op) a b (h .0) s), update-same S L {P = P} (t .op) a b (h .0) s) refl
+        rw (
+          updates-same ts (runOne S (t .op) a) (runOne S (t .op) b) (h .1)
+              (runOne-same S L {P = P} (t .op) a b (h .0) s),
+          update-same S L {P = P} (t .op) a b (h .0) s,
+        ) refl
 
     pub runAll-same : (ts : List (Request Op)) (a b : Store) → All (ReadsIn S P) ts → Same P a b → Same P (runAll S ts a) (runAll S ts b)
     runAll-same [] a b h s = s
-    runAll-same (t ∷ ts) a b h s = runAll-same ts (runOne S (t .op) a) (runOne S (t .op) b) (h .1) (runOne-same S L {P = P} (t .op) a b (h .0) s)
+    runAll-same (t ∷ ts) a b h s = runAll-same ts (runOne S (t .op) a) (runOne S (t .op) b) (h .1)
+        (runOne-same S L {P = P} (t .op) a b (h .0) s)
 
   pub runAll-updates : (ts : List (Request Op)) (b : Store) → runAll S ts b ≡ applyAll (updatesOf S ts b) b
   runAll-updates [] b = refl
@@ -41,8 +50,11 @@ module _ (S : System) (L : Laws S) where
 
   pub updates-out : (p : ℕ) (ts : List (Request Op)) (b : Store) → All (OfDesk S p) ts → All (Within (OutCell S p)) (updatesOf S ts b)
   updates-out p [] b h = tt
-  updates-out p (t ∷ ts) b h =
-      (Within-part (Writes (t .op)) (OutCell S p) (update (t .op) b) (λ c k. (t .op, h .0, k)) (L .update-writes (t .op) b), updates-out p ts (runOne S (t .op) b) (h .1))
+  updates-out p (t ∷ ts) b h = (
+    Within-part (Writes (t .op)) (OutCell S p) (update (t .op) b) (λ c k. (t .op, h .0, k))
+        (L .update-writes (t .op) b),
+    updates-out p ts (runOne S (t .op) b) (h .1),
+  )
 
   -- ---- A queue that becomes the last globals
 

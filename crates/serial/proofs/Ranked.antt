@@ -32,24 +32,31 @@ module _ (S : System) (L : Laws S) where
   ranked-high i j k [] h = tt
   ranked-high i j k (t ∷ ts) h = (omega (arith, suc-mul k (suc n)), ranked-high i j (suc k) ts (omega (arith, suc-mul k (suc n))))
 
-  pub ranked-all : (P : Op → Type 0) (i k : ℕ) (ts : List (Request Op)) → All (λ (t : Request Op). P (t .op)) ts → All (λ (e : Finished Op). P (e .request .op)) (ranked S i k ts)
+  pub ranked-all : (P : Op → Type 0) (i k : ℕ) (ts : List (Request Op)) → All (λ (t : Request Op). P (t .op)) ts →
+      All (λ (e : Finished Op). P (e .request .op)) (ranked S i k ts)
   ranked-all P i k [] h = tt
   ranked-all P i k (t ∷ ts) h = (h .0, ranked-all P i (suc k) ts (h .1))
 
   -- sorted behind all that is there
-  pub ranked-sort : (i k : ℕ) (es : List (Finished Op)) (ts : List (Request Op)) → All (Low (place n) (placeAt n k n)) es → sortOnto (place n) es (ranked S i k ts) ≡ es ++ ranked S i k ts
+  pub ranked-sort : (i k : ℕ) (es : List (Finished Op)) (ts : List (Request Op)) → All (Low (place n) (placeAt n k n)) es →
+      sortOnto (place n) es (ranked S i k ts) ≡ es ++ ranked S i k ts
   ranked-sort i k es [] h = sym (append-nil es)
   ranked-sort i k es (t ∷ ts) h =
       let e : Finished Op = record { slot = globalRun (suc k); by = i; request = t } in
       ap (λ (l : List (Finished Op)). sortOnto (place n) l (ranked S i (suc k) ts))
-      (Sorting.insert-last (place n) e es (All-part (Low (place n) (placeAt n k n)) (Low (place n) (placeAt n (suc k) 0)) es (λ x l. omega (arith, suc-mul k (suc n))) h))
+      (Sorting.insert-last (place n) e es
+      (All-part (Low (place n) (placeAt n k n)) (Low (place n) (placeAt n (suc k) 0)) es (λ x l. omega (arith, suc-mul k (suc n))) h))
       ∙ ranked-sort i (suc k) (es ++ (e ∷ [])) ts
-      (All-append (Low (place n) (placeAt n (suc k) n)) es (e ∷ []) (All-part (Low (place n) (placeAt n k n)) (Low (place n) (placeAt n (suc k) n)) es (λ x l. omega (arith, suc-mul k (suc n))) h) (omega arith, tt))
+      (All-append (Low (place n) (placeAt n (suc k) n)) es (e ∷ [])
+      (All-part (Low (place n) (placeAt n k n)) (Low (place n) (placeAt n (suc k) n)) es (λ x l. omega (arith, suc-mul k (suc n))) h)
+      (omega arith, tt))
       ∙ append-assoc es (e ∷ []) (ranked S i (suc k) ts)
 
   -- what is true beyond the last global stays so: there is nothing if the queue was not empty
-  pub ranked-beyond : (P : Finished Op → Type 0) (q i m : ℕ) (es : List (Finished Op)) (ts : List (Request Op)) → All (Low (place n) (placeAt n m n)) es →
-      All P (beyond (place n) (placeAt n m (suc q)) es) → All P (beyond (place n) (placeAt n (m + length ts) (suc q)) (es ++ ranked S i m ts))
+  pub ranked-beyond : (P : Finished Op → Type 0) (q i m : ℕ) (es : List (Finished Op)) (ts : List (Request Op)) →
+      All (Low (place n) (placeAt n m n)) es →
+      All P (beyond (place n) (placeAt n m (suc q)) es) →
+      All P (beyond (place n) (placeAt n (m + length ts) (suc q)) (es ++ ranked S i m ts))
   ranked-beyond P q i m es [] l h = rw (append-nil es, add-zero m) h
   ranked-beyond P q i m es (t ∷ ts) l h =
       let k : ℕ = m + suc (length ts) in
@@ -58,5 +65,6 @@ module _ (S : System) (L : Laws S) where
       (All-append (Low (place n) (placeAt n k (suc q))) es (ranked S i m (t ∷ ts))
       (All-part (Low (place n) (placeAt n m n)) (Low (place n) (placeAt n k (suc q))) es
       (λ x v. omega (arith, suc-mul m (suc n), place-mono S L {j = suc m} {k = m + suc (length ts)} 0 (omega arith))) l)
-      (All-part (Low (place n) (placeAt n k 0)) (Low (place n) (placeAt n k (suc q))) (ranked S i m (t ∷ ts)) (λ x v. omega arith) (ranked-low i m (t ∷ ts))))))
+      (All-part (Low (place n) (placeAt n k 0)) (Low (place n) (placeAt n k (suc q))) (ranked S i m (t ∷ ts)) (λ x v. omega arith)
+      (ranked-low i m (t ∷ ts))))))
       tt

@@ -160,7 +160,8 @@ module _ (S : System) where
     still : Noted (noteNothing S s)
     still =
         record {
-          old = older (s .calls) (suc (s .calls)) (length (s .globals)) (length (s .globals)) (omega arith) (le-refl _) (s .finished) (k .old);
+          old = older (s .calls) (suc (s .calls)) (length (s .globals)) (length (s .globals)) (omega arith) (le-refl _) (s .finished)
+              (k .old);
           ranged = k .ranged;
           running = k .running;
         }
@@ -212,7 +213,8 @@ module _ (S : System) where
   order-follows-rule cs rs h =
       let s : Serial Op = serial S cs rs in
       let k : Noted s = noted-all cs rs (newSerial S) (record { old = tt; ranged = tt; running = tt }) h in
-      Pairs-part InRange (ByKey (place n) Ran) Precedes (order S s) by-rule (Sorting.all-sort (place n) InRange [] (s .finished) tt (k .ranged))
+      Pairs-part InRange (ByKey (place n) Ran) Precedes (order S s) by-rule
+      (Sorting.all-sort (place n) InRange [] (s .finished) tt (k .ranged))
       (sorted (place n) Ran [] (s .finished) tt (k .running) tt)
 
   -- "the finished operations, two equal requests being two, are put in serial order"

@@ -79,7 +79,8 @@ module _ {A : Type 0} (key : A → ℕ) where
   beyond-upto P j k [] h = tt
   beyond-upto P j k (e ∷ es) h =
       by-less j (key e) (λ l. rw (ltb-yes l) tt)
-      (λ l. by-less k (key e) (λ m. rw (ltb-no l) (all-beyond P k (e ∷ upto key j es) (let a : All P (e ∷ es) = rw (ltb-yes m) at h in (a .0, all-upto P j es (a .1)))))
+      (λ l. by-less k (key e) (λ m. rw (ltb-no l)
+      (all-beyond P k (e ∷ upto key j es) (let a : All P (e ∷ es) = rw (ltb-yes m) at h in (a .0, all-upto P j es (a .1)))))
       (λ m. rw (ltb-no l) (rw (ltb-no m) (beyond-upto P j k es (rw (ltb-no m) at h)))))
 
   -- ---- One more, e
@@ -102,15 +103,19 @@ module _ {A : Type 0} (key : A → ℕ) where
   pub beyond-insert-hi : (k : ℕ) (e : A) (es : List A) → key e ≤ k → beyond key k (insert key e es) ≡ beyond key k es
   beyond-insert-hi k e es h =
       beyond-front k (upto key (key e) es) (e ∷ beyond key (key e) es) (upto-low (key e) k es h)
-      ∙ rw (ltb-no h) (sym (beyond-front k (upto key (key e) es) (beyond key (key e) es) (upto-low (key e) k es h)) ∙ ap (beyond key k) (upto-beyond (key e) es))
+      ∙ rw (ltb-no h) (sym (beyond-front k (upto key (key e) es) (beyond key (key e) es) (upto-low (key e) k es h))
+      ∙ ap (beyond key k) (upto-beyond (key e) es))
 
-  pub beyond-insert : (P : A → Type 0) (k : ℕ) (e : A) (es : List A) → P e → All P (beyond key k es) → All P (beyond key k (insert key e es))
+  pub beyond-insert : (P : A → Type 0) (k : ℕ) (e : A) (es : List A) → P e → All P (beyond key k es) →
+      All P (beyond key k (insert key e es))
   beyond-insert P k e es p a =
-      by-less k (key e) (λ h. beyond-append P k (upto key (key e) es) (e ∷ beyond key (key e) es) (beyond-upto P (key e) k es a) (p, beyond-mono P k (key e) es (omega arith) a))
+      by-less k (key e) (λ h. beyond-append P k (upto key (key e) es) (e ∷ beyond key (key e) es) (beyond-upto P (key e) k es a)
+      (p, beyond-mono P k (key e) es (omega arith) a))
       (λ h. rw (beyond-insert-hi k e es h) a)
 
   pub All-insert : (P : A → Type 0) (e : A) (es : List A) → P e → All P es → All P (insert key e es)
-  All-insert P e es p a = All-append P (upto key (key e) es) (e ∷ beyond key (key e) es) (all-upto P (key e) es a) (p, all-beyond P (key e) es a)
+  All-insert P e es p a = All-append P (upto key (key e) es) (e ∷ beyond key (key e) es) (all-upto P (key e) es a)
+      (p, all-beyond P (key e) es a)
 
   pub insert-last : (e : A) (es : List A) → All (Low (key e)) es → insert key e es ≡ es ++ (e ∷ [])
   insert-last e es h = rw (upto-whole (key e) es h, beyond-none (key e) es h) refl

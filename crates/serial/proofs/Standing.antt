@@ -14,9 +14,9 @@ use Rattle.serial.specs.History.{answers, desksAfter, newDesks, Proper}
 use Rattle.serial.specs.Order.{Finished, placeAt, place, upto, beyond}
 use Rattle.serial.specs.SerialRun.{Serial, order, storeAfter}
 use Rattle.serial.specs.Visits.{Visit, appended, lastOf, latestFrame, visits}
+use Rattle.serial.specs.Hearing.{Hears, owed}
 use Rattle.serial.proofs.Lists.{All}
-use Rattle.serial.proofs.Conflicts.{Hears, BehindOf}
-use Rattle.serial.proofs.Token.{owed}
+use Rattle.serial.proofs.Conflicts.{BehindOf}
 use Rattle.serial.proofs.Calls.{awaitedOf}
 use Rattle.serial.proofs.Histories.{serialOf, history-good}
 use Rattle.serial.proofs.TokenTheorems.{frame-carries-last-n}
@@ -35,7 +35,8 @@ pub shared-hears : (S : System) → Laws S → (o o′ : S .Op) (c : ℕ) → To
 shared-hears S L o o′ c t t′ ne p r nr w =
     ne (L .local-alone (w .0) (w .1) c (w .3) o t ∙ sym (L .local-alone (w .0) (w .1) c (w .3) o′ t′))
 
-module _ (S : System) (L : Laws S) (b : Store) (cs : List (Call (S .Op) (S .Extra))) (pr : Proper S (newDesks S b) (startFrame ∷ []) cs) where
+module _ (S : System) (L : Laws S) (b : Store) (cs : List (Call (S .Op) (S .Extra)))
+    (pr : Proper S (newDesks S b) (startFrame ∷ []) cs) where
   open System S using (n, Op)
 
   -- the desks, the serial run and the serial order at the end
@@ -59,7 +60,8 @@ module _ (S : System) (L : Laws S) (b : Store) (cs : List (Call (S .Op) (S .Extr
   latest-below = history-good S L b cs pr .latest-below
 
   -- on the cells that desk p hears of, those that no other desk's local may write, its store is the serial one at its place
-  pub store-is-serial-at-place : (p : ℕ) → p < n → Same (Hears S p) (desks p .store) (storeAfter S (upto (place n) (placeOfDesk p) theOrder) b)
+  pub store-is-serial-at-place : (p : ℕ) → p < n →
+      Same (Hears S p) (desks p .store) (storeAfter S (upto (place n) (placeOfDesk p) theOrder) b)
   store-is-serial-at-place p h = history-good S L b cs pr .inv .here p h
 
   -- whose turn comes first has heard least: at its turn, what a desk has heard every desk has
@@ -86,8 +88,10 @@ module _ (S : System) (L : Laws S) (b : Store) (cs : List (Call (S .Op) (S .Extr
 
     quiet-store : (p : ℕ) → p < n → Same (Hears S p) (desks p .store) (storeAfter S theOrder b)
     quiet-store p h =
-        subst (λ (us : List (ℕ × Update)). Same (Hears S p) (applyAll (owed (awaitedOf desks) p us) (desks p .store)) (storeAfter S theOrder b))
+        subst (λ (us : List (ℕ × Update)). Same (Hears S p) (applyAll (owed (awaitedOf desks) p us) (desks p .store))
+        (storeAfter S theOrder b))
         quiet-frame (store-with-owed-is-serial p h)
 
-    pub quiet-stores-agree : (p q c : ℕ) → p < n → q < n → Hears S p c → Hears S q c → getD (desks p .store) c 0 ≡ getD (desks q .store) c 0
+    pub quiet-stores-agree : (p q c : ℕ) → p < n → q < n → Hears S p c → Hears S q c → getD (desks p .store) c 0
+        ≡ getD (desks q .store) c 0
     quiet-stores-agree p q c h l k m = quiet-store p h .1 c k ∙ sym (quiet-store q l .1 c m)

@@ -49,7 +49,8 @@ apply-off {P} {Q} (w ∷ u) a q f =
     Same-trans (applyUpdate u (set a (w .0) (w .1))) (set a (w .0) (w .1)) a (apply-off u (set a (w .0) (w .1)) (q .1) f)
     (length-set a (w .0) (w .1), λ c h. getD-set-other a (w .0) c (w .1) 0 (λ e. f c h (rw e (q .0))))
 
-set-apply : (Q : ℕ → Type 0) (u : Update) (i v : ℕ) (a : Store) → Within Q u → (Q i → ⊥) → applyUpdate u (set a i v) ≡ set (applyUpdate u a) i v
+set-apply : (Q : ℕ → Type 0) (u : Update) (i v : ℕ) (a : Store) → Within Q u → (Q i → ⊥) → applyUpdate u (set a i v)
+    ≡ set (applyUpdate u a) i v
 set-apply Q [] i v a q f = refl
 set-apply Q (w ∷ u) i v a q f =
     ap (applyUpdate u) (set-comm a i (w .0) v (w .1) (λ e. f (rw e (q .0)))) ∙ set-apply Q u i v (set a (w .0) (w .1)) (q .1) f

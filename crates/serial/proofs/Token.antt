@@ -3,28 +3,24 @@
 use Prim.Native.Nat.{ℕ, _≤_, _<_}
 use mathlib.Core.Path.{_≡_, refl, sym, _∙_, ap}
 use mathlib.Core.Logic.{_≢_, inr}
-use mathlib.Core.Bool.{cond}
 use mathlib.Core.List.{List, [], _∷_, _++_}
 use native.Mathlib.Omega.{arith}
-use lib.Dec.{ltb}
 use Rattle.serial.specs.Store.{Store, Update, applyUpdate, applyAll, Within}
 use Rattle.serial.specs.Frame.{foreign, tag, untag}
 use Rattle.serial.specs.System.{System, Laws}
+use Rattle.serial.specs.Hearing.{OwnCell, owed}
 use Rattle.serial.proofs.Tests.{by-same, by-less, eqb-yes, eqb-no, ltb-yes, ltb-no}
 use Rattle.serial.proofs.Lists.{All}
 use Rattle.serial.proofs.Stores.{apply-swap}
-use Rattle.serial.proofs.Conflicts.{OwnCell, OutCell}
+use Rattle.serial.proofs.Conflicts.{OutCell}
 
--- ---- What desk p is owed: the updates of desks whose visit comes after its own next one
-
-abbrev pub owed : (ℕ → ℕ) → ℕ → List (ℕ × Update) → List Update
-owed aw p [] = []
-owed aw p (u ∷ us) = cond (ltb (aw p) (aw (u .0))) (u .1 ∷ owed aw p us) (owed aw p us)
+-- ---- What desk p is owed
 
 pub owed-append : (aw : ℕ → ℕ) (p : ℕ) (us vs : List (ℕ × Update)) → owed aw p (us ++ vs) ≡ owed aw p us ++ owed aw p vs
 owed-append aw p [] vs = refl
 owed-append aw p (u ∷ us) vs =
-    by-less (aw p) (aw (u .0)) (λ h. rw (ltb-yes h) (ap (λ (l : List Update). u .1 ∷ l) (owed-append aw p us vs))) (λ h. rw (ltb-no h) (owed-append aw p us vs))
+    by-less (aw p) (aw (u .0)) (λ h. rw (ltb-yes h) (ap (λ (l : List Update). u .1 ∷ l) (owed-append aw p us vs)))
+    (λ h. rw (ltb-no h) (owed-append aw p us vs))
 
 pub owed-all : (aw : ℕ → ℕ) (q p : ℕ) (us : List Update) → aw q < aw p → owed aw q (tag p us) ≡ us
 owed-all aw q p [] h = refl
@@ -61,7 +57,8 @@ all-tagged P p (u ∷ us) h = (h .0, all-tagged P p us (h .1))
 
 -- what a local of desk p writes goes past what p is owed
 pub owed-past : (S : System) (L : Laws S) (aw : ℕ → ℕ) (p : ℕ) (u : Update) (us : List (ℕ × Update)) (b : Store) → Within (OwnCell S p) u →
-    All (λ (v : ℕ × Update). Within (OutCell S (v .0)) (v .1)) us → applyAll (owed aw p us) (applyUpdate u b) ≡ applyUpdate u (applyAll (owed aw p us) b)
+    All (λ (v : ℕ × Update). Within (OutCell S (v .0)) (v .1)) us → applyAll (owed aw p us) (applyUpdate u b)
+    ≡ applyUpdate u (applyAll (owed aw p us) b)
 owed-past S L aw p u [] b w h = refl
 owed-past S L aw p u (v ∷ us) b w h =
     by-less (aw p) (aw (v .0))

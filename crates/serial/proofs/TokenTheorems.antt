@@ -15,10 +15,10 @@ use Rattle.serial.specs.Desk.{Desk, Call, visit}
 use Rattle.serial.specs.System.{System, Laws}
 use Rattle.serial.specs.History.{answerAt, stepAt, answers, desksAfter, newDesks, Proper}
 use Rattle.serial.specs.SerialRun.{Serial}
-use Rattle.serial.specs.Visits.{Visit, appended, lastOf, frameAfter, latestFrame, visitsAt, visits}
+use Rattle.serial.specs.Visits.{Visit, appended, lastOf, frameAfter, latestFrame, framesAfter, visitsAt, visits}
 use Rattle.serial.proofs.Tests.{true-T}
 use Rattle.serial.proofs.Calls.{Replies, Good}
-use Rattle.serial.proofs.Histories.{framesAfter, accepted-latest, call-good, new-good, history-good}
+use Rattle.serial.proofs.Histories.{accepted-latest, call-good, new-good, history-good}
 use Rattle.serial.proofs.Turns.{Entry, Turn, turn}
 use Rattle.serial.proofs.Circle.{Numbered, numbered-append, numbered-at, drops-oldest, carries-on}
 
@@ -31,7 +31,8 @@ pub record Logged (n : ℕ) (vs : List Visit) (tk : Frame) : Type 0 where
 module _ (S : System) (L : Laws S) (b : Store) where
   open System S using (n, Op, Extra, Reply, admits)
 
-  logged-turn : (vs : List Visit) (tk : Frame) (us : List Visit) (tk′ : Frame) → Logged n vs tk → Turn n tk us tk′ → Logged n (vs ++ us) tk′
+  logged-turn : (vs : List Visit) (tk : Frame) (us : List Visit) (tk′ : Frame) → Logged n vs tk → Turn n tk us tk′ →
+      Logged n (vs ++ us) tk′
   logged-turn vs tk us tk′ g (inl h) = rw (h .0, h .1, append-nil vs) g
   logged-turn vs tk us tk′ g (inr h) =
       let v : Visit = h .0 in
@@ -61,7 +62,8 @@ module _ (S : System) (L : Laws S) (b : Store) where
     latest = latestFrame startFrame (answers S (newDesks S b) cs)
 
     pub history-logged : Logged n vs latest
-    history-logged = logged cs (new-good S L b) pr [] (record { count = refl; numbered = tt; carried = ap appended (sym (drop-nil (0 - n))) })
+    history-logged = logged cs (new-good S L b) pr []
+        (record { count = refl; numbered = tt; carried = ap appended (sym (drop-nil (0 - n))) })
 
     -- the i-th accepted visit has number i, is at desk i mod n, and appended updates of that desk
     pub visits-numbered : (i : ℕ) (d : Visit) → i < length vs → Entry n i (getD vs i d)
@@ -78,7 +80,8 @@ module _ (S : System) (L : Laws S) (b : Store) where
     frame-carries-last-n = history-logged .carried
 
     -- an accepted visit after this history takes in the updates of the visits since its desk's latest one: of the last n - 1
-    module _ (p : ℕ) (f : Frame) (x : Extra) (below : p < n) (known : List·Memᴰ f (framesAfter (startFrame ∷ []) (answers S (newDesks S b) cs)))
+    module _ (p : ℕ) (f : Frame) (x : Extra) (below : p < n)
+        (known : List·Memᴰ f (framesAfter (startFrame ∷ []) (answers S (newDesks S b) cs)))
         (accepted : admits (desksAfter S (newDesks S b) cs p) (visit p f x) ≡ true) where
       brings-latest : f ≡ latest
       brings-latest = accepted-latest S L b (history-good S L b cs pr) p f x below accepted known

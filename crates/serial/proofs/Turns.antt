@@ -41,7 +41,8 @@ all-marked : (p : ℕ) (us : List Update) → All (MarkedBy p) (tag p us)
 all-marked p [] = tt
 all-marked p (u ∷ us) = (refl, all-marked p us)
 
-module _ (S : System) (L : Laws S) {b : Store} {w : ℕ → Desk (S .Op)} {s : Serial (S .Op)} {past : Replies (S .Reply)} {fs : List Frame} {tk : Frame}
+module _ (S : System) (L : Laws S) {b : Store} {w : ℕ → Desk (S .Op)} {s : Serial (S .Op)} {past : Replies (S .Reply)} {fs : List Frame}
+    {tk : Frame}
     (k : Good S b w s past fs tk) where
   open System S using (n, Op, Extra, Reply, admits)
 

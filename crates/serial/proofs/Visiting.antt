@@ -15,24 +15,25 @@ use Rattle.serial.specs.Step.{runAll, repliesOf, updatesOf}
 use Rattle.serial.specs.History.{assign}
 use Rattle.serial.specs.Order.{Finished, placeAt, place, upto, beyond}
 use Rattle.serial.specs.SerialRun.{ranked, storeAfter, due}
+use Rattle.serial.specs.Hearing.{Hears, owed}
 use Rattle.serial.proofs.Tests.{by-same, by-less, eqb-yes, eqb-no, eqb-self}
 use Rattle.serial.proofs.Lists.{All, All-append, All-part, snoc-own, snoc-other}
 use Rattle.serial.proofs.Stores.{Same-trans, applyAll-same, applyAll-append}
 use Rattle.serial.proofs.Sorting
 use Rattle.serial.proofs.Sorting.{Low}
 use Rattle.serial.proofs.Conflicts
-use Rattle.serial.proofs.Conflicts.{Hears, NotOf, BesideOf, BehindOf, ReadsIn, OfDesk, OutCell, Tagged}
+use Rattle.serial.proofs.Conflicts.{NotOf, BesideOf, BehindOf, ReadsIn, OfDesk, OutCell, Tagged}
 use Rattle.serial.proofs.Runs
 use Rattle.serial.proofs.Queues
 use Rattle.serial.proofs.Token
-use Rattle.serial.proofs.Token.{owed}
 use Rattle.serial.proofs.Invariant.{Known, Inv, place-mono, upto-hears}
 use Rattle.serial.proofs.Ranked.{ranked-low, ranked-high, ranked-all, ranked-beyond}
 
 module _ (S : System) (L : Laws S) where
   open System S using (n, Op, Reply)
 
-  module _ {b : Store} {stores : ℕ → Store} {queues : ℕ → List (Request Op)} {aw g : ℕ → ℕ} {m : ℕ} {es : List (Finished Op)} {past : List (List (ℕ × Reply))}
+  module _ {b : Store} {stores : ℕ → Store} {queues : ℕ → List (Request Op)} {aw g : ℕ → ℕ} {m : ℕ} {es : List (Finished Op)}
+      {past : List (List (ℕ × Reply))}
       {fs : List Frame} {tk : Frame} (I : Inv S b stores queues aw g m es past fs tk) (p : ℕ) (below : p < n) where
     -- ---- Visit tk .number at desk p
 
@@ -64,17 +65,20 @@ module _ (S : System) (L : Laws S) where
       -- every other desk's turn is later
       later : (q : ℕ) → q < n → q ≢ p → aw p < aw q
       later q h ne = by-less (aw p) (aw q) (λ l. l)
-          (λ l. let e : aw q ≡ aw p = omega (arith, I .wait-low q h) in absurd (ne (sym (I .wait-mod q h) ∙ ap (λ (x : ℕ). x % n) e ∙ I .wait-mod p below)))
+          (λ l. let e : aw q ≡ aw p = omega (arith, I .wait-low q h) in absurd
+          (ne (sym (I .wait-mod q h) ∙ ap (λ (x : ℕ). x % n) e ∙ I .wait-mod p below)))
 
       -- with the others' updates in, the desk's store is the serial one at the end, and the queue runs on either alike
       mine-end : Same (Hears S p) mine end
       mine-end =
           subst (λ (us : List Update). Same (Hears S p) (applyAll us (stores p)) end)
-          (Token.owed-now aw p (tk .updates) (All-part (Tagged S) (λ (u : ℕ × Update). u .0 ≢ p → aw p < aw (u .0)) (tk .updates) (λ u h. later (u .0) (h .0)) (I .tags)))
+          (Token.owed-now aw p (tk .updates)
+          (All-part (Tagged S) (λ (u : ℕ × Update). u .0 ≢ p → aw p < aw (u .0)) (tk .updates) (λ u h. later (u .0) (h .0)) (I .tags)))
           (I .there p below)
 
       reading : All (ReadsIn S (Hears S p)) queue
-      reading = All-part (OfDesk S p) (ReadsIn S (Hears S p)) queue (λ t d c r. Conflicts.desk-hears S L p (t .op) c d (inl r)) (I .queued p)
+      reading = All-part (OfDesk S p) (ReadsIn S (Hears S p)) queue (λ t d c r. Conflicts.desk-hears S L p (t .op) c d (inl r))
+          (I .queued p)
 
       end-line : storeAfter S (es ++ last) b ≡ runAll S queue end
       end-line = Runs.storeAfter-append S L es last b ∙ Queues.ranked-store S L (length past) m queue end
@@ -92,7 +96,8 @@ module _ (S : System) (L : Laws S) where
       sent-tags =
           All-append (Tagged S) (foreign p (tk .updates)) (tag p news) (Token.all-foreign (Tagged S) p (tk .updates) (I .tags))
           (Token.all-tagged (Tagged S) p news
-          (All-part (Within (OutCell S p)) (λ (u : Update). Tagged S (p, u)) news (λ u h. (below, h)) (Queues.updates-out S L p queue mine (I .queued p))))
+          (All-part (Within (OutCell S p)) (λ (u : Update). Tagged S (p, u)) news (λ u h. (below, h))
+          (Queues.updates-out S L p queue mine (I .queued p))))
 
       owed-own : owed aw′ p (outgoing .updates) ≡ []
       owed-own =
@@ -118,24 +123,31 @@ module _ (S : System) (L : Laws S) where
           by-same q p
           (λ e. rw (e, eqb-self p)
           (ranked-beyond S L (BehindOf S p) p (length past) m es queue (I .low)
-          (Sorting.beyond-mono (place n) (BehindOf S p) (placeAt n (g p) (suc p)) (placeAt n m (suc p)) es (place-mono S L (suc p) (I .g-low p)) (I .behind p below))))
+          (Sorting.beyond-mono (place n) (BehindOf S p) (placeAt n (g p) (suc p)) (placeAt n m (suc p)) es
+          (place-mono S L (suc p) (I .g-low p)) (I .behind p below))))
           (λ e. rw (eqb-no e)
           (Sorting.beyond-append (place n) (BehindOf S q) (placeAt n (g q) (suc q)) es last (I .behind q h)
-          (ranked-all S L (NotOf S q) (length past) m queue (All-part (OfDesk S p) (λ (t : Request Op). NotOf S q (t .op)) queue (λ t d. inr (λ k. e (sym k ∙ d))) (I .queued p)))))
+          (ranked-all S L (NotOf S q) (length past) m queue
+          (All-part (OfDesk S p) (λ (t : Request Op). NotOf S q (t .op)) queue (λ t d. inr (λ k. e (sym k ∙ d))) (I .queued p)))))
 
-      visit-here : (q : ℕ) → q < n → Same (Hears S q) (assign p (runAll S queue mine) stores q) (storeAfter S (upto (place n) (placeAt n (g′ q) (suc q)) (es ++ last)) b)
+      visit-here : (q : ℕ) → q < n → Same (Hears S q) (assign p (runAll S queue mine) stores q)
+          (storeAfter S (upto (place n) (placeAt n (g′ q) (suc q)) (es ++ last)) b)
       visit-here q h =
           let k : ℕ = placeAt n (m + length queue) (suc p) in
           by-same q p
           (λ e. rw (e, eqb-self p)
-          (Same-trans (runAll S queue mine) (storeAfter S (es ++ last) b) (storeAfter S (upto (place n) k (es ++ last)) b) mine-after (upto-hears S L p k (es ++ last) b (visit-aside p below))))
+          (Same-trans (runAll S queue mine) (storeAfter S (es ++ last) b) (storeAfter S (upto (place n) k (es ++ last)) b) mine-after
+          (upto-hears S L p k (es ++ last) b (visit-aside p below))))
           (λ e. rw (eqb-no e)
           (rw
           (Sorting.upto-append (place n) (placeAt n (g q) (suc q)) es last
-          (ranked-high S L (length past) (placeAt n (g q) (suc q)) m queue (omega (arith, place-mono S L {j = g q} {k = m} 0 (I .g-low q)))))
+          (ranked-high S L (length past) (placeAt n (g q) (suc q)) m queue
+          (omega (arith, place-mono S L {j = g q} {k = m} 0 (I .g-low q)))))
           (I .here q h)))
 
-      visit-there : (q : ℕ) → q < n → Same (Hears S q) (applyAll (owed aw′ q (outgoing .updates)) (assign p (runAll S queue mine) stores q)) (storeAfter S (es ++ last) b)
+      visit-there : (q : ℕ) → q < n →
+          Same (Hears S q) (applyAll (owed aw′ q (outgoing .updates)) (assign p (runAll S queue mine) stores q))
+          (storeAfter S (es ++ last) b)
       visit-there q h =
           by-same q p
           (λ e. rw (e, owed-own) (rw (eqb-self p) mine-after))
@@ -150,9 +162,11 @@ module _ (S : System) (L : Laws S) where
           (snoc-own past (repliesOf S queue mine) ∙ Queues.replies-same S L (Hears S p) queue mine end reading mine-end
           ∙ sym
           (Runs.due-append S L (length past) es last b
-          ∙ rw (← I .giving (length past), List·getD-eq-default past [] (le-refl (length past))) (Queues.ranked-due S L (length past) m queue end))))
+          ∙ rw (← I .giving (length past), List·getD-eq-default past [] (le-refl (length past)))
+          (Queues.ranked-due S L (length past) m queue end))))
           (λ e. snoc-other past (repliesOf S queue mine) i e ∙ I .giving i
-          ∙ sym (Runs.due-append S L i es last b ∙ rw (Queues.ranked-due-other S L (length past) i m queue end (λ k. e (sym k))) (append-nil (due S i es b))))
+          ∙ sym (Runs.due-append S L i es last b
+          ∙ rw (Queues.ranked-due-other S L (length past) i m queue end (λ k. e (sym k))) (append-nil (due S i es b))))
 
       visit-turns : (q r : ℕ) → q < n → r < n → aw′ q ≤ aw′ r → g′ q ≤ g′ r
       visit-turns q r h l k =
@@ -163,21 +177,27 @@ module _ (S : System) (L : Laws S) where
           (by-same q p (λ i. let k″ : tk .number + n ≤ aw r = rw (eqb-yes i) at k′ in absurd (omega (arith, I .wait-high r l)))
           (λ i. rw (eqb-no i) (I .turns q r h l (rw (eqb-no i) at k′)))))
 
-      pub visit-inv : Inv S b (assign p (runAll S queue mine) stores) (assign p [] queues) aw′ g′ (m + length queue) (es ++ last) (past ++ (repliesOf S queue mine ∷ [])) (fs ++ (outgoing ∷ [])) outgoing
+      pub visit-inv : Inv S b (assign p (runAll S queue mine) stores) (assign p [] queues) aw′ g′ (m + length queue) (es ++ last)
+          (past ++ (repliesOf S queue mine ∷ [])) (fs ++ (outgoing ∷ [])) outgoing
       visit-inv =
           record {
-            wait-low = λ q h. by-same q p (λ e. rw (eqb-yes e) (omega (arith, L .some-desk))) (λ e. rw (eqb-no e) (omega (arith, later q h e)));
+            wait-low = λ q h. by-same q p (λ e. rw (eqb-yes e) (omega (arith, L .some-desk)))
+                (λ e. rw (eqb-no e) (omega (arith, later q h e)));
             wait-high = λ q h. by-same q p (λ e. rw (eqb-yes e) (omega arith)) (λ e. rw (eqb-no e) (omega (arith, I .wait-high q h)));
-            wait-mod = λ q h. by-same q p (λ e. rw (eqb-yes e) (rw e (add-mod-right (tk .number) n ∙ ap (λ (x : ℕ). x % n) turn ∙ I .wait-mod p below)))
+            wait-mod = λ q h. by-same q p (λ e. rw (eqb-yes e)
+                (rw e (add-mod-right (tk .number) n ∙ ap (λ (x : ℕ). x % n) turn ∙ I .wait-mod p below)))
                 (λ e. rw (eqb-no e) (I .wait-mod q h));
             frames = All-append (Known outgoing) fs (outgoing ∷ [])
-                (All-part (Known tk) (Known outgoing) fs (λ f h. (omega (arith, h .0), λ e. absurd (omega (arith, h .0)))) (I .frames)) ((le-refl _, λ e. refl), tt);
+                (All-part (Known tk) (Known outgoing) fs (λ f h. (omega (arith, h .0), λ e. absurd (omega (arith, h .0)))) (I .frames))
+                ((le-refl _, λ e. refl), tt);
             tags = sent-tags;
             g-low = λ q. by-same q p (λ e. rw (eqb-yes e) (le-refl _)) (λ e. rw (eqb-no e) (omega (arith, I .g-low q)));
             turns = visit-turns;
             low = All-append (Low (place n) (placeAt n (m + length queue) n)) es last
-                (All-part (Low (place n) (placeAt n m n)) (Low (place n) (placeAt n (m + length queue) n)) es (λ e h. omega (arith, place-mono S L {j = m} {k = m + length queue} n (omega arith))) (I .low))
-                (All-part (Low (place n) (placeAt n (m + length queue) 0)) (Low (place n) (placeAt n (m + length queue) n)) last (λ e h. omega arith) (ranked-low S L (length past) m queue));
+                (All-part (Low (place n) (placeAt n m n)) (Low (place n) (placeAt n (m + length queue) n)) es
+                (λ e h. omega (arith, place-mono S L {j = m} {k = m + length queue} n (omega arith))) (I .low))
+                (All-part (Low (place n) (placeAt n (m + length queue) 0)) (Low (place n) (placeAt n (m + length queue) n)) last
+                (λ e h. omega arith) (ranked-low S L (length past) m queue));
             behind = visit-behind;
             aside = visit-aside;
             here = visit-here;

@@ -8,4 +8,5 @@ pub mod Order
 pub mod SerialRun
 pub mod Claim
 pub mod Visits
+pub mod Hearing
 pub mod Machine

@@ -5,7 +5,8 @@ use mathlib.Core.List.{List, [], _∷_, _++_}
 use lib.ListN.{length, drop}
 use Rattle.serial.specs.Store.{Update}
 use Rattle.serial.specs.Frame.{Frame}
-use Rattle.serial.specs.Desk.{Desk, Call, request, visit, deskCalled, Answer, refused, replied, waits, redirected, forwarded, isRefused}
+use Rattle.serial.specs.Desk.{Desk, Call, request, visit, deskCalled, Answer, refused, replied, waits, redirected, forwarded}
+use Rattle.serial.specs.Desk.{isRefused, sent}
 use Rattle.serial.specs.System.{System}
 use Rattle.serial.specs.Step.{made}
 use Rattle.serial.specs.History.{answerAt, stepAt}
@@ -36,6 +37,11 @@ frameAfter f (forwarded f′ rs) = f′
 abbrev pub latestFrame : {Reply : Type 0} → Frame → List (Answer Reply) → Frame
 latestFrame f [] = f
 latestFrame f (a ∷ ans) = latestFrame (frameAfter f a) ans
+
+-- all frames, once these answers are given
+abbrev pub framesAfter : {Reply : Type 0} → List Frame → List (Answer Reply) → List Frame
+framesAfter fs [] = fs
+framesAfter fs (a ∷ ans) = framesAfter (fs ++ sent a) ans
 
 module _ (S : System) where
   open System S using (Op, Extra)
