@@ -13,8 +13,8 @@ use Rattle.serial.specs.Step.{Route, immediate, enqueue, redirect, reque
 use Rattle.serial.specs.History.{assign}
 use Rattle.serial.specs.Order.{immediateRun, place, insert}
 use Rattle.serial.specs.SerialRun.{Serial, noteNothing, noteRequest, noteVisit, ranked, order}
-use Rattle.serial.proofs.Tests.{by-same, eqb-yes, eqb-no, eqb-self}
-use Rattle.serial.proofs.Lists.{All, All-mem, mem-All, one-more, snoc-nil, assign-map, assign-self}
+use Rattle.serial.proofs.Tests.{by-same, eqb-yes, eqb-no}
+use Rattle.serial.proofs.Lists.{All, All-mem, mem-All, one-more, snoc-nil, assign-map, assign-same, assign-self}
 use Rattle.serial.proofs.Sorting.{sortOnto-append}
 use Rattle.serial.proofs.Conflicts.{OfDesk}
 use Rattle.serial.proofs.Routes.{Routed}
@@ -57,7 +57,7 @@ module _ (S : System) where
     pub latest-heard : s .heard (s .latest) ≡ length (s .globals)
     pub inv : Inv S b (storesOf w) (queuesOf w) (awaitedOf w) (s .heard) (length (s .globals)) (order S s) past fs tk
 
--- the calls' count and the replies grow together
+-- the replies to each call
 abbrev pub Replies : Type 0 → Type 0
 Replies R = List (List (ℕ × R))
 
@@ -168,7 +168,7 @@ module _ (S : System) (L : Laws S) (b : Store) where
           queues-same = ap (assign p []) (k .queues-same) ∙ sym (part-put aQueue d);
           calls-past = ap suc (k .calls-past) ∙ one-more past (given (visitStep S p (w p) tk .1));
           latest-below = below;
-          latest-heard = rw (eqb-self p) refl;
+          latest-heard = assign-same p (length (s .globals ++ s .queues p)) (s .heard);
           inv = rw (part-put aStore d, part-put aQueue d, part-put anAwaited d, visit-order, visit-globals)
               (visit-inv S L (k .inv) p below e);
         }

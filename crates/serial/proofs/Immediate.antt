@@ -9,9 +9,9 @@ use native.Mathlib.Nat.{le-refl}
 use lib.ListN.{length, getD, List·getD-eq-default}
 use Rattle.serial.specs.Store.{Store, Update, applyUpdate, applyAll, Same, Within}
 use Rattle.serial.specs.Frame.{Frame}
-use Rattle.serial.specs.Desk.{Request}
+use Rattle.serial.specs.Desk.{Request, Desk, given}
 use Rattle.serial.specs.System.{System, Laws}
-use Rattle.serial.specs.Step.{runOne}
+use Rattle.serial.specs.Step.{immediate, requestStep}
 use Rattle.serial.specs.History.{assign}
 use Rattle.serial.specs.Order.{Finished, immediateRun, placeAt, place, upto, beyond, insert}
 use Rattle.serial.specs.SerialRun.{storeAfter, due}
@@ -44,6 +44,16 @@ module _ (S : System) (L : Laws S) where
     -- ---- A free or local operation runs at desk p
 
     module _ (t : Request Op) (hr : RunsAt S p (t .op)) where
+      -- desk p before the run, and as the run leaves it
+      abbrev d : Desk Op
+      d = record { store = stores p; queue = queues p; awaited = aw p }
+
+      abbrev left : Desk Op
+      left = requestStep S immediate d t .0
+
+      abbrev said : List (ℕ × Reply)
+      said = given (requestStep S immediate d t .1)
+
       abbrev spot : ℕ
       spot = placeAt n (g p) (suc p)
 
@@ -62,6 +72,10 @@ module _ (S : System) (L : Laws S) where
 
       made-same : update (t .op) (stores p) ≡ made
       made-same = Runs.update-same S L {P = Hears S p} (t .op) (stores p) at-spot reads-heard (I .here p below)
+
+      -- its store with the same written in
+      left-store : left .store ≡ applyUpdate made (stores p)
+      left-store = ap (λ (u : Update). applyUpdate u (stores p)) made-same
 
       made-own : Within (OwnCell S p) made
       made-own = Runs.made-own S L p new hr (upto (place n) spot es) [] b tt
@@ -85,12 +99,12 @@ module _ (S : System) (L : Laws S) where
           (Sorting.all-upto (place n) (BehindOf S p) j (beyond (place n) spot es) (I .behind p below)))
 
       immediate-here : (q : ℕ) → q < n →
-          Same (Hears S q) (assign p (runOne S (t .op) (stores p)) stores q)
+          Same (Hears S q) (assign p (left .store) stores q)
           (storeAfter S (upto (place n) (placeAt n (g q) (suc q)) (insert (place n) new es)) b)
       immediate-here q h =
           let k : ℕ = placeAt n (g q) (suc q) in
           by-same q p
-          (λ e. rw (e, eqb-self p, new-upto spot (le-refl _), made-same) (apply-same made (stores p) at-spot (I .here p below)))
+          (λ e. rw (e, eqb-self p, new-upto spot (le-refl _), left-store) (apply-same made (stores p) at-spot (I .here p below)))
           (λ e. rw (eqb-no e)
           (by-less k spot (λ l. rw (Sorting.upto-insert-lo (place n) k new es l) (I .here q h))
           (λ l. rw (new-upto k l)
@@ -98,7 +112,7 @@ module _ (S : System) (L : Laws S) where
           (I .here q h) (unheard q e (storeAfter S (upto (place n) k es) b))))))
 
       immediate-there : (q : ℕ) → q < n →
-          Same (Hears S q) (applyAll (owed aw q (tk .updates)) (assign p (runOne S (t .op) (stores p)) stores q))
+          Same (Hears S q) (applyAll (owed aw q (tk .updates)) (assign p (left .store) stores q))
           (storeAfter S (insert (place n) new es) b)
       immediate-there q h =
           by-same q p
@@ -106,7 +120,7 @@ module _ (S : System) (L : Laws S) where
             e,
             eqb-self p,
             new-end,
-            made-same,
+            left-store,
             Token.owed-past S L aw p made (tk .updates) (stores p) made-own
                 (All-part (Tagged S) (λ (u : ℕ × Update). Within (OutCell S (u .0)) (u .1)) (tk .updates) (λ u h. h .1) (I .tags)),
           )
@@ -115,22 +129,22 @@ module _ (S : System) (L : Laws S) where
           (Same-trans (applyAll (owed aw q (tk .updates)) (stores q)) (storeAfter S es b) (applyUpdate made (storeAfter S es b))
           (I .there q h) (unheard q e (storeAfter S es b))))
 
-      immediate-giving : (i : ℕ) → getD (past ++ (((t .client, reply (t .op) (stores p)) ∷ []) ∷ [])) i []
+      immediate-giving : (i : ℕ) → getD (past ++ (said ∷ [])) i []
           ≡ due S i (insert (place n) new es) b
       immediate-giving i =
           by-same i (length past)
           (λ e. rw e
-          (snoc-own past ((t .client, reply (t .op) (stores p)) ∷ [])
+          (snoc-own past said
           ∙ rw (Runs.reply-same S L {P = Hears S p} (t .op) (stores p) at-spot reads-heard (I .here p below))
           (sym (Runs.mid-due-own S L p new hr (upto (place n) spot es) (beyond (place n) spot es) b (I .behind p below)
           (rw (Sorting.upto-beyond (place n) spot es) (sym (I .giving (length past)) ∙ List·getD-eq-default past [] (le-refl _)))))))
-          (λ e. snoc-other past ((t .client, reply (t .op) (stores p)) ∷ []) i e ∙ I .giving i
+          (λ e. snoc-other past said i e ∙ I .giving i
           ∙ sym (Runs.mid-due-other S L p new hr (upto (place n) spot es) (beyond (place n) spot es) b (I .behind p below) i
           (λ k. e (sym k))
           ∙ ap (λ (l : List (Finished Op)). due S i l b) (Sorting.upto-beyond (place n) spot es)))
 
-      pub immediate-inv : Inv S b (assign p (runOne S (t .op) (stores p)) stores) queues aw g m (insert (place n) new es)
-          (past ++ (((t .client, reply (t .op) (stores p)) ∷ []) ∷ [])) fs tk
+      pub immediate-inv : Inv S b (assign p (left .store) stores) queues aw g m (insert (place n) new es)
+          (past ++ (said ∷ [])) fs tk
       immediate-inv =
           record {
             wait-low = I .wait-low;

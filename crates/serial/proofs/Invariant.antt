@@ -10,7 +10,7 @@ use Rattle.serial.specs.Store.{Store, applyAll, Same}
 use Rattle.serial.specs.Frame.{Frame}
 use Rattle.serial.specs.Desk.{Request}
 use Rattle.serial.specs.System.{System, Laws}
-use Rattle.serial.specs.Order.{Finished, placeAt, place, upto, beyond}
+use Rattle.serial.specs.Order.{Finished, span, placeAt, place, upto, beyond}
 use Rattle.serial.specs.SerialRun.{storeAfter, due}
 use Rattle.serial.specs.Hearing.{Hears, owed}
 use Rattle.serial.proofs.Lists.{All, All-part}
@@ -55,7 +55,7 @@ module _ (S : System) (L : Laws S) where
   open System S using (n, Op)
 
   pub place-mono : {j k : ℕ} (i : ℕ) → j ≤ k → placeAt n j i ≤ placeAt n k i
-  place-mono {j} {k} i h = omega (arith, mul-le-mul-right (suc n) h)
+  place-mono {j} {k} i h = omega (arith, mul-le-mul-right (span n) h)
 
   -- the serial store at the end is the one up to k, on cells that nothing beyond may write
   pub upto-off : {P : ℕ → Type 0} (k : ℕ) (es : List (Finished Op)) (b : Store) → All (Leaves S P) (beyond (place n) k es) →

@@ -10,7 +10,7 @@ use lib.ListN.{length, getD, List·getD-append, List·getD-eq-default, length-ap
 use lib.Seq.{getD-append-seam}
 use lib.Dec.{eqb}
 use Rattle.serial.specs.History.{assign}
-use Rattle.serial.proofs.Tests.{by-same, by-less, eqb-yes, eqb-no}
+use Rattle.serial.proofs.Tests.{by-same, by-less, eqb-yes, eqb-no, eqb-self}
 
 -- ---- every element
 
@@ -103,6 +103,9 @@ cond-map f false x y = refl
 pub assign-map : {A B : Type 0} (f : A → B) (p : ℕ) (x : A) (w : ℕ → A) → (λ (q : ℕ). f (assign p x w q))
     ≡ assign p (f x) (λ (q : ℕ). f (w q))
 assign-map f p x w = fun-ext (λ q. cond-map f (eqb q p) x (w q))
+
+pub assign-same : {A : Type 0} (p : ℕ) (x : A) (w : ℕ → A) → assign p x w p ≡ x
+assign-same p x w = rw (eqb-self p) refl
 
 pub assign-self : {A : Type 0} (p : ℕ) (w : ℕ → A) → assign p (w p) w ≡ w
 assign-self p w = fun-ext (λ q. by-same q p (λ e. rw (eqb-yes e) (rw e refl)) (λ e. rw (eqb-no e) refl))

@@ -8,7 +8,7 @@ use native.Mathlib.Nat.{suc-mul, add-zero}
 use lib.ListN.{length}
 use Rattle.serial.specs.Desk.{Request}
 use Rattle.serial.specs.System.{System, Laws}
-use Rattle.serial.specs.Order.{Finished, globalRun, placeAt, place, beyond, sortOnto}
+use Rattle.serial.specs.Order.{Finished, globalRun, span, placeAt, place, beyond, sortOnto}
 use Rattle.serial.specs.SerialRun.{ranked}
 use Rattle.serial.proofs.Lists.{All, All-append, All-part}
 use Rattle.serial.proofs.Sorting
@@ -30,7 +30,7 @@ module _ (S : System) (L : Laws S) where
 
   pub ranked-high : (i j k : ℕ) (ts : List (Request Op)) → j ≤ placeAt n k n → All (λ (e : Finished Op). j < place n e) (ranked S i k ts)
   ranked-high i j k [] h = tt
-  ranked-high i j k (t ∷ ts) h = (omega (arith, suc-mul k (suc n)), ranked-high i j (suc k) ts (omega (arith, suc-mul k (suc n))))
+  ranked-high i j k (t ∷ ts) h = (omega (arith, suc-mul k (span n)), ranked-high i j (suc k) ts (omega (arith, suc-mul k (span n))))
 
   pub ranked-all : (P : Op → Type 0) (i k : ℕ) (ts : List (Request Op)) → All (λ (t : Request Op). P (t .op)) ts →
       All (λ (e : Finished Op). P (e .request .op)) (ranked S i k ts)
@@ -45,10 +45,10 @@ module _ (S : System) (L : Laws S) where
       let e : Finished Op = record { slot = globalRun (suc k); by = i; request = t } in
       ap (λ (l : List (Finished Op)). sortOnto (place n) l (ranked S i (suc k) ts))
       (Sorting.insert-last (place n) e es
-      (All-part (Low (place n) (placeAt n k n)) (Low (place n) (placeAt n (suc k) 0)) es (λ x l. omega (arith, suc-mul k (suc n))) h))
+      (All-part (Low (place n) (placeAt n k n)) (Low (place n) (placeAt n (suc k) 0)) es (λ x l. omega (arith, suc-mul k (span n))) h))
       ∙ ranked-sort i (suc k) (es ++ (e ∷ [])) ts
       (All-append (Low (place n) (placeAt n (suc k) n)) es (e ∷ [])
-      (All-part (Low (place n) (placeAt n k n)) (Low (place n) (placeAt n (suc k) n)) es (λ x l. omega (arith, suc-mul k (suc n))) h)
+      (All-part (Low (place n) (placeAt n k n)) (Low (place n) (placeAt n (suc k) n)) es (λ x l. omega (arith, suc-mul k (span n))) h)
       (omega arith, tt))
       ∙ append-assoc es (e ∷ []) (ranked S i (suc k) ts)
 
@@ -64,7 +64,7 @@ module _ (S : System) (L : Laws S) where
       (sym (Sorting.beyond-none (place n) (placeAt n k (suc q)) (es ++ ranked S i m (t ∷ ts))
       (All-append (Low (place n) (placeAt n k (suc q))) es (ranked S i m (t ∷ ts))
       (All-part (Low (place n) (placeAt n m n)) (Low (place n) (placeAt n k (suc q))) es
-      (λ x v. omega (arith, suc-mul m (suc n), place-mono S L {j = suc m} {k = m + suc (length ts)} 0 (omega arith))) l)
+      (λ x v. omega (arith, suc-mul m (span n), place-mono S L {j = suc m} {k = m + suc (length ts)} 0 (omega arith))) l)
       (All-part (Low (place n) (placeAt n k 0)) (Low (place n) (placeAt n k (suc q))) (ranked S i m (t ∷ ts)) (λ x v. omega arith)
       (ranked-low i m (t ∷ ts))))))
       tt

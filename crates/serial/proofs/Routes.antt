@@ -26,11 +26,14 @@ module _ (S : System) where
     other : eqb (desk o) p ≡ false → desk o ≢ p
     other f e = false≢true (sym f ∙ eqb-yes e)
 
+    waiting : class o ≡ global → desk o ≡ p → Routed enqueue p o
+    waiting e d = (e, d)
+
     by-class : (c : Class) (b : Bool) → class o ≡ c → eqb (desk o) p ≡ b → Routed (routeBy c b) p o
     by-class free b e t = inl e
     by-class local true e t = inr (e, own t)
     by-class local false e t = other t
-    by-class global true e t = (e, own t)
+    by-class global true e t = waiting e (own t)
     by-class global false e t = other t
 
     pub routed : Routed (route S p o) p o

@@ -11,7 +11,7 @@ use lib.ListN.{length, length-append}
 use Rattle.serial.specs.Desk.{Request, Call, request, visit, deskCalled}
 use Rattle.serial.specs.System.{System}
 use Rattle.serial.specs.Step.{Route, immediate, enqueue, redirect, route}
-use Rattle.serial.specs.Order.{Slot, globalRun, immediateRun, Finished, placeOf, place, Before, Precedes}
+use Rattle.serial.specs.Order.{Slot, globalRun, immediateRun, Finished, span, placeOf, place, Before, Precedes}
 use Rattle.serial.specs.SerialRun.{Serial, ranked, noteNothing, noteRequest, noteVisit, note, noteAll, newSerial, serial, order}
 use Rattle.serial.proofs.Tests.{by-same, by-less}
 use Rattle.serial.proofs.Lists.{All, All-append, All-part, Pairs, Pairs-append, Pairs-part}
@@ -27,18 +27,18 @@ Ranged n (immediateRun g p) = p < n
 
 module _ (n : ℕ) where
   -- a later global's places lie behind all of an earlier one's
-  step-up : (j k : ℕ) → j < k → j * suc n + suc n ≤ k * suc n
-  step-up j k h = omega (arith, suc-mul j (suc n), mul-le-mul-right {m = suc j} {n = k} (suc n) h)
+  step-up : (j k : ℕ) → j < k → j * span n + span n ≤ k * span n
+  step-up j k h = omega (arith, suc-mul j (span n), mul-le-mul-right {m = suc j} {n = k} (span n) h)
 
   pub place-before : (a b : Slot) → Ranged n a → Ranged n b → placeOf n a < placeOf n b → Before a b
   place-before (globalRun j) (globalRun k) r t l =
-      by-less j k (λ h. h) (λ h. absurd (omega (arith, mul-le-mul-right {m = k} {n = j} (suc n) h)))
+      by-less j k (λ h. h) (λ h. absurd (omega (arith, mul-le-mul-right {m = k} {n = j} (span n) h)))
   place-before (globalRun k) (immediateRun g p) r t l = by-less g k (λ h. absurd (omega (arith, step-up g k h))) (λ h. h)
   place-before (immediateRun g p) (globalRun k) r t l =
-      by-less g k (λ h. h) (λ h. absurd (omega (arith, mul-le-mul-right {m = k} {n = g} (suc n) h)))
+      by-less g k (λ h. h) (λ h. absurd (omega (arith, mul-le-mul-right {m = k} {n = g} (span n) h)))
   place-before (immediateRun g p) (immediateRun h q) r t l =
       by-less g h (λ k. inl k)
-      (λ k. by-same g h (λ e. inr (e, let z : g * suc n ≡ h * suc n = ap (λ (x : ℕ). x * suc n) e in omega arith))
+      (λ k. by-same g h (λ e. inr (e, let z : g * span n ≡ h * span n = ap (λ (x : ℕ). x * span n) e in omega arith))
       (λ e. absurd (omega (arith, step-up h g (omega arith)))))
 
   -- equal places: the same slot
@@ -48,13 +48,13 @@ module _ (n : ℕ) where
       (by-less j k (λ h. absurd (omega (arith, step-up j k h)))
       (λ h. by-less k j (λ l. absurd (omega (arith, step-up k j l))) (λ l. omega arith)))
   place-same (globalRun k) (immediateRun g p) r t e =
-      by-less g k (λ h. absurd (omega (arith, step-up g k h))) (λ h. absurd (omega (arith, mul-le-mul-right {m = k} {n = g} (suc n) h)))
+      by-less g k (λ h. absurd (omega (arith, step-up g k h))) (λ h. absurd (omega (arith, mul-le-mul-right {m = k} {n = g} (span n) h)))
   place-same (immediateRun g p) (globalRun k) r t e =
-      by-less g k (λ h. absurd (omega (arith, step-up g k h))) (λ h. absurd (omega (arith, mul-le-mul-right {m = k} {n = g} (suc n) h)))
+      by-less g k (λ h. absurd (omega (arith, step-up g k h))) (λ h. absurd (omega (arith, mul-le-mul-right {m = k} {n = g} (span n) h)))
   place-same (immediateRun g p) (immediateRun h q) r t e =
       by-less g h (λ l. absurd (omega (arith, step-up g h l)))
       (λ l. by-less h g (λ k. absurd (omega (arith, step-up h g k)))
-      (λ k. let i : g ≡ h = omega arith in let z : g * suc n ≡ h * suc n = ap (λ (x : ℕ). x * suc n) i in
+      (λ k. let i : g ≡ h = omega arith in let z : g * span n ≡ h * span n = ap (λ (x : ℕ). x * span n) i in
       ap₂ immediateRun i (omega arith)))
 
 -- the rule never puts two operations both ways, so it leaves one order only

@@ -9,9 +9,9 @@ use native.Mathlib.Nat.{add-mod-right, le-refl}
 use lib.ListN.{length, getD, List·getD-eq-default}
 use Rattle.serial.specs.Store.{Store, Update, applyAll, Same, Within}
 use Rattle.serial.specs.Frame.{Frame, foreign, tag, untag}
-use Rattle.serial.specs.Desk.{Request}
+use Rattle.serial.specs.Desk.{Request, Desk, given, sent}
 use Rattle.serial.specs.System.{System, Laws}
-use Rattle.serial.specs.Step.{runAll, repliesOf, updatesOf}
+use Rattle.serial.specs.Step.{runAll, repliesOf, updatesOf, caughtUp, outgoing, visitStep}
 use Rattle.serial.specs.History.{assign}
 use Rattle.serial.specs.Order.{Finished, placeAt, place, upto, beyond}
 use Rattle.serial.specs.SerialRun.{ranked, storeAfter, due}
@@ -38,8 +38,15 @@ module _ (S : System) (L : Laws S) where
     -- ---- Visit tk .number at desk p
 
     module _ (turn : tk .number ≡ aw p) where
+      -- desk p before the visit, and as the visit leaves it
+      abbrev d : Desk Op
+      d = record { store = stores p; queue = queues p; awaited = aw p }
+
+      abbrev left : Desk Op
+      left = visitStep S p d tk .0
+
       abbrev mine : Store
-      mine = applyAll (untag (foreign p (tk .updates))) (stores p)
+      mine = caughtUp S p d tk
 
       abbrev queue : List (Request Op)
       queue = queues p
@@ -47,11 +54,11 @@ module _ (S : System) (L : Laws S) where
       abbrev news : List Update
       news = updatesOf S queue mine
 
-      abbrev outgoing : Frame
-      outgoing = record { number = suc (tk .number); updates = foreign p (tk .updates) ++ tag p news }
+      abbrev out : Frame
+      out = outgoing S p d tk
 
       abbrev aw′ : ℕ → ℕ
-      aw′ = assign p (tk .number + n) aw
+      aw′ = assign p (left .awaited) aw
 
       abbrev g′ : ℕ → ℕ
       g′ = assign p (m + length queue) g
@@ -92,21 +99,21 @@ module _ (S : System) (L : Laws S) where
           ∙ sym (Queues.runAll-updates S L queue end) ∙ sym end-line
 
       -- what each desk is owed by the frame that goes out
-      sent-tags : All (Tagged S) (outgoing .updates)
+      sent-tags : All (Tagged S) (out .updates)
       sent-tags =
           All-append (Tagged S) (foreign p (tk .updates)) (tag p news) (Token.all-foreign (Tagged S) p (tk .updates) (I .tags))
           (Token.all-tagged (Tagged S) p news
           (All-part (Within (OutCell S p)) (λ (u : Update). Tagged S (p, u)) news (λ u h. (below, h))
           (Queues.updates-out S L p queue mine (I .queued p))))
 
-      owed-own : owed aw′ p (outgoing .updates) ≡ []
+      owed-own : owed aw′ p (out .updates) ≡ []
       owed-own =
-          Token.owed-none aw′ p (outgoing .updates)
-          (All-part (Tagged S) (λ (u : ℕ × Update). aw′ (u .0) ≤ aw′ p) (outgoing .updates)
+          Token.owed-none aw′ p (out .updates)
+          (All-part (Tagged S) (λ (u : ℕ × Update). aw′ (u .0) ≤ aw′ p) (out .updates)
           (λ u h. by-same (u .0) p (λ e. rw (eqb-yes e, eqb-self p) (le-refl _))
           (λ e. rw (eqb-no e, eqb-self p) (omega (arith, I .wait-high (u .0) (h .0))))) sent-tags)
 
-      owed-other : (q : ℕ) → q < n → q ≢ p → owed aw′ q (outgoing .updates) ≡ owed aw q (tk .updates) ++ news
+      owed-other : (q : ℕ) → q < n → q ≢ p → owed aw′ q (out .updates) ≡ owed aw q (tk .updates) ++ news
       owed-other q h ne =
           Token.owed-append aw′ q (foreign p (tk .updates)) (tag p news)
           ∙ rw (
@@ -130,7 +137,7 @@ module _ (S : System) (L : Laws S) where
           (ranked-all S L (NotOf S q) (length past) m queue
           (All-part (OfDesk S p) (λ (t : Request Op). NotOf S q (t .op)) queue (λ t d. inr (λ k. e (sym k ∙ d))) (I .queued p)))))
 
-      visit-here : (q : ℕ) → q < n → Same (Hears S q) (assign p (runAll S queue mine) stores q)
+      visit-here : (q : ℕ) → q < n → Same (Hears S q) (assign p (left .store) stores q)
           (storeAfter S (upto (place n) (placeAt n (g′ q) (suc q)) (es ++ last)) b)
       visit-here q h =
           let k : ℕ = placeAt n (m + length queue) (suc p) in
@@ -146,7 +153,7 @@ module _ (S : System) (L : Laws S) where
           (I .here q h)))
 
       visit-there : (q : ℕ) → q < n →
-          Same (Hears S q) (applyAll (owed aw′ q (outgoing .updates)) (assign p (runAll S queue mine) stores q))
+          Same (Hears S q) (applyAll (owed aw′ q (out .updates)) (assign p (left .store) stores q))
           (storeAfter S (es ++ last) b)
       visit-there q h =
           by-same q p
@@ -177,8 +184,8 @@ module _ (S : System) (L : Laws S) where
           (by-same q p (λ i. let k″ : tk .number + n ≤ aw r = rw (eqb-yes i) at k′ in absurd (omega (arith, I .wait-high r l)))
           (λ i. rw (eqb-no i) (I .turns q r h l (rw (eqb-no i) at k′)))))
 
-      pub visit-inv : Inv S b (assign p (runAll S queue mine) stores) (assign p [] queues) aw′ g′ (m + length queue) (es ++ last)
-          (past ++ (repliesOf S queue mine ∷ [])) (fs ++ (outgoing ∷ [])) outgoing
+      pub visit-inv : Inv S b (assign p (left .store) stores) (assign p (left .queue) queues) aw′ g′ (m + length queue) (es ++ last)
+          (past ++ (given (visitStep S p d tk .1) ∷ [])) (fs ++ sent (visitStep S p d tk .1)) out
       visit-inv =
           record {
             wait-low = λ q h. by-same q p (λ e. rw (eqb-yes e) (omega (arith, L .some-desk)))
@@ -187,8 +194,8 @@ module _ (S : System) (L : Laws S) where
             wait-mod = λ q h. by-same q p (λ e. rw (eqb-yes e)
                 (rw e (add-mod-right (tk .number) n ∙ ap (λ (x : ℕ). x % n) turn ∙ I .wait-mod p below)))
                 (λ e. rw (eqb-no e) (I .wait-mod q h));
-            frames = All-append (Known outgoing) fs (outgoing ∷ [])
-                (All-part (Known tk) (Known outgoing) fs (λ f h. (omega (arith, h .0), λ e. absurd (omega (arith, h .0)))) (I .frames))
+            frames = All-append (Known out) fs (out ∷ [])
+                (All-part (Known tk) (Known out) fs (λ f h. (omega (arith, h .0), λ e. absurd (omega (arith, h .0)))) (I .frames))
                 ((le-refl _, λ e. refl), tt);
             tags = sent-tags;
             g-low = λ q. by-same q p (λ e. rw (eqb-yes e) (le-refl _)) (λ e. rw (eqb-no e) (omega (arith, I .g-low q)));

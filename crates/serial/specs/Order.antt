@@ -20,8 +20,11 @@ pub record Finished (Op : Type 0) : Type 0 where
 
 -- "Globals by visit, then order of running. A local or free run comes after the g-th global and before the next, ..; with equal g by
 -- desk, then order of running." With n desks each global takes n + 1 places: its own, and behind it one for each desk.
+abbrev pub span : ℕ → ℕ
+span n = suc n
+
 abbrev pub placeAt : ℕ → ℕ → ℕ → ℕ
-placeAt n k i = k * suc n + i
+placeAt n k i = k * span n + i
 
 abbrev pub placeOf : ℕ → Slot → ℕ
 placeOf n (globalRun k) = placeAt n k 0
