@@ -2,16 +2,18 @@
 -- and it is serializable under the premise in its own words.
 -- Assumes nothing.
 use Prim.Native.Nat.{ℕ, _<_}
-use mathlib.Core.Path.{_≡_, refl, _∙_, ap}
+use mathlib.Core.Path.{_≡_, refl, sym, _∙_, ap}
 use mathlib.Core.List.{List, [], _∷_, _++_, map, map-append, List·Memᴰ}
 use Rattle.serial.specs.Store.{Store}
-use Rattle.serial.specs.Desk.{Desk, Call, request, visit, isRefused}
+use Rattle.serial.specs.Frame.{Frame, startFrame}
+use Rattle.serial.specs.Desk.{Desk, Call, request, visit, Answer, isRefused, sent}
 use Rattle.serial.specs.System.{System, Laws}
 use Rattle.serial.specs.Step.{serve}
 use Rattle.serial.specs.History.{assign, answers, desksAfter, newDesks, Framed, Proper}
 use Rattle.serial.specs.SerialRun.{serial}
 use Rattle.serial.specs.Claim.{Serializable, Claim}
-use Rattle.serial.specs.Machine.{Machine, Words, atDesk, machineStep, machineAnswers, machineAfter, seen, IfVisit, MachineProper}
+use Rattle.serial.specs.Machine.{Machine, Words, atDesk, machineStep, machineAfter, seen, answerSeen, answersSeen, IfVisit}
+use Rattle.serial.specs.Machine.{MachineProper}
 use Rattle.serial.proofs.Tests.{by-same, eqb-yes, eqb-no}
 use Rattle.serial.proofs.Lists.{All, mem-map, assign-map}
 use Rattle.serial.proofs.Claim.{serializable}
@@ -38,12 +40,12 @@ module _ {S : System} (M : Machine S) where
         assign-map view p (does (w p) c .0) w
         ∙ ap (λ (d : Desk (S .Op)). assign p d (seen M w)) (M .view-does (w p) c (h .0) (h .1) (ok p (h .0)))
 
-    seen-answer : answerOf (does (w p) c .1) ≡ serve S (seen M w p) (callOf c) .1
+    seen-answer : answerSeen M w c ≡ serve S (seen M w p) (callOf c) .1
     seen-answer = M .answer-does (w p) c (h .0) (h .1) (ok p (h .0))
 
   -- the machine's history, seen through the view, is the abstract one
   pub seen-answers : (cs : List C) (w : ℕ → State) → All Called cs → AllOk w →
-      map answerOf (machineAnswers M w cs) ≡ answers S (seen M w) (map callOf cs)
+      answersSeen M w cs ≡ answers S (seen M w) (map callOf cs)
   seen-answers [] w h ok = refl
   seen-answers (c ∷ cs) w h ok =
       rw (seen-answer w c (h .0) ok, ← seen-step w c (h .0) ok, seen-answers cs (machineStep M w c) (h .1) (ok-step w c (h .0) ok)) refl
@@ -80,7 +82,7 @@ module _ {S : System} (M : Machine S) (N : Words M) where
   proper-seen (c ∷ cs) w ws ok pr =
       let h : Called M c = (pr .0, pr .1) in
       let q : ℕ = atDesk M c in
-      let a : answerOf (does (w q) c .1) ≡ serve S (seen M w q) (callOf c) .1 = seen-answer M w c h ok in (
+      let a : answerSeen M w c ≡ serve S (seen M w q) (callOf c) .1 = seen-answer M w c h ok in (
         pr .0,
         λ e. framed ws c (callOf c) refl (pr .2 (ap isRefused a ∙ e)),
         rw (
@@ -93,13 +95,65 @@ module _ {S : System} (M : Machine S) (N : Words M) where
             (proper-seen cs (machineStep M w c) (ws ++ out (does (w q) c .1)) (ok-step M w c h ok) (pr .3)),
       )
 
-  -- the machine's histories are serializable
-  pub machine-serializable : Laws S → (b : Store) (w : ℕ → State) → AllOk M w → seen M w ≡ newDesks S b →
-      (cs : List C) → MachineProper M N w (N .start ∷ []) cs →
-      Serializable S b (map answerOf (machineAnswers M w cs)) (seen M (machineAfter M w cs))
-      (serial S (map callOf cs) (map isRefused (map answerOf (machineAnswers M w cs))))
-  unfolding Claim
-  machine-serializable L b w ok e cs pr =
-      let h : All (Called M) cs = proper-called cs w (N .start ∷ []) pr in
-      rw (seen-answers M cs w h ok, seen-after M cs w h ok, e)
-      (serializable S L b (map callOf cs) (rw (← e, ← N .start-frame) (proper-seen cs w (N .start ∷ []) ok pr)))
+  -- ---- from the start: the machine's history is the abstract one, so that every theorem on histories speaks of it
+
+  module _ (b : Store) (w : ℕ → State) (ok : AllOk M w) (e : seen M w ≡ newDesks S b) (cs : List C)
+      (pr : MachineProper M N w (N .start ∷ []) cs) where
+    pub machine-called : All (Called M) cs
+    machine-called = proper-called cs w (N .start ∷ []) pr
+
+    pub machine-proper : Proper S (newDesks S b) (startFrame ∷ []) (map callOf cs)
+    machine-proper = rw (← e, ← N .start-frame) (proper-seen cs w (N .start ∷ []) ok pr)
+
+    pub machine-answers : answersSeen M w cs ≡ answers S (newDesks S b) (map callOf cs)
+    machine-answers = seen-answers M cs w machine-called ok ∙ ap (λ (v : ℕ → Desk (S .Op)). answers S v (map callOf cs)) e
+
+    pub machine-desks : seen M (machineAfter M w cs) ≡ desksAfter S (newDesks S b) (map callOf cs)
+    machine-desks = seen-after M cs w machine-called ok ∙ ap (λ (v : ℕ → Desk (S .Op)). desksAfter S v (map callOf cs)) e
+
+    -- the claim, with the premise in the machine's words
+    pub machine-serializable : Laws S →
+        Serializable S b (answersSeen M w cs) (seen M (machineAfter M w cs))
+        (serial S (map callOf cs) (map isRefused (answersSeen M w cs)))
+    unfolding Claim
+    machine-serializable L = rw (machine-answers, machine-desks) (serializable S L b (map callOf cs) machine-proper)
+
+-- ---- the protocol itself is such a machine: what is asked of one can be met
+
+abbrev brought : {Op Extra : Type 0} → Call Op Extra → Frame
+brought (request p r x) = startFrame
+brought (visit p f x) = f
+
+abbrev itself : (S : System) → Machine S
+itself S =
+    record {
+      State = Desk (S .Op);
+      C = Call (S .Op) (S .Extra);
+      A = Answer (S .Reply);
+      does = serve S;
+      view = λ d. d;
+      callOf = λ c. c;
+      answerOf = λ c a. a;
+      Ok = λ q d. Unit;
+      Fine = λ c. Unit;
+      ok-does = λ d c h f k. tt;
+      view-does = λ d c h f k. refl;
+      answer-does = λ d c h f k. refl;
+    }
+
+map-id : {A : Type 0} (xs : List A) → xs ≡ map (λ (x : A). x) xs
+map-id [] = refl
+map-id {A} (x ∷ xs) = ap (λ (l : List A). x ∷ l) (map-id xs)
+
+its-frames : (S : System) → Words (itself S)
+its-frames S =
+    record {
+      W = Frame;
+      frameOf = λ f. f;
+      shown = brought;
+      out = sent;
+      start = startFrame;
+      shown-frame = λ c p f x e. sym (ap brought e);
+      out-frame = λ d c h f k. map-id (sent (serve S d c .1));
+      start-frame = refl;
+    }

@@ -67,7 +67,8 @@ module _ (S : System) (L : Laws S) where
   at-hears p o c (inl f) h = free-hears p o c f h
   at-hears p o c (inr l) h = desk-hears p o c (l .1) h
 
-  -- ---- what runs at desk p at once writes its own cells; nothing of another desk's touches these; and nothing that runs at once elsewhere
+  -- ---- what runs at desk p at once writes its own cells; nothing of another desk's touches these; and nothing that runs at once
+  -- elsewhere
   -- writes what p hears of
 
   pub at-own : (p : ℕ) (o : Op) (c : ℕ) → RunsAt S p o → Writes o c → OwnCell S p c

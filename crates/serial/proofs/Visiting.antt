@@ -8,7 +8,7 @@ use native.Mathlib.Omega.{arith}
 use native.Mathlib.Nat.{add-mod-right, le-refl}
 use lib.ListN.{length, getD, List·getD-eq-default}
 use Rattle.serial.specs.Store.{Store, Update, applyAll, Same, Within}
-use Rattle.serial.specs.Frame.{Frame, foreign, tag, untag}
+use Rattle.serial.specs.Frame.{Frame, foreign, tag}
 use Rattle.serial.specs.Desk.{Request, Desk, given, sent}
 use Rattle.serial.specs.System.{System, Laws}
 use Rattle.serial.specs.Step.{runAll, repliesOf, updatesOf, caughtUp, outgoing, visitStep}

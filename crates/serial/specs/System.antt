@@ -1,5 +1,5 @@
 -- The parameters of the claim, and what is asked of them. At each parameter: the later change (02) that moves it and it alone.
-use Prim.Native.Nat.{ℕ, _≤_, _<_}
+use Prim.Native.Nat.{ℕ, _<_}
 use mathlib.Core.Path.{_≡_}
 use mathlib.Core.Logic.{_⊎_}
 use mathlib.Core.Bool.{Bool}
