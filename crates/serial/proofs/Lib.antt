@@ -26,3 +26,4 @@ pub mod Circle
 pub mod TokenTheorems
 pub mod Answered
 pub mod Standing
+pub mod Prefixes

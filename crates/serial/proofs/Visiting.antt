@@ -87,16 +87,16 @@ module _ (S : System) (L : Laws S) where
       reading = All-part (OfDesk S p) (ReadsIn S (Hears S p)) queue (λ t d c r. Conflicts.desk-hears S L p (t .op) c d (inl r))
           (I .queued p)
 
-      end-line : storeAfter S (es ++ last) b ≡ runAll S queue end
-      end-line = Runs.storeAfter-append S L es last b ∙ Queues.ranked-store S L (length past) m queue end
+      end-queue : storeAfter S (es ++ last) b ≡ runAll S queue end
+      end-queue = Runs.storeAfter-append S L es last b ∙ Queues.ranked-store S L (length past) m queue end
 
       mine-after : Same (Hears S p) (runAll S queue mine) (storeAfter S (es ++ last) b)
-      mine-after = rw end-line (Queues.runAll-same S L (Hears S p) queue mine end reading mine-end)
+      mine-after = rw end-queue (Queues.runAll-same S L (Hears S p) queue mine end reading mine-end)
 
       news-end : applyAll news end ≡ storeAfter S (es ++ last) b
       news-end =
           ap (λ (us : List Update). applyAll us end) (Queues.updates-same S L (Hears S p) queue mine end reading mine-end)
-          ∙ sym (Queues.runAll-updates S L queue end) ∙ sym end-line
+          ∙ sym (Queues.runAll-updates S L queue end) ∙ sym end-queue
 
       -- what each desk is owed by the frame that goes out
       sent-tags : All (Tagged S) (out .updates)
