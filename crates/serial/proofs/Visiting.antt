@@ -33,8 +33,8 @@ module _ (S : System) (L : Laws S) where
   open System S using (n, Op, Reply)
 
   module _ {b : Store} {stores : ℕ → Store} {queues : ℕ → List (Request Op)} {aw g : ℕ → ℕ} {m : ℕ} {es : List (Finished Op)}
-      {past : List (List (ℕ × Reply))}
-      {fs : List Frame} {tk : Frame} (I : Inv S b stores queues aw g m es past fs tk) (p : ℕ) (below : p < n) where
+      {past : List (List (ℕ × Reply))} {fs : List Frame} {tk : Frame} (I : Inv S b stores queues aw g m es past fs tk)
+      (p : ℕ) (below : p < n) where
     -- ---- Visit tk .number at desk p
 
     module _ (turn : tk .number ≡ aw p) where
@@ -72,8 +72,8 @@ module _ (S : System) (L : Laws S) where
       -- every other desk's turn is later
       later : (q : ℕ) → q < n → q ≢ p → aw p < aw q
       later q h ne = by-less (aw p) (aw q) (λ l. l)
-          (λ l. let e : aw q ≡ aw p = omega (arith, I .wait-low q h) in absurd
-          (ne (sym (I .wait-mod q h) ∙ ap (λ (x : ℕ). x % n) e ∙ I .wait-mod p below)))
+          (λ l. let e : aw q ≡ aw p = omega (arith, I .wait-low q h) in
+          absurd (ne (sym (I .wait-mod q h) ∙ ap (λ (x : ℕ). x % n) e ∙ I .wait-mod p below)))
 
       -- with the others' updates in, the desk's store is the serial one at the end, and the queue runs on either alike
       mine-end : Same (Hears S p) mine end
