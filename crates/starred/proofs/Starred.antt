@@ -5,7 +5,8 @@ use mathlib.Core.List.{map}
 use lib.Count.{ones}
 use Rattle.word.specs.Reserved.{sourceField, reservedZero}
 use Rattle.plan.specs.Decode.{accessBy, actionBy, stepOf, partBy, transactionsOf, planOf}
-use Rattle.plan.specs.Admission.{every, hasHead, countsInRange, transactionFormed, stepFormed, wellFormed, sourceExists, stepExists, partExists}
+use Rattle.plan.specs.Admission.{every, hasHead, countsInRange, transactionFormed, stepFormed, wellFormed, sourceExists, stepExists}
+use Rattle.plan.specs.Admission.{partExists}
 use Rattle.plan.specs.Admission.{parametersExist, transactionsVerdict, planVerdict}
 use Rattle.operation.specs.Operation.{cellsNamed}
 use Rattle.operation.specs.Admission.{transactionExists, unusedZero, rowInRange, parametersPass, operationVerdict}

@@ -1,0 +1,13 @@
+pub mod Store
+pub mod Frame
+pub mod Desk
+pub mod System
+pub mod Step
+pub mod History
+pub mod Order
+pub mod SerialRun
+pub mod Visits
+pub mod AtEnd
+pub mod Claim
+pub mod Hearing
+pub mod Machine
