@@ -3,5 +3,8 @@ mod class;
 mod mask;
 mod row;
 
-pub use class::{class_of, classify, Class, ClassAnswer};
+pub use class::Class;
+pub use class::ClassAnswer;
+pub use class::class_of;
+pub use class::classify;
 pub use mask::desk_masks;

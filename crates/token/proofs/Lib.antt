@@ -1,1 +1,3 @@
 pub mod Summing
+pub mod PerDesk
+pub mod Walking

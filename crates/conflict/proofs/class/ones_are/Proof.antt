@@ -41,8 +41,7 @@ cast-steps c = search needs
 
 loop-holds : tie.Need-loop-holds Inv-loop μ-loop
 loop-holds c =
-    let d = c .before .before .before in
-    (
+    let d = c .before .before .before in (
       refl,
       ap (λ (ss : List Step). onesAre (d .args .desks) (λ c. getD (d .args .masks .now) c 0) (cellsNamed (accessBy (d .args .kind)) (d .args .params) ss))
           (sym (steps-all (d .args .plan .now) (d .args .at))),
@@ -103,8 +102,7 @@ loop-less c = omega arith
 loop-again : tie.Need-loop-again Inv-loop μ-loop
 loop-again c =
     let d = c .before .before .before .before .before .before .before in
-    let e = d .before .before .before .before in
-    (
+    let e = d .before .before .before .before in (
       d .loop .inv .0,
       d .loop .inv .1
           ∙ ones-pass _ _ (e .pre .0) _ _ (e .pre .2) (e .pre .3) _ _ _ (omega arith) (c .before .before .before .before .if1 .taken)

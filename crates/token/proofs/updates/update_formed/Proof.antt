@@ -1,29 +1,34 @@
+-- Question 12 of an update's word: each answer is what the definition's tests give.
+-- Assumes nothing.
+use mathlib.Core.Path.{_∙_, sym}
+use borrow.Author.Tests.{le-ltb, lt-ltb, eq-eqb, ne-eqb, not-true, not-false}
+use Rattle.token.specs.Admission.{updateFormed}
 use borrow.Author.Needs.{needs}
 use Rattle.token.proofs.updates.update_formed.Statement.{statement}
 use Rattle.token.proofs.updates.update_formed.Tie as tie
-use Rattle.token.proofs.updates.update_formed.Reads as reads
-use Rattle.token.proofs.updates.update_formed.Lts as lts
-use Rattle.word.proofs.reserved_zero.Reads as reserved-zero-reads
 
--- src/updates.rt:37:9
 returns : tie.Need-returns
-returns c = ?
+unfolding updateFormed
+returns c = simp (ne-eqb _ _ (c .if1 .taken))
 
--- src/updates.rt:39:9
 reserved-zero-requires : tie.Need-reserved-zero-requires
 reserved-zero-requires c κs = search needs
 
--- src/updates.rt:40:9
 returns-2 : tie.Need-returns-2
-returns-2 c = ?
+unfolding updateFormed
+returns-2 c = simp (eq-eqb _ _ (c .before .before .if1 .left), sym (c .before .reserved-zero .ensures) ∙ not-true _ (c .if2 .taken))
 
--- src/updates.rt:43:9
 returns-3 : tie.Need-returns-3
-returns-3 c = ?
+unfolding updateFormed
+returns-3 c =
+    let d = c .before .before in
+    simp (eq-eqb _ _ (d .before .if1 .left), sym (d .reserved-zero .ensures) ∙ not-false _ (c .before .if2 .left), le-ltb _ _ (c .if3 .taken))
 
--- src/updates.rt:31:1
 returns-4 : tie.Need-returns-4
-returns-4 c = ?
+unfolding updateFormed
+returns-4 c =
+    let d = c .before .before in
+    simp (eq-eqb _ _ (d .before .if1 .left), sym (d .reserved-zero .ensures) ∙ not-false _ (c .before .if2 .left), lt-ltb _ _ (c .if3 .left))
 
 pub update-formed-spec : {M : Type 1} → statement M
 update-formed-spec =
