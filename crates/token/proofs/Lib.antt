@@ -1,3 +1,4 @@
 pub mod Summing
 pub mod PerDesk
 pub mod Walking
+pub mod Verdicts
