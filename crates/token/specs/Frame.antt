@@ -1,7 +1,7 @@
 -- Writing a frame: the words of a visit, its desk and its updates. Nothing here reads a frame.
 use Prim.Native.Nat.{ℕ, _+_, _*_, _%_, _^_}
 use mathlib.Core.List.{List, [], _∷_, _++_}
-use lib.ListN.{length}
+use lib.ListN.{length, drop}
 use Rattle.operation.specs.Run.{Update}
 
 -- an update as a frame carries it: the desk whose operation made it, and the cells and values that it wrote
@@ -68,3 +68,7 @@ frameWords n v us = frameAround (v % n) v (updatesWords us)
 -- "The starting frame is visit 0 with no update."
 abbrev pub startingFrame : List ℕ
 startingFrame = frameAround 0 0 []
+
+-- "Words past what is written are untouched."
+abbrev pub overwritten : List ℕ → List ℕ → List ℕ
+overwritten ws out = ws ++ drop (length ws) out

@@ -2,6 +2,7 @@
 mod reader;
 mod sums;
 mod updates;
+mod writer;
 
 pub use reader::FrameCheck;
 pub use reader::VisitAnswer;
@@ -14,3 +15,7 @@ pub use updates::cell_count;
 pub use updates::cell_of;
 pub use updates::update_desk;
 pub use updates::updates_admitted;
+pub use writer::StartAnswer;
+pub use writer::seal;
+pub use writer::starting_frame;
+pub use writer::write_update;
