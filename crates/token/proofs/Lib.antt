@@ -4,3 +4,8 @@ pub mod Walking
 pub mod Verdicts
 pub mod Written
 pub mod Sealed
+pub mod HeadWords
+pub mod Decoding
+pub mod Lengths
+pub mod Parts
+pub mod RoundTrip
