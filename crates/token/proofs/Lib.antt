@@ -9,3 +9,5 @@ pub mod Decoding
 pub mod Lengths
 pub mod Parts
 pub mod RoundTrip
+pub mod OneWord
+pub mod Readers

@@ -62,6 +62,13 @@ admitted-words n ws e =
       record { each = d .each; perDesk = few-counts (updatesFrom 0 part) (and-snd (wellFormed n 0 part) _ u) },
     )
 
+-- the part that the reader hands back
+pub part-written : (n : ℕ) (ws : List ℕ) → frameVerdict n ws ≡ accepted → updatesPart ws ≡ updatesWords (frameUpdates ws)
+unfolding updatesRight
+part-written n ws e =
+    let u = and-snd (eqb (addressedDesk (headOf ws)) (frameVisit ws % n)) _ (admitted n ws e .updates) in
+    part-words n (updatesPart ws) (decoded n 0 (updatesPart ws) (and-fst (wellFormed n 0 (updatesPart ws)) _ u))
+
 pub reads-written : (n : ℕ) (ws : List ℕ) (v : ℕ) (us : List SentUpdate) → ReadsAs n ws v us → (ws ≡ frameWords n v us) × WellFormed n us
 reads-written n ws v us r =
     let a = admitted-words n ws (r .verdict) in
