@@ -11,3 +11,4 @@ pub mod Parts
 pub mod RoundTrip
 pub mod OneWord
 pub mod Readers
+pub mod Course
