@@ -12,3 +12,4 @@ pub mod RoundTrip
 pub mod OneWord
 pub mod Readers
 pub mod Course
+pub mod Relaying
