@@ -9,7 +9,7 @@ use Rattle.plan.specs.Admission.{every, hasHead, countsInRange, transactionForm
 use Rattle.plan.specs.Admission.{parametersExist, transactionsVerdict, planVerdict}
 use Rattle.plan.specs.Admission as plans
 use Rattle.token.specs.Frame.{SentUpdate, sent, sumsFrom, frameAround, startingFrame}
-use Rattle.token.specs.Admission.{writesFrom, updatesFrom, frameUpdates, deskCount, frameHeaded, sumsRight, updateFormed, cellFormed}
+use Rattle.token.specs.Admission.{writesFrom, updatesFrom, deskCount, frameHeaded, sumsRight, updateFormed, cellFormed}
 use Rattle.token.specs.Admission.{wellFormed, fewPerDesk, updatesRight, frameVerdict, readVerdict}
 use Rattle.token.specs.Answer.{VisitRead, visitNumber, refusal, visitRead, partRead}
 

@@ -13,7 +13,7 @@ use Rattle.word.specs.Field.{updateDesk, cellCount, cellField}
 use Rattle.plan.specs.Admission.{every}
 use Rattle.plan.proofs.Bool.{and-fst, and-snd, and-true}
 use Rattle.operation.specs.Run.{Update}
-use Rattle.token.specs.Frame.{SentUpdate, sent, updateHead, cellWord, writeWords, updateWords, updatesWords}
+use Rattle.token.specs.Frame.{SentUpdate, sent, updateHead, writeWords, updateWords, updatesWords}
 use Rattle.token.specs.Admission.{writesFrom, updatesFrom, updateFormed, cellFormed, wellFormed}
 use Rattle.token.specs.WellFormed.{cellFits, updateFits}
 use Rattle.token.proofs.HeadWords.{update-read, update-desk, update-cells, update-formed, cell-read, cell-field, cell-formed}

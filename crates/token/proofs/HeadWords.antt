@@ -1,10 +1,10 @@
 -- The words of kinds 9, 10 and 11: reading the fields of a written word, and writing the fields that were read.
 -- Assumes nothing.
-use mathlib.Core.Path.{_≡_, refl, _∙_, sym, ap}
-use mathlib.Core.Bool.{Bool, true, false, _&&_}
+use mathlib.Core.Path.{_≡_, _∙_, sym, ap}
+use mathlib.Core.Bool.{true}
 use Prim.Native.Nat.{ℕ, _+_, _*_, _/_, _%_, _^_, _≤_, _<_}
 use native.Mathlib.Omega.{arith}
-use lib.Dec.{ltb, leb, eqb}
+use lib.Dec.{ltb, eqb}
 use borrow.Author.Tests.{eqb-true, eq-eqb, ltb-true, lt-ltb, leb-true, le-leb}
 use Rattle.word.specs.Field.{kindOf, addressedDesk, frameLength, updateDesk, cellCount, cellField}
 use Rattle.word.specs.Reserved.{reservedZero, sourceField, zeroBits}

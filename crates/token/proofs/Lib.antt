@@ -13,3 +13,4 @@ pub mod OneWord
 pub mod Readers
 pub mod Course
 pub mod Relaying
+pub mod Stepping

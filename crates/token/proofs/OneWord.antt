@@ -1,7 +1,7 @@
 -- A frame that reads, with one word changed, is refused with 10 or 11.
 -- Assumes nothing.
 use mathlib.Core.Path.{_≡_, refl, _∙_, sym, ap, subst}
-use mathlib.Core.Bool.{Bool, true, false, _&&_, cond}
+use mathlib.Core.Bool.{Bool, true, false}
 use mathlib.Core.List.{List, [], _∷_}
 use mathlib.Core.Logic.{_⊎_, inl, inr, ⊎-elim}
 use Prim.Native.Nat.{ℕ, zero, suc, _+_, _-_, _%_, _^_, _≤_, _<_}
@@ -12,11 +12,11 @@ use lib.ListN.{length, getD, take, set, length-set}
 use lib.Seq.{length-take-le, getD-set-same, getD-set-other, getD-take, take-set-le, take-set-lt}
 use borrow.Author.Tests.{eqb-true}
 use Rattle.plan.specs.Decode.{planOf}
-use Rattle.plan.specs.Admission.{Verdict, accepted, refused, planVerdict}
+use Rattle.plan.specs.Admission.{accepted, refused}
 use Rattle.plan.proofs.Bool.{and-fst, and-snd}
 use Rattle.operation.proofs.Words.{AllWords}
 use Rattle.token.specs.Frame.{sumsFrom, sumsOf}
-use Rattle.token.specs.Admission.{frameHeaded, sumsRight, updatesRight, frameVerdict, andThen, readVerdict}
+use Rattle.token.specs.Admission.{frameHeaded, sumsRight, frameVerdict, readVerdict}
 use Rattle.token.proofs.Verdicts.{headed, admitted, read-accepted, read-after}
 
 -- ---- the first sum is the words' total modulo 2^32

@@ -1,18 +1,17 @@
 -- The two calls of the frame reader never disagree, and the starting frame reads as visit 0 with no update.
 -- Assumes nothing.
 use mathlib.Core.Path.{_≡_, refl, _∙_, sym, ap, subst}
-use mathlib.Core.List.{List, [], _∷_}
-use Prim.Native.Nat.{ℕ, _%_, _≤_}
+use mathlib.Core.List.{List, []}
+use Prim.Native.Nat.{ℕ, _≤_}
 use native.Mathlib.Nat.{zero-mod}
 use native.Mathlib.Omega.{arith}
 use Rattle.plan.specs.Decode.{planOf}
 use Rattle.plan.specs.Admission.{every, Verdict, accepted, refused}
-use Rattle.token.specs.Frame.{SentUpdate, updatesWords, frameAround, frameWords, startingFrame}
-use Rattle.token.specs.Admission.{updatesPart, frameVisit, frameUpdates, deskCount, readVerdict, ReadsAs}
+use Rattle.token.specs.Frame.{updatesWords, frameAround, frameWords, startingFrame}
+use Rattle.token.specs.Admission.{frameVisit, frameUpdates, deskCount, readVerdict, ReadsAs}
 use Rattle.token.specs.WellFormed.{WellFormed}
-use Rattle.token.specs.Answer.{partRead, VisitRead, visitNumber, refusal, visitRead}
-use Rattle.token.proofs.Parts.{laid-part}
-use Rattle.token.proofs.RoundTrip.{reads-written, written-reads, part-written}
+use Rattle.token.specs.Answer.{partRead, visitNumber, refusal, visitRead}
+use Rattle.token.proofs.RoundTrip.{written-reads, part-written}
 use Rattle.token.proofs.Verdicts.{read-accepted}
 
 -- where one call refuses, the other hands back the empty part; where it gives a visit, the frame reads as that visit and some updates,

@@ -1,7 +1,7 @@
 -- Copying words one after another, and applying the writes that an update's words hold one after another.
 -- Assumes nothing.
 use mathlib.Core.Path.{_≡_, refl, _∙_, sym, ap}
-use mathlib.Core.List.{List, [], _∷_, _++_}
+use mathlib.Core.List.{List, [], _∷_}
 use Prim.Native.Nat.{ℕ, zero, suc, _+_, _-_, _≤_, _<_}
 use native.Mathlib.Nat.{not-suc-le-zero}
 use native.Mathlib.Numerals.{add-one}
@@ -13,7 +13,7 @@ use Rattle.plan.specs.Decode.{headOf}
 use Rattle.operation.specs.Run.{Store, Update, applyUpdate}
 use Rattle.token.specs.Frame.{overwritten}
 use Rattle.token.specs.Admission.{writesFrom, writesIn}
-use Rattle.token.proofs.Written.{write-next, overwritten-length}
+use Rattle.token.proofs.Written.{write-next}
 
 -- ---- the first k words are copied
 

@@ -1,18 +1,17 @@
 -- A frame reads as a visit and updates exactly if it is their writing and they are well formed; so the words determine both.
 -- Assumes nothing.
 use mathlib.Core.Path.{_≡_, refl, _∙_, sym, ap, ap₂, subst}
-use mathlib.Core.Bool.{Bool, true, _&&_, cond}
-use mathlib.Core.List.{List, [], _∷_, _++_}
+use mathlib.Core.Bool.{true}
+use mathlib.Core.List.{List, _∷_}
 use Prim.Native.Nat.{ℕ, _+_, _-_, _%_, _^_, _≤_, _<_}
 use native.Mathlib.Nat.{mod-lt}
 use native.Mathlib.Omega.{arith}
-use lib.Dec.{leb, eqb}
+use lib.Dec.{eqb}
 use lib.ListN.{length, getD, take}
 use borrow.Author.Tests.{eqb-true, eq-eqb, le-leb}
 use Rattle.word.specs.Field.{kindOf, addressedDesk, frameLength}
-use Rattle.word.specs.Reserved.{reservedZero}
 use Rattle.plan.specs.Decode.{headOf}
-use Rattle.plan.specs.Admission.{Verdict, accepted, refused}
+use Rattle.plan.specs.Admission.{accepted}
 use Rattle.plan.proofs.Bool.{and-fst, and-snd, and-true}
 use Rattle.token.specs.Frame.{SentUpdate, frameHead, writeWords, updatesWords, sumsOf, frameAround, frameWords}
 use Rattle.token.specs.Admission.{frameVisit, updatesPart, writesFrom, updatesFrom, frameUpdates, frameHeaded, sumsRight, wellFormed, fewPerDesk, updatesAdmitted, updatesRight, frameVerdict, ReadsAs}

@@ -1,11 +1,11 @@
 -- The seal around the updates that stand in the outgoing words: words 0 and 1, then the sums of all words before them.
 -- Assumes nothing.
-use mathlib.Core.Path.{_≡_, refl, _∙_, sym, ap, ap₂}
-use mathlib.Core.List.{List, [], _∷_, _++_, append-assoc}
-use Prim.Native.Nat.{ℕ, suc, _+_, _-_, _≤_, _<_}
+use mathlib.Core.Path.{_≡_, _∙_, sym, ap}
+use mathlib.Core.List.{List, [], _∷_, _++_}
+use Prim.Native.Nat.{ℕ, _+_, _-_, _≤_}
 use native.Mathlib.Nat.{not-suc-le-zero}
 use native.Mathlib.Omega.{arith}
-use lib.ListN.{length, set, take, drop, length-append, length-take, length-drop, take-append-drop}
+use lib.ListN.{length, set, take, drop, length-take, length-drop, take-append-drop}
 use lib.Seq.{take-at}
 use Rattle.token.specs.Frame.{frameHead, sumsOf, sealed, frameAround, overwritten}
 use Rattle.token.proofs.Written.{write-two}

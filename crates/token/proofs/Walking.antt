@@ -9,7 +9,7 @@ use native.Mathlib.Numerals.{add-one}
 use lib.Dec.{ltb, leb, eqb}
 use lib.ListN.{length, getD, set, drop, replicate, length-set, drop-of-length-le}
 use lib.Seq.{drop-cons}
-use borrow.Author.Tests.{le-ltb, lt-ltb, eqb-true, ltb-true, ne-eqb}
+use borrow.Author.Tests.{le-ltb, lt-ltb, ltb-true, ne-eqb}
 use Rattle.word.specs.Field.{kindOf, updateDesk, cellCount}
 use Rattle.word.specs.Reserved.{reservedZero}
 use Rattle.plan.specs.Admission.{every}

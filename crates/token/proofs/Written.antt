@@ -1,16 +1,19 @@
 -- Words written one after another into the front of a list, and what stood behind them.
 -- Assumes nothing.
 use mathlib.Core.Path.{_≡_, refl, _∙_, sym, ap, ap₂}
+use mathlib.Core.Bool.{Bool, true, false}
 use mathlib.Core.List.{List, [], _∷_, _++_, append-assoc}
-use Prim.Native.Nat.{ℕ, zero, suc, _+_, _-_, _*_, _≤_, _<_}
+use Prim.Native.Nat.{ℕ, zero, suc, _+_, _*_, _≤_, _<_, min}
 use native.Mathlib.Nat.{not-suc-le-zero, le-of-suc-le-suc}
 use native.Mathlib.Numerals.{add-one}
 use native.Mathlib.Omega.{arith}
-use lib.ListN.{length, getD, set, take, drop, length-append, length-take, length-drop}
+use lib.Dec.{leb}
+use borrow.Author.Tests.{leb-true, leb-false}
+use lib.ListN.{length, getD, set, drop, length-append, length-drop}
 use lib.Seq.{drop-cons, set-at, append-snoc, drop-set-lt}
 use Rattle.operation.specs.Run.{Update}
-use Rattle.operation.specs.Answer.{pairs, updateOf}
-use Rattle.operation.proofs.Updates.{pairs-next}
+use Rattle.operation.specs.Answer.{pairs}
+use Rattle.operation.proofs.Updates.{pairs-next, pairs-past}
 use Rattle.token.specs.Frame.{SentUpdate, sent, cellWord, updateHead, writeWords, updateWords, overwritten}
 
 -- one word more
@@ -104,14 +107,28 @@ module _ (h : ℕ) (cs vs o : List ℕ) where
       (ap (λ (k : ℕ). set (set (filled h (pairs i cs vs) o) (1 + 2 * k) (cellWord (getD cs i 0))) (1 + 2 * k + 1) (getD vs i 0)) (sym n)
       ∙ fill-next h (pairs i cs vs) o (getD cs i 0) (getD vs i 0) (omega arith))
 
-pub pairs-words : (d n : ℕ) (cs vs : List ℕ) → n ≤ length cs → n ≤ length vs → 1 + 2 * n ≡ length (updateWords (sent d (pairs n cs vs)))
-pairs-words d n cs vs a b = omega (arith, update-length (sent d (pairs n cs vs)), pairs-length n cs vs a b)
+-- ---- an update whose arrays hold 12 cells and values: its count says no more than 12
 
--- all pairs of the arrays are the update's words; word 0 was written before
-pub filled-all : (d n : ℕ) (cs vs o : List ℕ) (x : ℕ) → n ≤ length cs → n ≤ length vs
-    → filledTo (updateHead d n) n cs vs (set o 0 x) ≡ overwritten (updateWords (sent d (pairs n cs vs))) o
-unfolding filledTo filled updateWords
-filled-all d n cs vs o x a b =
-    let w = writeWords (pairs n cs vs) in
-    ap (λ (k : ℕ). overwritten (updateHead d k ∷ w) (set o 0 x)) (sym (pairs-length n cs vs a b))
-    ∙ ap (λ (t : List ℕ). (updateHead d (length (pairs n cs vs)) ∷ w) ++ t) (drop-set-lt (suc (length w)) o 0 x (omega arith))
+module _ (d n k : ℕ) (cs vs : List ℕ) (a : length cs ≡ 12) (b : length vs ≡ 12) (e : k ≡ min n 12) where
+  held : pairs k cs vs ≡ pairs n cs vs
+  held = go (leb n 12) refl
+    where
+      go : (q : Bool) → leb n 12 ≡ q → pairs k cs vs ≡ pairs n cs vs
+      go true q = let same : k ≡ n = omega (arith, leb-true n 12 q) in ap (λ (j : ℕ). pairs j cs vs) same
+      go false q =
+          let all : length cs ≤ k = omega (arith, leb-false n 12 q) in
+          let more : length cs ≤ n = omega (arith, leb-false n 12 q) in
+          pairs-past k cs vs all ∙ sym (pairs-past n cs vs more)
+
+  pub held-words : 1 + 2 * k ≡ length (updateWords (sent d (pairs n cs vs)))
+  held-words = omega (arith, update-length (sent d (pairs n cs vs)), ap length held, pairs-length k cs vs (omega arith) (omega arith))
+
+  -- all pairs are the update's words; word 0 was written before
+  pub filled-all : (o : List ℕ) (x : ℕ) → filledTo (updateHead d k) k cs vs (set o 0 x) ≡ overwritten (updateWords (sent d (pairs n cs vs))) o
+  unfolding filledTo filled updateWords
+  filled-all o x =
+      let w = writeWords (pairs k cs vs) in
+      let count = pairs-length k cs vs (omega arith) (omega arith) in
+      ap (λ (j : ℕ). overwritten (updateHead d j ∷ w) (set o 0 x)) (sym count)
+      ∙ ap (λ (t : List ℕ). (updateHead d (length (pairs k cs vs)) ∷ w) ++ t) (drop-set-lt (suc (length w)) o 0 x (omega arith))
+      ∙ ap (λ u. overwritten (updateHead d (length u) ∷ writeWords u) o) held

@@ -18,7 +18,6 @@ pub use sums::frame_sums;
 pub use updates::cell_count;
 pub use updates::cell_of;
 pub use updates::update_desk;
-pub use updates::updates_admitted;
 pub use writer::StartAnswer;
 pub use writer::seal;
 pub use writer::starting_frame;

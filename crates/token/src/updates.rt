@@ -1,6 +1,5 @@
 // The updates in a frame: question 12 of their words, and the fields that a walk over them reads.
 ghost use mathlib.Core.Path.{_≡_};
-ghost use mathlib.Core.Bool.{true};
 ghost use Prim.Native.Nat.{_≤_};
 ghost use Rattle.word.specs.Field.{updateDesk, cellCount, cellField};
 ghost use Rattle.token.specs.Admission.{updateFormed, cellFormed, updatesAdmitted};
@@ -56,7 +55,7 @@ fn cell_formed(word: u32) -> bool
 }
 
 // Question 12 of all the words between word 1 and the sums. `left` cells of the latest update are still to come.
-pub fn updates_admitted(desks: u32, body: &[u32]) -> bool
+pub(crate) fn updates_admitted(desks: u32, body: &[u32]) -> bool
     requires { ⌜ desks ≤ 8 ⌝ }
     ensures { λ r. ⌜ r ≡ updatesAdmitted desks (now (body .entry)) ⌝ }
 {

@@ -1,6 +1,6 @@
 // Writing frames: an update into what is left of the outgoing words, the seal around the updates, and the starting frame.
 ghost use mathlib.Core.Path.{_≡_};
-ghost use Prim.Native.Nat.{_+_, _-_, _*_, _≤_};
+ghost use Prim.Native.Nat.{_+_, _-_, _≤_, min};
 ghost use lib.ListN.{length, take, drop};
 ghost use Rattle.operation.specs.Answer.{updateOf};
 ghost use Rattle.token.specs.Frame.{sent, frameHead, updateHead, cellWord, updateWords, frameAround, overwritten};
@@ -35,13 +35,20 @@ fn cell_word(cell: u32) -> u32
     0xb000_0000 + cell % 0x400
 }
 
+// How many cells an update holds: its count, but no more than its arrays have.
+fn cells_held(count: usize) -> usize
+    ensures { λ r. ⌜ r ≡ min count 12 ⌝ }
+{
+    if 12 < count { 12 } else { count }
+}
+
 // Writes the update at the front of what is left of the outgoing words, and answers how many words it wrote.
 pub fn write_update(out: &mut [u32], desk: u32, update: operation::Update) -> usize
-    requires { ⌜ (update .count ≤ 12) × (1 + 2 * update .count ≤ length (now out)) ⌝ }
+    requires { ⌜ length (updateWords (sent desk (updateOf update))) ≤ length (now out) ⌝ }
     ensures words { λ r. ⌜ r ≡ length (updateWords (sent desk (updateOf update))) ⌝ }
     ensures written { λ r. ⌜ now (out .exit) ≡ overwritten (updateWords (sent desk (updateOf update))) (now (out .entry)) ⌝ }
 {
-    let count = update.count;
+    let count = cells_held(update.count);
     out[0] = update_head(desk, count);
     let mut at: usize = 1;
     let mut i: usize = 0;

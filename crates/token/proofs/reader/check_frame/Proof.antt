@@ -2,9 +2,7 @@
 -- Assumes nothing.
 use mathlib.Core.Path.{_≡_, _∙_, sym}
 use mathlib.Core.Bool.{true}
-use Prim.Native.Nat.{_≤_}
 use borrow.Author.Tests.{not-true, not-false}
-use lib.ListN.{length}
 use Rattle.token.specs.Admission.{frameVerdict, frameHeaded}
 use Rattle.token.proofs.Verdicts.{headed}
 use borrow.Author.Needs.{needs}

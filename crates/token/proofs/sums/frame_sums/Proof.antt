@@ -1,7 +1,7 @@
 -- What the words still to come add to the sums so far gives both sums.
 -- Assumes nothing.
-use mathlib.Core.Path.{_≡_, _∙_, sym, ap₂}
-use Prim.Native.Nat.{ℕ, _-_, _≤_}
+use mathlib.Core.Path.{_≡_, _∙_, sym}
+use Prim.Native.Nat.{_-_, _≤_}
 use native.Mathlib.Omega.{arith}
 use lib.ListN.{length}
 use Rattle.token.specs.Frame.{sumsOf}

@@ -1,13 +1,13 @@
 -- Question 12 over the words: at each place of the walk, what is still to come gives the whole answer.
 -- Assumes nothing.
 use mathlib.Core.Path.{_≡_, _∙_, sym}
-use Prim.Native.Nat.{ℕ, _-_, _≤_, _<_}
-use mathlib.Core.Bool.{true, false}
+use Prim.Native.Nat.{_-_, _≤_, _<_}
+use mathlib.Core.Bool.{true}
 use native.Mathlib.Omega.{arith}
-use borrow.Author.Tests.{not-true, not-false, eqb-false}
+use borrow.Author.Tests.{not-true, not-false}
 use lib.ListN.{length, getD, length-set}
 use Rattle.word.specs.Field.{updateDesk}
-use Rattle.token.specs.Admission.{updateFormed, cellFormed, updatesAdmitted}
+use Rattle.token.specs.Admission.{updateFormed, updatesAdmitted}
 use Rattle.token.proofs.Walking.{restAt, formed-desk, at-update-fault, at-update-many, at-update, at-cell-fault, at-cell-last, at-cell, at-end, walk-start}
 use borrow.Author.Needs.{needs}
 use Rattle.token.proofs.updates.updates_admitted.Statement.{statement}

@@ -1,12 +1,12 @@
 -- The update's word, then the pairs one after another: at each turn the words written so far stand in front of the old ones.
 -- Assumes nothing.
-use mathlib.Core.Path.{_≡_, refl, _∙_, sym, ap}
+use mathlib.Core.Path.{_≡_, refl, _∙_, ap}
 use mathlib.Core.List.{List}
-use Prim.Native.Nat.{ℕ, _+_, _-_, _*_, _≤_, _<_}
+use Prim.Native.Nat.{ℕ, _+_, _-_, _*_, _≤_}
 use native.Mathlib.Omega.{arith}
 use lib.ListN.{length, set, length-set}
 use Rattle.token.specs.Frame.{updateHead}
-use Rattle.token.proofs.Written.{filledTo, filled-none, filled-next, filled-all, pairs-words}
+use Rattle.token.proofs.Written.{filledTo, filled-none, filled-next, filled-all, held-words}
 use borrow.Author.Needs.{needs}
 use Rattle.token.proofs.writer.write_update.Statement.{statement}
 use Rattle.token.proofs.writer.write_update.Tie as tie
@@ -20,23 +20,34 @@ Inv-loop out₀ desk update count at₀ i₀ out at i =
 abbrev μ-loop : tie.MeasureT-loop
 μ-loop out₀ desk update count at₀ i₀ out at i = count - i
 
+cells-held-requires : tie.Need-cells-held-requires Inv-loop μ-loop
+cells-held-requires c κs = search needs
+
 update-head-requires : tie.Need-update-head-requires Inv-loop μ-loop
 update-head-requires c κs = search needs
 
+-- the words of the update, before any is written
+words : (c : tie.After-cells-held Inv-loop μ-loop) → 1 + 2 * c .cells-held .result ≤ length (c .before .before .args .out .now)
+words c =
+    let a = c .before .before .args in
+    let cs : length (a .t3 .cells) ≡ 12 = search needs in
+    let vs : length (a .t3 .values) ≡ 12 = search needs in
+    omega (arith, held-words (a .desk) (a .t3 .count) _ (a .t3 .cells) (a .t3 .values) cs vs (c .cells-held .ensures), c .before .before .pre)
+
 slice-write-out : tie.Need-slice-write-out Inv-loop μ-loop
-slice-write-out c = search needs
+slice-write-out c = omega (arith, words (c .before))
 
 loop-holds : tie.Need-loop-holds Inv-loop μ-loop
 loop-holds c =
-    let s = c .before .before in (
-      search needs,
-      s .pre .0,
-      simp length-set (s .pre .1),
+    let s = c .before .before .before in (
+      omega arith,
+      omega (arith, c .before .cells-held .ensures),
+      simp length-set (words (c .before)),
       search needs,
       search needs,
       refl,
       refl,
-      filled-none _ _ _ (s .args .out .now) _ (c .update-head .ensures) (omega arith),
+      filled-none _ _ _ (s .args .out .now) _ (c .update-head .ensures) (omega (arith, words (c .before))),
     )
 
 mul-cell : tie.Need-mul-cell Inv-loop μ-loop
@@ -101,14 +112,16 @@ same-length c = c .before .loop .inv .6 ∙ simp length-set
 
 returns : tie.Need-returns Inv-loop μ-loop
 returns c =
-    let s = c .before .before .before .before in
+    let k = c .before .before .before in
+    let a = k .before .before .args in
+    let u = a .t3 in
     let v = c .before .loop .inv in
-    let u = s .args .t3 in
     let h = c .before .before .update-head .result in
-    let e : c .before .loop .i ≡ u .count = omega arith in (
-      v .5 ∙ ap (λ (k : ℕ). 1 + 2 * k) e ∙ pairs-words (s .args .desk) (u .count) (u .cells) (u .values) (omega arith) (omega arith),
-      v .7 ∙ ap (λ (k : ℕ). filledTo (updateHead (s .args .desk) (u .count)) k (u .cells) (u .values) (set (s .args .out .now) 0 h)) e
-          ∙ filled-all (s .args .desk) (u .count) (u .cells) (u .values) (s .args .out .now) h (omega arith) (omega arith),
+    let n = k .cells-held .result in
+    let e : c .before .loop .i ≡ n = omega arith in (
+      v .5 ∙ ap (λ (j : ℕ). 1 + 2 * j) e ∙ held-words (a .desk) (u .count) n (u .cells) (u .values) (v .3) (v .4) (k .cells-held .ensures),
+      v .7 ∙ ap (λ (j : ℕ). filledTo (updateHead (a .desk) n) j (u .cells) (u .values) (set (a .out .now) 0 h)) e
+          ∙ filled-all (a .desk) (u .count) n (u .cells) (u .values) (v .3) (v .4) (k .cells-held .ensures) (a .out .now) h,
     )
 
 pub write-update-spec : {M : Type 1} → statement M
@@ -117,6 +130,7 @@ write-update-spec =
     (tie.spec
     Inv-loop
     μ-loop
+    cells-held-requires
     update-head-requires
     slice-write-out
     loop-holds
