@@ -42,7 +42,8 @@ total-set (w ∷ l) (suc i) x h = omega (arith, total-set l i x (le-of-suc-le-su
 cancel : (s t g x : ℕ) → s + g ≡ t + x → s % 2 ^ 32 ≡ t % 2 ^ 32 → g < 2 ^ 32 → x < 2 ^ 32 → x ≡ g
 cancel s t g x e m hg hx = omega arith
 
-same-first : (l : List ℕ) (i x : ℕ) → i < length l → getD l i 0 < 2 ^ 32 → x < 2 ^ 32 → sumsOf (set l i x) .0 ≡ sumsOf l .0 → x ≡ getD l i 0
+same-first : (l : List ℕ) (i x : ℕ) → i < length l → getD l i 0 < 2 ^ 32 → x < 2 ^ 32
+    → sumsOf (set l i x) .0 ≡ sumsOf l .0 → x ≡ getD l i 0
 same-first l i x h hg hx e =
     let a = first-total 0 0 (set l i x) (omega arith) in
     let b = first-total 0 0 l (omega arith) in
@@ -58,7 +59,8 @@ unfolding sumsRight
 right ws e =
     (eqb-true _ _ (and-fst _ _ e), eqb-true _ _ (and-snd (eqb (getD ws (length ws - 2) 0) (sumsOf (take (length ws - 2) ws) .0)) _ e))
 
-module _ (ws : List ℕ) (i x : ℕ) (words : AllWords ws) (low : 4 ≤ length ws) (h : i < length ws) (hx : x < 2 ^ 32) (r : sumsRight ws ≡ true) where
+module _ (ws : List ℕ) (i x : ℕ) (words : AllWords ws) (low : 4 ≤ length ws) (h : i < length ws) (hx : x < 2 ^ 32)
+    (r : sumsRight ws ≡ true) where
   -- the sums of the changed words, at the places of the sums
   changed : sumsRight (set ws i x) ≡ true
       → (getD (set ws i x) (length ws - 2) 0 ≡ sumsOf (take (length ws - 2) (set ws i x)) .0)
@@ -71,13 +73,15 @@ module _ (ws : List ℕ) (i x : ℕ) (words : AllWords ws) (low : 4 ≤ length w
   before-sums b e =
       let l = take (length ws - 2) ws in
       let at : getD l i 0 ≡ getD ws i 0 = getD-take (length ws - 2) ws i 0 b in
-      let kept : getD (set ws i x) (length ws - 2) 0 ≡ getD ws (length ws - 2) 0 = getD-set-other ws i (length ws - 2) x 0 (λ q. omega arith) in
+      let kept : getD (set ws i x) (length ws - 2) 0 ≡ getD ws (length ws - 2) 0 =
+      getD-set-other ws i (length ws - 2) x 0 (λ q. omega arith) in
       let sums : sumsOf (set l i x) .0 ≡ sumsOf l .0 =
       ap (λ (t : List ℕ). sumsOf t .0) (sym (take-set-lt (length ws - 2) ws i x b)) ∙ sym (changed e .0) ∙ kept ∙ right ws r .0 in
       same-first l i x (omega (arith, length-take-le (length ws - 2) ws (omega arith))) (omega (arith, at, words i)) hx sums ∙ at
 
   at-sum : (k : ℕ) (f : ℕ × ℕ → ℕ) → i ≡ k → length ws - 2 ≤ i
-      → getD (set ws i x) k 0 ≡ f (sumsOf (take (length ws - 2) (set ws i x))) → getD ws k 0 ≡ f (sumsOf (take (length ws - 2) ws)) → x ≡ getD ws i 0
+      → getD (set ws i x) k 0 ≡ f (sumsOf (take (length ws - 2) (set ws i x))) → getD ws k 0 ≡ f (sumsOf (take (length ws - 2) ws))
+      → x ≡ getD ws i 0
   at-sum k f q b e g =
       sym (getD-set-same ws i x 0 h) ∙ ap (λ (j : ℕ). getD (set ws i x) j 0) q ∙ e
       ∙ ap (λ (t : List ℕ). f (sumsOf t)) (take-set-le (length ws - 2) ws i x b) ∙ sym g ∙ ap (λ (j : ℕ). getD ws j 0) (sym q)
@@ -85,7 +89,8 @@ module _ (ws : List ℕ) (i x : ℕ) (words : AllWords ws) (low : 4 ≤ length w
   same-word : sumsRight (set ws i x) ≡ true → x ≡ getD ws i 0
   same-word e =
       ⊎-elim (λ q. at-sum (length ws - 1) (λ p. p .1) q (omega arith) (changed e .1) (right ws r .1))
-      (λ b. ⊎-elim (λ q. at-sum (length ws - 2) (λ p. p .0) q (omega arith) (changed e .0) (right ws r .0)) (λ c. before-sums c e) (third b))
+      (λ b. ⊎-elim (λ q. at-sum (length ws - 2) (λ p. p .0) q (omega arith) (changed e .0) (right ws r .0))
+      (λ c. before-sums c e) (third b))
       second
     where
       second : (i ≡ length ws - 1) ⊎ (i < length ws - 1)

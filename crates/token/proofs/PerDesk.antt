@@ -84,7 +84,8 @@ few-next s u us h =
     let k = deskCount (u .desk) us in
     let here : getD t (u .desk) 0 ≡ c + 1 = getD-set-same s (u .desk) (c + 1) 0 h in
     ap₂ _&&_ (ap (λ (x : ℕ). leb x 32) (moved s u us (u .desk) h ∙ ap (λ (x : ℕ). x + k) here))
-    (every-same _ (λ x. leb (getD t (x .desk) 0 + deskCount (x .desk) us) 32) us (λ x m. ap (λ (y : ℕ). leb y 32) (moved s u us (x .desk) h)))
+    (every-same _ (λ x. leb (getD t (x .desk) 0 + deskCount (x .desk) us) 32) us
+    (λ x m. ap (λ (y : ℕ). leb y 32) (moved s u us (x .desk) h)))
     ∙ first-test c k (fewOn t us) (λ e.
     subst (λ (x : ℕ). (k ≡ 0) ⊎ (leb (x + k) 32 ≡ true)) here
     (desk-holds (λ x. leb (getD t x 0 + deskCount x us) 32) (u .desk) us e))

@@ -19,7 +19,8 @@ use Rattle.token.proofs.Verdicts.{read-accepted}
 pub record Agree (plan frame : List ℕ) : Type 0 where
   pub refusing : (q : ℕ) → visitRead (readVerdict plan frame) frame ≡ refusal q → partRead (readVerdict plan frame) frame ≡ []
   pub reading : (v : ℕ) → visitRead (readVerdict plan frame) frame ≡ visitNumber v
-      → ReadsAs (planOf plan .desks) frame v (frameUpdates frame) × (partRead (readVerdict plan frame) frame ≡ updatesWords (frameUpdates frame))
+      → ReadsAs (planOf plan .desks) frame v (frameUpdates frame)
+      × (partRead (readVerdict plan frame) frame ≡ updatesWords (frameUpdates frame))
 
 refused-part : (r : Verdict) (frame : List ℕ) (q : ℕ) → visitRead r frame ≡ refusal q → partRead r frame ≡ []
 refused-part accepted frame q e = let z : _≡_ {A = ℕ} 0 1 = cc in absurd (omega arith)
@@ -36,7 +37,8 @@ readers-agree plan frame =
       reading = λ v e.
           let a = visit-accepted (readVerdict plan frame) frame v e in
           let f = read-accepted plan frame (a .0) .1 in
-          (record { verdict = f; number = a .1; sent = refl }, ap (λ r. partRead r frame) (a .0) ∙ part-written (planOf plan .desks) frame f);
+          let p = part-written (planOf plan .desks) frame f in
+          (record { verdict = f; number = a .1; sent = refl }, ap (λ r. partRead r frame) (a .0) ∙ p);
     }
 
 -- ---- the starting frame

@@ -14,7 +14,8 @@ use Rattle.plan.specs.Decode.{headOf}
 use Rattle.plan.specs.Admission.{accepted}
 use Rattle.plan.proofs.Bool.{and-fst, and-snd, and-true}
 use Rattle.token.specs.Frame.{SentUpdate, frameHead, writeWords, updatesWords, sumsOf, frameAround, frameWords}
-use Rattle.token.specs.Admission.{frameVisit, updatesPart, writesFrom, updatesFrom, frameUpdates, frameHeaded, sumsRight, wellFormed, fewPerDesk, updatesAdmitted, updatesRight, frameVerdict, ReadsAs}
+use Rattle.token.specs.Admission.{frameVisit, updatesPart, writesFrom, updatesFrom, frameUpdates, frameHeaded, sumsRight}
+use Rattle.token.specs.Admission.{wellFormed, fewPerDesk, updatesAdmitted, updatesRight, frameVerdict, ReadsAs}
 use Rattle.token.specs.WellFormed.{WellFormed}
 use Rattle.token.proofs.HeadWords.{head-read, head-kind, head-zero, head-desk, head-length}
 use Rattle.token.proofs.PerDesk.{few-counts, counts-few}
@@ -53,7 +54,8 @@ admitted-words n ws e =
     let u = and-snd (eqb (addressedDesk w) (v % n)) _ (q .updates) in
     let d = decoded n 0 part (and-fst (wellFormed n 0 part) _ u) in
     let parts = layout ws (h .low) in
-    let total : length ws ≡ length part + 4 = ap length parts ∙ laid-length w v part (getD ws (length ws - 2) 0) (getD ws (length ws - 1) 0) in
+    let total : length ws ≡ length part + 4 =
+    ap length parts ∙ laid-length w v part (getD ws (length ws - 2) 0) (getD ws (length ws - 1) 0) in
     let desk : addressedDesk w ≡ v % n = eqb-true (addressedDesk w) (v % n) (and-fst (eqb (addressedDesk w) (v % n)) _ (q .updates)) in
     let head : w ≡ frameHead (v % n) (length part + 4) = head-read w (h .kind) (h .zeros) ∙ ap₂ frameHead desk (h .count ∙ total) in
     let written : ws ≡ frameAround (v % n) v part = parts ∙ around (v % n) v w _ _ part head (sums-read ws (h .low) (q .sums)) in (
@@ -143,6 +145,12 @@ module _ (n v : ℕ) (us : List SentUpdate) (low : 1 ≤ n) (high : n ≤ 8) (f 
 
 pub written-reads : (n v : ℕ) (us : List SentUpdate) → 1 ≤ n → n ≤ 8 → WellFormed n us → ReadsAs n (frameWords n v us) v us
 written-reads n v us low high f = subst (λ (ws : List ℕ). ReadsAs n ws v us) (same n v us low high f) (reads n v us low high f)
+
+-- both directions
+pub reads-exactly : (n : ℕ) → 1 ≤ n → n ≤ 8 → (ws : List ℕ) (v : ℕ) (us : List SentUpdate)
+    → (ReadsAs n ws v us → (ws ≡ frameWords n v us) × WellFormed n us) × ((ws ≡ frameWords n v us) × WellFormed n us → ReadsAs n ws v us)
+reads-exactly n low high ws v us =
+    (reads-written n ws v us, λ w. subst (λ (x : List ℕ). ReadsAs n x v us) (sym (w .0)) (written-reads n v us low high (w .1)))
 
 -- "4–6,404" words
 pub written-length : (n v : ℕ) (us : List SentUpdate) → 1 ≤ n → n ≤ 8 → WellFormed n us → length (frameWords n v us) ≤ 6404

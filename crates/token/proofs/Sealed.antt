@@ -2,12 +2,12 @@
 -- Assumes nothing.
 use mathlib.Core.Path.{_≡_, _∙_, sym, ap}
 use mathlib.Core.List.{List, [], _∷_, _++_}
-use Prim.Native.Nat.{ℕ, _+_, _-_, _≤_}
+use Prim.Native.Nat.{ℕ, _+_, _-_, _%_, _≤_}
 use native.Mathlib.Nat.{not-suc-le-zero}
 use native.Mathlib.Omega.{arith}
 use lib.ListN.{length, set, take, drop, length-take, length-drop, take-append-drop}
 use lib.Seq.{take-at}
-use Rattle.token.specs.Frame.{frameHead, sumsOf, sealed, frameAround, overwritten}
+use Rattle.token.specs.Frame.{SentUpdate, updatesWords, frameHead, sumsOf, sealed, frameAround, frameWords, overwritten, sealedAt}
 use Rattle.token.proofs.Written.{write-two}
 
 -- two words in front of those that stand there already
@@ -47,3 +47,8 @@ seal-law out desk visit end h a b low room e s =
     ∙ ap (λ (t : List ℕ). overwritten t out)
     (around desk visit h a b body (e ∙ ap (frameHead desk) words)
     (s ∙ ap sumsOf (ap (take end) f ∙ take-at front (drop (length front) out) end k)))
+
+-- around updates that stand there, for the desk whose visit it is, the seal makes their frame
+pub sealed-frame : (n v end : ℕ) (us : List SentUpdate) (out : List ℕ) → take (end - 2) (drop 2 out) ≡ updatesWords us
+    → sealedAt (v % n) v end out ≡ overwritten (frameWords n v us) out
+sealed-frame n v end us out e = ap (λ (b : List ℕ). overwritten (frameAround (v % n) v b) out) e

@@ -62,7 +62,8 @@ both : (v w : Verdict) → andThen v w ≡ accepted → (v ≡ accepted) × (w �
 both accepted w e = (refl, e)
 both (refused q) w e = let z : _≡_ {A = ℕ} 0 1 = cc in absurd (omega arith)
 
-pub read-accepted : (plan frame : List ℕ) → readVerdict plan frame ≡ accepted → (planVerdict plan ≡ accepted) × (frameVerdict (planOf plan .desks) frame ≡ accepted)
+pub read-accepted : (plan frame : List ℕ) → readVerdict plan frame ≡ accepted
+    → (planVerdict plan ≡ accepted) × (frameVerdict (planOf plan .desks) frame ≡ accepted)
 unfolding readVerdict
 read-accepted plan frame e = both (planVerdict plan) (frameVerdict (planOf plan .desks) frame) e
 

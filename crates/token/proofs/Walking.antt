@@ -16,7 +16,8 @@ use Rattle.plan.specs.Admission.{every}
 use Rattle.plan.proofs.Bool.{and-fst, and-snd}
 use Rattle.plan.proofs.Every.{every-same}
 use Rattle.token.specs.Frame.{SentUpdate, sent}
-use Rattle.token.specs.Admission.{writesFrom, updatesFrom, updateFormed, cellFormed, wellFormed, deskCount, fewPerDesk, updatesAdmitted}
+use Rattle.token.specs.Admission.{writesFrom, updatesFrom, updateFormed, cellFormed, wellFormed, deskCount, fewPerDesk}
+use Rattle.token.specs.Admission.{updatesAdmitted}
 use Rattle.token.proofs.PerDesk.{fewOn, few-next}
 
 -- the counts with one update more of a desk
@@ -57,7 +58,8 @@ module _ (n : ℕ) (s : List ℕ) (left : ℕ) (ws : List ℕ) (i : ℕ) (h : i 
   unfolding restAt rest
   at-update-fault z e = rw (z, here ws i h) (simp e)
 
-  pub at-update-many : left ≡ 0 → updateFormed n (getD ws i 0) ≡ true → 32 ≤ getD s (updateDesk (getD ws i 0)) 0 → restAt n s left ws i ≡ false
+  pub at-update-many : left ≡ 0 → updateFormed n (getD ws i 0) ≡ true → 32 ≤ getD s (updateDesk (getD ws i 0)) 0
+      → restAt n s left ws i ≡ false
   unfolding restAt rest
   at-update-many z e m = rw (z, here ws i h) (simp (e, le-ltb (getD s (updateDesk (getD ws i 0)) 0) 32 m))
 
@@ -117,7 +119,8 @@ one-update n w s r W u us d l e = go (updateFormed n w) refl
         let h : u .desk < length s = omega (arith, formed-desk n w q) in
         rw (few-next s u us h, d, e) (swap true (ltb (getD s (updateDesk w) 0) 32) W _)
 
-whole : (n : ℕ) (s : List ℕ) (left : ℕ) (ws : List ℕ) → n ≤ length s → rest n s left ws ≡ (wellFormed n left ws && fewOn s (updatesFrom left ws))
+whole : (n : ℕ) (s : List ℕ) (left : ℕ) (ws : List ℕ) → n ≤ length s
+    → rest n s left ws ≡ (wellFormed n left ws && fewOn s (updatesFrom left ws))
 unfolding rest wellFormed updatesFrom every
 whole n s zero [] l = refl
 whole n s zero (w ∷ ws) l =

@@ -97,7 +97,8 @@ module _ (h : ℕ) (cs vs o : List ℕ) where
   unfolding filledTo
   filled-length i a b l = fill-length h (pairs i cs vs) o (omega (arith, pairs-length i cs vs a b))
 
-  pub filled-next : (i at w v : ℕ) (t : List ℕ) → t ≡ filledTo h i cs vs o → at ≡ 1 + 2 * i → i < length cs → i < length vs → 1 + 2 * i + 1 < length o
+  pub filled-next : (i at w v : ℕ) (t : List ℕ) → t ≡ filledTo h i cs vs o → at ≡ 1 + 2 * i
+      → i < length cs → i < length vs → 1 + 2 * i + 1 < length o
       → w ≡ cellWord (getD cs i 0) → v ≡ getD vs i 0
       → set (set t at w) (at + 1) v ≡ filledTo h (i + 1) cs vs o
   unfolding filledTo
@@ -124,7 +125,8 @@ module _ (d n k : ℕ) (cs vs : List ℕ) (a : length cs ≡ 12) (b : length vs 
   held-words = omega (arith, update-length (sent d (pairs n cs vs)), ap length held, pairs-length k cs vs (omega arith) (omega arith))
 
   -- all pairs are the update's words; word 0 was written before
-  pub filled-all : (o : List ℕ) (x : ℕ) → filledTo (updateHead d k) k cs vs (set o 0 x) ≡ overwritten (updateWords (sent d (pairs n cs vs))) o
+  pub filled-all : (o : List ℕ) (x : ℕ)
+      → filledTo (updateHead d k) k cs vs (set o 0 x) ≡ overwritten (updateWords (sent d (pairs n cs vs))) o
   unfolding filledTo filled updateWords
   filled-all o x =
       let w = writeWords (pairs k cs vs) in

@@ -1,7 +1,7 @@
 -- Writing a frame: the words of a visit, its desk and its updates. Nothing here reads a frame.
-use Prim.Native.Nat.{ℕ, _+_, _*_, _%_, _^_}
+use Prim.Native.Nat.{ℕ, _+_, _-_, _*_, _%_, _^_}
 use mathlib.Core.List.{List, [], _∷_, _++_}
-use lib.ListN.{length, drop}
+use lib.ListN.{length, take, drop}
 use Rattle.operation.specs.Run.{Update}
 
 -- an update as a frame carries it: the desk whose operation made it, and the cells and values that it wrote
@@ -72,3 +72,7 @@ startingFrame = frameAround 0 0 []
 -- "Words past what is written are untouched."
 abbrev pub overwritten : List ℕ → List ℕ → List ℕ
 overwritten ws out = ws ++ drop (length ws) out
+
+-- outgoing words with a frame made of the updates that stand in them from word 2 up to `end`
+abbrev pub sealedAt : ℕ → ℕ → ℕ → List ℕ → List ℕ
+sealedAt desk visit end out = overwritten (frameAround desk visit (take (end - 2) (drop 2 out))) out

@@ -1,9 +1,9 @@
 // Writing frames: an update into what is left of the outgoing words, the seal around the updates, and the starting frame.
 ghost use mathlib.Core.Path.{_≡_};
-ghost use Prim.Native.Nat.{_+_, _-_, _≤_, min};
-ghost use lib.ListN.{length, take, drop};
+ghost use Prim.Native.Nat.{_+_, _≤_, min};
+ghost use lib.ListN.{length};
 ghost use Rattle.operation.specs.Answer.{updateOf};
-ghost use Rattle.token.specs.Frame.{sent, frameHead, updateHead, cellWord, updateWords, frameAround, overwritten};
+ghost use Rattle.token.specs.Frame.{sent, frameHead, updateHead, cellWord, updateWords, overwritten, sealedAt};
 ghost use Rattle.token.specs.Answer.{startOf, startVerdict, startWords};
 use crate::sums;
 use word::fields;
@@ -66,7 +66,7 @@ pub fn write_update(out: &mut [u32], desk: u32, update: operation::Update) -> us
 // Makes a frame of the updates that stand in the outgoing words from word 2 up to `end`: writes words 0 and 1, and the sums.
 pub fn seal(out: &mut [u32], desk: u32, visit: u32, end: usize)
     requires { ⌜ (2 ≤ end) × (end + 2 ≤ length (now out)) ⌝ }
-    ensures { λ r. ⌜ now (out .exit) ≡ overwritten (frameAround desk visit (take (end - 2) (drop 2 (now (out .entry))))) (now (out .entry)) ⌝ }
+    ensures { λ r. ⌜ now (out .exit) ≡ sealedAt desk visit end (now (out .entry)) ⌝ }
 {
     out[0] = frame_head(desk, end + 2);
     out[1] = visit;

@@ -20,7 +20,9 @@ shared-slice-read-head c = search needs
 
 returns-3 : tie.Need-returns-3
 unfolding frameHeaded
-returns-3 c = simp (le-leb _ _ (c .before .before .before .if1 .left), le-leb _ _ (c .before .before .if2 .left), ne-eqb _ _ (c .if3 .taken))
+returns-3 c =
+    let d = c .before .before in
+    simp (le-leb _ _ (d .before .if1 .left), le-leb _ _ (d .if2 .left), ne-eqb _ _ (c .if3 .taken))
 
 reserved-zero-requires : tie.Need-reserved-zero-requires
 reserved-zero-requires c κs = search needs

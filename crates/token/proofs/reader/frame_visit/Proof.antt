@@ -18,7 +18,8 @@ enum-told c = search needs
 
 -- the frame is accepted
 ok : (c : tie.After-enum-told)
-    → readVerdict (c .before .before .before .before .before .args .plan .now) (c .before .before .before .before .before .args .frame .now) ≡ accepted
+    → readVerdict (c .before .before .before .before .before .args .plan .now)
+    (c .before .before .before .before .before .args .frame .now) ≡ accepted
 ok c = sym (c .before .before .check .ensures) ∙ ap verdictOf (c .enum-told .given .1)
 
 shared-slice-read-t7 : tie.Need-shared-slice-read-t7
@@ -33,7 +34,8 @@ returns c = sym (ap (λ v. visitRead v (c .before .before .before .before .befor
 returns-2 : tie.Need-returns-2
 returns-2 c =
     let d = c .before .before .before in
-    sym (ap (λ v. visitRead v (d .before .before .before .args .frame .now)) (sym (d .check .ensures) ∙ ap verdictOf (c .before .answer .given .1)))
+    sym (ap (λ v. visitRead v (d .before .before .before .args .frame .now))
+    (sym (d .check .ensures) ∙ ap verdictOf (c .before .answer .given .1)))
 
 pub frame-visit-spec : {M : Type 1} → statement M
 frame-visit-spec =

@@ -20,7 +20,8 @@ enum-told c = search needs
 
 -- the frame is accepted
 ok : (c : tie.After-enum-told)
-    → readVerdict (c .before .before .before .before .before .args .plan .now) (c .before .before .before .before .before .args .frame .now) ≡ accepted
+    → readVerdict (c .before .before .before .before .before .args .plan .now)
+    (c .before .before .before .before .before .args .frame .now) ≡ accepted
 ok c = sym (c .before .before .check .ensures) ∙ ap verdictOf (c .enum-told .given .1)
 
 sub-end : tie.Need-sub-end
@@ -51,7 +52,8 @@ returns c =
 returns-2 : tie.Need-returns-2
 returns-2 c =
     let d = c .before .before .before in
-    sym (ap (λ v. partRead v (d .before .before .before .args .frame .now)) (sym (d .check .ensures) ∙ ap verdictOf (c .before .enum-told2 .given .1)))
+    sym (ap (λ v. partRead v (d .before .before .before .args .frame .now))
+    (sym (d .check .ensures) ∙ ap verdictOf (c .before .enum-told2 .given .1)))
 
 pub read-frame-spec : {M : Type 1} → statement M
 read-frame-spec =

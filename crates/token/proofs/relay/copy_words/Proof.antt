@@ -10,7 +10,8 @@ use Rattle.token.proofs.relay.copy_words.Statement.{statement}
 use Rattle.token.proofs.relay.copy_words.Tie as tie
 
 abbrev Inv-loop : tie.InvT-loop
-Inv-loop out₀ words at₀ out at = (at ≤ length words) × (length words ≤ length out₀) × (length out ≡ length out₀) × (out ≡ copiedTo words at out₀)
+Inv-loop out₀ words at₀ out at =
+    (at ≤ length words) × (length words ≤ length out₀) × (length out ≡ length out₀) × (out ≡ copiedTo words at out₀)
 
 abbrev μ-loop : tie.MeasureT-loop
 μ-loop out₀ words at₀ out at = length words - at
@@ -39,8 +40,12 @@ loop-less c = search needs
 loop-again : tie.Need-loop-again Inv-loop μ-loop
 loop-again c =
     let d = c .before .before in
-    let v = d .loop .inv in
-    (omega arith, v .1, length-set (d .loop .out) _ _ ∙ v .2, copy-next _ _ (d .loop .out) (d .loop .at) (v .3) (c .before .loop-test .taken) (v .1))
+    let v = d .loop .inv in (
+      omega arith,
+      v .1,
+      length-set (d .loop .out) _ _ ∙ v .2,
+      copy-next _ _ (d .loop .out) (d .loop .at) (v .3) (c .before .loop-test .taken) (v .1),
+    )
 
 same-length : tie.Need-same-length Inv-loop μ-loop
 same-length c = search needs

@@ -44,7 +44,8 @@ loop-again c =
     let l = d .loop in
     let first = c .before .wrapping-add-u32 .ensures in (
       omega arith,
-      rw (c .wrapping-add-u322 .ensures, first) (sym (sums-next (l .first) (l .second) w (l .at) (c .before .before .before .loop-test .taken)) ∙ l .inv .1),
+      rw (c .wrapping-add-u322 .ensures, first)
+          (sym (sums-next (l .first) (l .second) w (l .at) (c .before .before .before .loop-test .taken)) ∙ l .inv .1),
     )
 
 returns : tie.Need-returns Inv-loop μ-loop

@@ -22,13 +22,15 @@ returns-3 : tie.Need-returns-3
 unfolding updateFormed
 returns-3 c =
     let d = c .before .before in
-    simp (eq-eqb _ _ (d .before .if1 .left), sym (d .reserved-zero .ensures) ∙ not-false _ (c .before .if2 .left), le-ltb _ _ (c .if3 .taken))
+    let z = sym (d .reserved-zero .ensures) ∙ not-false _ (c .before .if2 .left) in
+    simp (eq-eqb _ _ (d .before .if1 .left), z, le-ltb _ _ (c .if3 .taken))
 
 returns-4 : tie.Need-returns-4
 unfolding updateFormed
 returns-4 c =
     let d = c .before .before in
-    simp (eq-eqb _ _ (d .before .if1 .left), sym (d .reserved-zero .ensures) ∙ not-false _ (c .before .if2 .left), lt-ltb _ _ (c .if3 .left))
+    let z = sym (d .reserved-zero .ensures) ∙ not-false _ (c .before .if2 .left) in
+    simp (eq-eqb _ _ (d .before .if1 .left), z, lt-ltb _ _ (c .if3 .left))
 
 pub update-formed-spec : {M : Type 1} → statement M
 update-formed-spec =

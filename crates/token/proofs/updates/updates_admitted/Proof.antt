@@ -8,7 +8,8 @@ use borrow.Author.Tests.{not-true, not-false}
 use lib.ListN.{length, getD, length-set}
 use Rattle.word.specs.Field.{updateDesk}
 use Rattle.token.specs.Admission.{updateFormed, updatesAdmitted}
-use Rattle.token.proofs.Walking.{restAt, formed-desk, at-update-fault, at-update-many, at-update, at-cell-fault, at-cell-last, at-cell, at-end, walk-start}
+use Rattle.token.proofs.Walking.{restAt, formed-desk, at-update-fault, at-update-many, at-update, at-cell-fault}
+use Rattle.token.proofs.Walking.{at-cell-last, at-cell, at-end, walk-start}
 use borrow.Author.Needs.{needs}
 use Rattle.token.proofs.updates.updates_admitted.Statement.{statement}
 use Rattle.token.proofs.updates.updates_admitted.Tie as tie
@@ -39,7 +40,8 @@ returns : tie.Need-returns Inv-loop μ-loop
 returns c =
     let d = c .before .before .before .before .before in
     let fault = sym (c .before .update-formed .ensures) ∙ not-true _ (c .if2 .taken) in
-    sym (at-update-fault _ _ _ _ _ (c .before .before .before .before .loop-test .taken) (c .before .before .if1 .taken) fault) ∙ d .loop .inv .3
+    sym (at-update-fault _ _ _ _ _ (c .before .before .before .before .loop-test .taken) (c .before .before .if1 .taken) fault)
+    ∙ d .loop .inv .3
 
 cast-desk : tie.Need-cast-desk Inv-loop μ-loop
 cast-desk c = search needs
@@ -47,11 +49,14 @@ cast-desk c = search needs
 -- past the test of an update's word
 formed : (c : tie.Else2 Inv-loop μ-loop)
     → updateFormed (c .before .before .before .before .before .before .before .args .desks)
-    (getD (c .before .before .before .before .before .before .before .args .body .now) (c .before .before .before .before .before .loop .at) 0) ≡ true
+    (getD (c .before .before .before .before .before .before .before .args .body .now)
+    (c .before .before .before .before .before .loop .at) 0) ≡ true
 formed c = sym (c .before .update-formed .ensures) ∙ not-false _ (c .if2 .left)
 
 desk-below : (c : tie.Else2 Inv-loop μ-loop)
-    → updateDesk (getD (c .before .before .before .before .before .before .before .args .body .now) (c .before .before .before .before .before .loop .at) 0) < 8
+    → updateDesk
+    (getD (c .before .before .before .before .before .before .before .args .body .now)
+    (c .before .before .before .before .before .loop .at) 0) < 8
 desk-below c = omega (arith, formed-desk _ _ (formed c), c .before .before .before .before .before .loop .inv .0)
 
 mul-before : tie.Need-mul-before Inv-loop μ-loop
@@ -63,7 +68,8 @@ array-read-before c = let h = desk-below c in search needs
 returns-2 : tie.Need-returns-2 Inv-loop μ-loop
 returns-2 c =
     let d = c .before .before .before .before .before in
-    sym (at-update-many _ _ _ _ _ (d .loop-test .taken) (c .before .before .before .if1 .taken) (formed (c .before)) (c .if3 .taken)) ∙ d .before .loop .inv .3
+    sym (at-update-many _ _ _ _ _ (d .loop-test .taken) (c .before .before .before .if1 .taken) (formed (c .before))
+    (c .if3 .taken)) ∙ d .before .loop .inv .3
 
 add-sent : tie.Need-add-sent Inv-loop μ-loop
 add-sent c = omega arith

@@ -32,7 +32,8 @@ words c =
     let a = c .before .before .args in
     let cs : length (a .t3 .cells) ≡ 12 = search needs in
     let vs : length (a .t3 .values) ≡ 12 = search needs in
-    omega (arith, held-words (a .desk) (a .t3 .count) _ (a .t3 .cells) (a .t3 .values) cs vs (c .cells-held .ensures), c .before .before .pre)
+    let n = held-words (a .desk) (a .t3 .count) _ (a .t3 .cells) (a .t3 .values) cs vs (c .cells-held .ensures) in
+    omega (arith, n, c .before .before .pre)
 
 slice-write-out : tie.Need-slice-write-out Inv-loop μ-loop
 slice-write-out c = omega (arith, words (c .before))
