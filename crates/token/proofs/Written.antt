@@ -1,0 +1,136 @@
+-- Words written one after another into the front of a list, and what stood behind them.
+-- Assumes nothing.
+use mathlib.Core.Path.{_≡_, refl, _∙_, sym, ap, ap₂}
+use mathlib.Core.Bool.{Bool, true, false}
+use mathlib.Core.List.{List, [], _∷_, _++_, append-assoc}
+use Prim.Native.Nat.{ℕ, zero, suc, _+_, _*_, _≤_, _<_, min}
+use native.Mathlib.Nat.{not-suc-le-zero, le-of-suc-le-suc}
+use native.Mathlib.Numerals.{add-one}
+use native.Mathlib.Omega.{arith}
+use lib.Dec.{leb}
+use borrow.Author.Tests.{leb-true, leb-false}
+use lib.ListN.{length, getD, set, drop, length-append, length-drop}
+use lib.Seq.{drop-cons, set-at, append-snoc, drop-set-lt}
+use Rattle.operation.specs.Run.{Update}
+use Rattle.operation.specs.Answer.{pairs}
+use Rattle.operation.proofs.Updates.{pairs-next, pairs-past}
+use Rattle.token.specs.Frame.{SentUpdate, sent, cellWord, updateHead, writeWords, updateWords, overwritten}
+
+-- one word more
+pub write-next : (p o : List ℕ) (x : ℕ) → length p < length o → set (overwritten p o) (length p) x ≡ overwritten (p ++ (x ∷ [])) o
+write-next p o x h =
+    ap (λ (t : List ℕ). set (p ++ t) (length p) x) (drop-cons o (length p) 0 h)
+    ∙ set-at p (getD o (length p) 0) (drop (suc (length p)) o) x (length p) refl
+    ∙ sym (append-snoc p x (drop (suc (length p)) o))
+    ∙ ap (λ (k : ℕ). (p ++ (x ∷ [])) ++ drop k o) (sym (length-append p (x ∷ []) ∙ add-one (length p)))
+
+-- two words more
+pub write-two : (p o : List ℕ) (k x y : ℕ) → length p ≡ k → k + 1 < length o
+    → set (set (overwritten p o) k x) (k + 1) y ≡ overwritten (p ++ (x ∷ y ∷ [])) o
+write-two p o k x y e h =
+    let q = p ++ (x ∷ []) in
+    let m : k + 1 ≡ length q = omega (arith, length-append p (x ∷ [])) in
+    ap₂ (λ (i j : ℕ). set (set (overwritten p o) i x) j y) (sym e) m
+    ∙ ap (λ (t : List ℕ). set t (length q) y) (write-next p o x (omega arith))
+    ∙ write-next q o y (omega arith)
+    ∙ ap (λ (t : List ℕ). overwritten t o) (append-assoc p (x ∷ []) (y ∷ []))
+
+pub overwritten-length : (p o : List ℕ) → length p ≤ length o → length (overwritten p o) ≡ length o
+overwritten-length p o h = simp (length-append, length-drop) (omega arith)
+
+-- ---- the words of an update, pair by pair
+
+pub writes-length : (u : Update) → length (writeWords u) ≡ 2 * length u
+unfolding writeWords
+writes-length [] = refl
+writes-length (w ∷ u) = omega (arith, writes-length u)
+
+pub writes-append : (u v : Update) → writeWords (u ++ v) ≡ writeWords u ++ writeWords v
+unfolding writeWords
+writes-append [] v = refl
+writes-append (w ∷ u) v = ap (λ (t : List ℕ). cellWord (w .0) ∷ w .1 ∷ t) (writes-append u v)
+
+pub update-length : (u : SentUpdate) → length (updateWords u) ≡ 1 + 2 * length (u .writes)
+unfolding updateWords
+update-length u = omega (arith, writes-length (u .writes))
+
+-- an update's word and these writes, in front of what stood behind them
+filled : ℕ → Update → List ℕ → List ℕ
+filled h u o = overwritten (h ∷ writeWords u) o
+
+fill-length : (h : ℕ) (u : Update) (o : List ℕ) → 1 + 2 * length u ≤ length o → length (filled h u o) ≡ length o
+unfolding filled
+fill-length h u o l = overwritten-length (h ∷ writeWords u) o (omega (arith, writes-length u))
+
+fill-start : (h : ℕ) (o : List ℕ) → 0 < length o → set o 0 h ≡ filled h [] (set o 0 h)
+unfolding filled writeWords
+fill-start h [] l = absurd (not-suc-le-zero l)
+fill-start h (x ∷ o) l = refl
+
+fill-next : (h : ℕ) (u : Update) (o : List ℕ) (c v : ℕ) → 1 + 2 * length u + 1 < length o
+    → set (set (filled h u o) (1 + 2 * length u) (cellWord c)) (1 + 2 * length u + 1) v ≡ filled h (u ++ ((c, v) ∷ [])) o
+unfolding filled writeWords
+fill-next h u o c v l =
+    let k : length (h ∷ writeWords u) ≡ 1 + 2 * length u = omega (arith, writes-length u) in
+    write-two (h ∷ writeWords u) o (1 + 2 * length u) (cellWord c) v k l
+    ∙ ap (λ (t : List ℕ). overwritten (h ∷ t) o) (sym (writes-append u ((c, v) ∷ [])))
+
+-- ---- the pairs that an update's arrays hold
+
+pairs-length : (n : ℕ) (cs vs : List ℕ) → n ≤ length cs → n ≤ length vs → length (pairs n cs vs) ≡ n
+unfolding pairs
+pairs-length zero cs vs h k = refl
+pairs-length (suc n) [] vs h k = absurd (not-suc-le-zero h)
+pairs-length (suc n) (c ∷ cs) [] h k = absurd (not-suc-le-zero k)
+pairs-length (suc n) (c ∷ cs) (v ∷ vs) h k = ap suc (pairs-length n cs vs (le-of-suc-le-suc h) (le-of-suc-le-suc k))
+
+-- the first i pairs are written
+pub filledTo : ℕ → ℕ → List ℕ → List ℕ → List ℕ → List ℕ
+filledTo h i cs vs o = filled h (pairs i cs vs) o
+
+module _ (h : ℕ) (cs vs o : List ℕ) where
+  pub filled-none : (x : ℕ) → x ≡ h → 0 < length o → set o 0 x ≡ filledTo h 0 cs vs (set o 0 x)
+  unfolding filledTo pairs
+  filled-none x e l = rw e (fill-start h o l)
+
+  pub filled-length : (i : ℕ) → i ≤ length cs → i ≤ length vs → 1 + 2 * i ≤ length o → length (filledTo h i cs vs o) ≡ length o
+  unfolding filledTo
+  filled-length i a b l = fill-length h (pairs i cs vs) o (omega (arith, pairs-length i cs vs a b))
+
+  pub filled-next : (i at w v : ℕ) (t : List ℕ) → t ≡ filledTo h i cs vs o → at ≡ 1 + 2 * i
+      → i < length cs → i < length vs → 1 + 2 * i + 1 < length o
+      → w ≡ cellWord (getD cs i 0) → v ≡ getD vs i 0
+      → set (set t at w) (at + 1) v ≡ filledTo h (i + 1) cs vs o
+  unfolding filledTo
+  filled-next i at w v t e p a b l q r =
+      let n : length (pairs i cs vs) ≡ i = pairs-length i cs vs (omega arith) (omega arith) in
+      rw (e, p, q, r, pairs-next i cs vs a b)
+      (ap (λ (k : ℕ). set (set (filled h (pairs i cs vs) o) (1 + 2 * k) (cellWord (getD cs i 0))) (1 + 2 * k + 1) (getD vs i 0)) (sym n)
+      ∙ fill-next h (pairs i cs vs) o (getD cs i 0) (getD vs i 0) (omega arith))
+
+-- ---- an update whose arrays hold 12 cells and values: its count says no more than 12
+
+module _ (d n k : ℕ) (cs vs : List ℕ) (a : length cs ≡ 12) (b : length vs ≡ 12) (e : k ≡ min n 12) where
+  held : pairs k cs vs ≡ pairs n cs vs
+  held = go (leb n 12) refl
+    where
+      go : (q : Bool) → leb n 12 ≡ q → pairs k cs vs ≡ pairs n cs vs
+      go true q = let same : k ≡ n = omega (arith, leb-true n 12 q) in ap (λ (j : ℕ). pairs j cs vs) same
+      go false q =
+          let all : length cs ≤ k = omega (arith, leb-false n 12 q) in
+          let more : length cs ≤ n = omega (arith, leb-false n 12 q) in
+          pairs-past k cs vs all ∙ sym (pairs-past n cs vs more)
+
+  pub held-words : 1 + 2 * k ≡ length (updateWords (sent d (pairs n cs vs)))
+  held-words = omega (arith, update-length (sent d (pairs n cs vs)), ap length held, pairs-length k cs vs (omega arith) (omega arith))
+
+  -- all pairs are the update's words; word 0 was written before
+  pub filled-all : (o : List ℕ) (x : ℕ)
+      → filledTo (updateHead d k) k cs vs (set o 0 x) ≡ overwritten (updateWords (sent d (pairs n cs vs))) o
+  unfolding filledTo filled updateWords
+  filled-all o x =
+      let w = writeWords (pairs k cs vs) in
+      let count = pairs-length k cs vs (omega arith) (omega arith) in
+      ap (λ (j : ℕ). overwritten (updateHead d j ∷ w) (set o 0 x)) (sym count)
+      ∙ ap (λ (t : List ℕ). (updateHead d (length (pairs k cs vs)) ∷ w) ++ t) (drop-set-lt (suc (length w)) o 0 x (omega arith))
+      ∙ ap (λ u. overwritten (updateHead d (length u) ∷ writeWords u) o) held
