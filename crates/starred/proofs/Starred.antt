@@ -14,6 +14,10 @@ use Rattle.conflict.specs.Mask.{maskOf, some}
 use Rattle.conflict.specs.Touch.{rowTouched, cellTouched, stepTouches, deskMask}
 use Rattle.conflict.specs.Class.{classBy}
 use Rattle.conflict.specs.Answer.{classifyResult}
+use Rattle.token.specs.Frame.{sumsFrom, frameAround}
+use Rattle.token.specs.Admission as frames
+use Rattle.token.specs.Admission.{writesFrom, updatesFrom, deskCount, frameHeaded, sumsRight, updateFormed, cellFormed, fewPerDesk}
+use Rattle.token.specs.Admission.{updatesRight, frameVerdict, readVerdict}
 use Rattle.starred.specs.Table.{Row, resultOf, table}
 
 pub starred : map (λ (r : Row). resultOf (r .input)) table ≡ map (λ (r : Row). r .result) table
@@ -21,4 +25,6 @@ unfolding ones sourceField reservedZero accessBy actionBy stepOf partBy transact
     transactionFormed stepFormed wellFormed sourceExists stepExists partExists parametersExist transactionsVerdict planVerdict
     cellsNamed transactionExists unusedZero rowInRange parametersPass operationVerdict maskOf some rowTouched cellTouched
     stepTouches deskMask classBy classifyResult
+    readVerdict frameVerdict frameHeaded sumsRight updatesRight frames.wellFormed updateFormed cellFormed fewPerDesk deskCount writesFrom
+    updatesFrom sumsFrom frameAround
 starred = refl

@@ -6,6 +6,9 @@ use Rattle.plan.specs.Decode.{planOf}
 use Rattle.plan.specs.Admission.{Verdict, accepted, refused, planVerdict}
 use Rattle.operation.specs.Operation.{operation, writeSet}
 use Rattle.operation.specs.Admission.{operationVerdict}
+use Rattle.token.specs.Frame.{SentUpdate, sent, startingFrame}
+use Rattle.token.specs.Admission.{readVerdict, updatesFrom}
+use Rattle.token.specs.Answer.{VisitRead, visitNumber, refusal, visitRead, partRead}
 use Rattle.conflict.specs.Answer.{Classified, isFree, isLocal, isGlobal, isRefused, classifyResult}
 
 -- "Plan P: 1204000B 22200000 52000000 40000000 22200000 52000000 42700000 21100000 32700000 201F0000 34700000."
@@ -14,23 +17,35 @@ planP =
     0x1204000B ∷ 0x22200000 ∷ 0x52000000 ∷ 0x40000000 ∷ 0x22200000 ∷ 0x52000000 ∷ 0x42700000 ∷ 0x21100000 ∷ 0x32700000 ∷ 0x201F0000
     ∷ 0x34700000 ∷ []
 
--- what a row asks of plan P: a transaction's number and its parameters, the unused ones zero
+-- "Desk 0 with T1(0, 3) of client 7 waiting, visit 0, sends 91000007 00000001 A0100000 B0000080 00000003 E110008B 1530012A": this
+-- frame, with another word 2
+abbrev pub sentFrame : ℕ → List ℕ
+sentFrame word2 = 0x91000007 ∷ 0x00000001 ∷ word2 ∷ 0xB0000080 ∷ 0x00000003 ∷ 0xE110008B ∷ 0x1530012A ∷ []
+
+-- what a row asks of plan P: a transaction's number and its parameters, the unused ones zero; or a frame
 pub data Input : Type 0 where
   readPlan : Input
   classify : ℕ → List ℕ → Input
   admit : ℕ → List ℕ → Input
   cellsWritten : ℕ → List ℕ → Input
+  startFrame : Input
+  readFrame : List ℕ → Input
 
 pub data Result : Type 0 where
   verdict : Verdict → Result
   classified : Classified → Result
   cells : List ℕ → Result
+  words : List ℕ → Result
+  -- the visit or the refusal, and the updates in the part that is handed back
+  frame : VisitRead → List SentUpdate → Result
 
 abbrev pub resultOf : Input → Result
 resultOf readPlan = verdict (planVerdict planP)
 resultOf (classify k ps) = classified (classifyResult planP k ps)
 resultOf (admit k ps) = verdict (operationVerdict (planOf planP) (operation k ps))
 resultOf (cellsWritten k ps) = cells (writeSet (planOf planP) (operation k ps))
+resultOf startFrame = words startingFrame
+resultOf (readFrame ws) = frame (visitRead (readVerdict planP ws) ws) (updatesFrom 0 (partRead (readVerdict planP ws) ws))
 
 pub record Row : Type 0 where
   pub input : Input
@@ -57,4 +72,11 @@ table =
     ∷ row (classify 2 (1 ∷ 0 ∷ 0 ∷ 0 ∷ [])) (classified (isLocal 1))
     -- "T3(): free."
     ∷ row (classify 3 (0 ∷ 0 ∷ 0 ∷ 0 ∷ [])) (classified isFree)
+    -- "Starting frame: 90000004 00000000 90000004 20000008."
+    ∷ row startFrame (words (0x90000004 ∷ 0x00000000 ∷ 0x90000004 ∷ 0x20000008 ∷ []))
+    ∷ row (readFrame (0x90000004 ∷ 0x00000000 ∷ 0x90000004 ∷ 0x20000008 ∷ [])) (frame (visitNumber 0) [])
+    -- the frame that desk 0 sends reads as visit 1 with T1's update
+    ∷ row (readFrame (sentFrame 0xA0100000)) (frame (visitNumber 1) (sent 0 ((128, 3) ∷ []) ∷ []))
+    -- "Word 2 as A1100000: 11."
+    ∷ row (readFrame (sentFrame 0xA1100000)) (frame (refusal 11) [])
     ∷ []

@@ -11,6 +11,5 @@ pub mod Parts
 pub mod RoundTrip
 pub mod OneWord
 pub mod Readers
-pub mod Course
 pub mod Relaying
 pub mod Stepping
