@@ -4,7 +4,7 @@
 -- Assumes nothing.
 mod Ends
 mod Loop
-use mathlib.Core.Path.{_≡_, refl}
+use mathlib.Core.Path.{refl}
 use Prim.Native.Nat.{ℕ, _<_}
 use mathlib.Core.List.{List, [], _∷_}
 use lib.Dec.{lit<}

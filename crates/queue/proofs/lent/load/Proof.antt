@@ -25,7 +25,7 @@ use ghost.Atoms.{Atoms}
 use contract.Monad.{Fun}
 use contract.Running.{givenOf, tables, tablesOf}
 use types.Kit as Kit
-use types.Kit.{Given, Item, Sq, runs, anyQ, atRet, ‵, _⊛_, ⋆, _$_, _∵_, !, qed, by, move, keep, drop, use1, split, join, rewrite}
+use types.Kit.{Given, Item, Sq, runs, anyQ, atRet, ‵, _⊛_, ⋆, _$_, _∵_, !, qed, by, move, drop, use1, split, join, rewrite}
 use types.Kit.{fsplit, fjoin, suffices, frame, done}
 use types.Part.{whole, sub, look-in}
 use types.Run.{look, look-raw, init, store, forget, stop, hop, fld, from, load, lit, of-opd, bin, no-more, assigns, assigns-last, first}

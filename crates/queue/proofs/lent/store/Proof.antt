@@ -8,7 +8,7 @@
 --     ends     the end of the body, for both arms.        stores   the arm that stores.        walk    the MIR up to the branch, with
 --     each arm
 -- Assumes nothing.
-use mathlib.Core.Path.{_≡_, refl, sym, ap, subst}
+use mathlib.Core.Path.{refl, sym, ap, subst}
 use Prim.Native.Nat.{ℕ, _<_, _^_}
 use mathlib.Core.List.{List, [], _∷_}
 use lib.Dec.{ltb, ltb→lt, nltb→le}
