@@ -25,7 +25,7 @@ use ghost.Atoms.{Atoms}
 use contract.Monad.{Fun}
 use contract.Running.{givenOf, tables, tablesOf}
 use types.Kit as Kit
-use types.Kit.{Given, Item, Sq, runs, anyQ, atRet, ‵, _⊛_, ⋆, _$_, _∵_, !, qed, by, move, drop, use1, split, join, rewrite}
+use types.Kit.{Given, Item, Sq, runs, anyQ, atRet, ‵, _⊛_, ⋆, _$_, _∵_, !, qed, by, move, drop, split, join, rewrite}
 use types.Kit.{fsplit, fjoin, suffices, frame, done}
 use types.Part.{whole, sub, look-in}
 use types.Run.{look, look-raw, init, store, forget, stop, hop, fld, from, load, lit, of-opd, bin, no-more, assigns, assigns-last, first}
@@ -36,7 +36,7 @@ use denote.Laws.{Is, shows}
 use denote.Plain.{uint-vals, uint-tells}
 use denote.Builtin.{usize}
 use denote.Ref.{RefT}
-use denote.Slice.{ShrSlice, Room, slice-vals, shr-slice-tells, shr-slice-copy}
+use denote.Slice.{ShrSlice, Room, slice-vals, shr-slice-tells}
 use denote.Index.{place-is, elem-out, elem-back, looks-slice, shuts-slice}
 use denote.Signature.{plain}
 use denote.Steps.{owned, nothing}
@@ -56,6 +56,7 @@ use Rattle.queue.proofs.Calls.{Blank, calls-blank}
 use Rattle.queue.proofs.Parts.{arm₁}
 use Rattle.queue.proofs.Records.{Shared, queueAt, queueVal, queueTy, requestVal, request-val, request-is, request-typed}
 use Rattle.queue.proofs.Records.{request-makes, fits-place}
+use Rattle.queue.proofs.SharedSlice.{twice}
 use Rattle.queue.proofs.record.blank.Symbol as blank-def
 use Rattle.queue.proofs.record.blank.Symbol.{name as #queue·record·blank}
 use Rattle.queue.proofs.record.blank.Met as blank-thm
@@ -147,9 +148,7 @@ module _ {M : Type 1} (𝓤 : URA M) (H : Heap 𝓤) (A : Atoms 𝓤) (W : Given
         assigns ! (bin ! (load ! (from ! (fld ! refl (stop !))) (look-in ! 17 (sub ! 0 refl (whole !))))
         (load ! (from ! (stop !)) (look ! 7 refl)) tt) (from ! (stop !)) (init ! 5 refl (tt, tt)) $
         rewrite ! 5 (λ (p : ℕ). ‵ (fat fullShare tyPtr l₇ 0 (vptr b p))) (sym (place-is 24 o i)) refl $
-        move ! (1 ∷ []) $ use1 W (‵ Own ⊛ ‵ Own) (shr-slice-copy 𝓤 H A W (named 0) κ T.the-row .twice (queueAt b o γ ys) (s ∷ [])) $
-        split ! $
-        fsplit ! $ drop ! $ fsplit ! $ drop ! $ move ! (0 ∷ 2 ∷ []) $
+        move ! (1 ∷ []) $ twice T.the-row ! κ (queueAt b o γ ys) (s ∷ []) $ fsplit ! $ drop ! $ fsplit ! $ drop ! $ move ! (0 ∷ 2 ∷ []) $
         looks-slice ! tt T.the-row (Is T.the-row) (shows 𝓤 H A T.the-row) (LL.vals T.the-type T′.the-laws)
         (LL.tells T.the-type T′.the-laws) (LL.copy T.the-type T′.the-copy 𝓤 H A W) ys b o (λ q′.
         elem-out ! T.the-row (Is T.the-row) (shows 𝓤 H A T.the-row) (LL.vals T.the-type T′.the-laws) (LL.tells T.the-type T′.the-laws)

@@ -30,7 +30,6 @@ use types.Run.{assigns-last, first, branches, skips, jumps, exec, again, Below, 
 use sound.WpLaws.{fmOf}
 use denote.Laws.{Is, shows}
 use denote.Index.{row, place-is, elem-out, elem-put}
-use denote.Slice.{shr-slice-copy}
 use denote.Steps.{owned, facts}
 use denote.Struct.Laws as LL
 use denote.Triple.Statement.{Triple}
@@ -44,6 +43,7 @@ use Rattle.queue.proofs.LocalArray.{local-whole}
 use Rattle.queue.proofs.Parts.{rest}
 use Rattle.queue.proofs.Records.{Records, Shared, recordsTy, queueAt, queueVal, queueTy, request-typed, request-makes}
 use Rattle.queue.proofs.Records.{records-typed}
+use Rattle.queue.proofs.SharedSlice.{twice}
 use Rattle.queue.proofs.lent.load.Symbol.{name as #queue·lent·load}
 use Rattle.queue.proofs.lent.copied.Code.Mir as mir
 use Rattle.queue.proofs.lent.copied.Proof.Ends.{Post, exits}
@@ -119,8 +119,7 @@ module _ {M : Type 1} (𝓤 : URA M) (H : Heap 𝓤) (A : Atoms 𝓤) (W : Given
       let less : t - 1 < t = omega arith in
       -- [the records; _3; the token; what queue owns; room for _9 … _6; _5; _1; _4; room for _0; …]: `load`, with a copy of what queue
       -- owns
-      move ! (3 ∷ []) $ use1 W (‵ (Shared κ b o γ ys) ⊛ ‵ (Shared κ b o γ ys))
-      (shr-slice-copy 𝓤 H A W (named 0) κ T.the-row .twice (queueAt b o γ ys) (queueVal b o ys ∷ [])) $ split ! $ move ! (4 ∷ 0 ∷ []) $
+      move ! (3 ∷ []) $ twice T.the-row ! κ (queueAt b o γ ys) (queueVal b o ys ∷ []) $ move ! (4 ∷ 0 ∷ []) $
       -- [what `load` asks; what queue owns; the records; _3; room for _9 … _6; _5; _1; …]
       calls-load mem run κ q b o γ ys ! (fmOf 𝓤 H (W .laws) 𝓣) known-load i fits
       (and-then ! (load ! (from ! (stop !)) (look ! 9 refl)) (and-then ! (load ! (from ! (stop !)) (look ! 3 refl)) (no-more !)))
