@@ -51,3 +51,22 @@ operandSource = field 25 3
 
 abbrev pub fixedNumber : ℕ → ℕ
 fixedNumber w = w % 2 ^ 25
+
+-- ---- "Word 0: kind 9, 27–24 desk addressed, 23–16 zero, 15–0 words in the frame (4–6,404)."
+
+abbrev pub addressedDesk : ℕ → ℕ
+addressedDesk = field 24 4
+
+abbrev pub frameLength : ℕ → ℕ
+frameLength w = w % 2 ^ 16
+
+-- ---- "kind 10 (27–24 desk, 23–20 cells 0–12, rest zero), and per cell a word of kind 11 (bits 9–0 the cell, rest zero)"
+
+abbrev pub updateDesk : ℕ → ℕ
+updateDesk = field 24 4
+
+abbrev pub cellCount : ℕ → ℕ
+cellCount = field 20 4
+
+abbrev pub cellField : ℕ → ℕ
+cellField w = w % 2 ^ 10

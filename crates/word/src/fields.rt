@@ -1,4 +1,4 @@
-// Where the fields of a plan word begin: `word / FIELD` brings the field to bit 0, and `% 2 ^ count` cuts it off.
+// Where the fields of a word begin: `word / FIELD` brings the field to bit 0, and `% 2 ^ count` cuts it off.
 
 // Any word: bits 31-28.
 pub const KIND: u32 = 0x1000_0000;
@@ -24,3 +24,11 @@ pub const ROW_SOURCE: u32 = 0x10_0000;
 
 // Set, add, need and take, kinds 5 to 8: operand source in bits 27-25, fixed number in 24-0.
 pub const OPERAND_SOURCE: u32 = 0x200_0000;
+
+// Frame head, kind 9: addressed desk in bits 27-24, words of the frame in 15-0.
+pub const ADDRESSED: u32 = 0x100_0000;
+
+// Update, kind 10: desk in bits 27-24, cells in 23-20.
+pub const UPDATE_DESK: u32 = 0x100_0000;
+
+pub const CELLS: u32 = 0x10_0000;

@@ -1,0 +1,6 @@
+pub mod Summing
+pub mod PerDesk
+pub mod Walking
+pub mod Verdicts
+pub mod Written
+pub mod Sealed

@@ -1,0 +1,3 @@
+pub mod Frame
+pub mod Admission
+pub mod Answer

@@ -1,0 +1,21 @@
+// Frames of the token: the two sums, reading (questions 10 to 12), writing, and the starting frame.
+mod reader;
+mod sums;
+mod updates;
+mod writer;
+
+pub use reader::FrameCheck;
+pub use reader::VisitAnswer;
+pub use reader::check_frame;
+pub use reader::frame_visit;
+pub use reader::read_frame;
+pub use sums::Sums;
+pub use sums::frame_sums;
+pub use updates::cell_count;
+pub use updates::cell_of;
+pub use updates::update_desk;
+pub use updates::updates_admitted;
+pub use writer::StartAnswer;
+pub use writer::seal;
+pub use writer::starting_frame;
+pub use writer::write_update;

@@ -1,0 +1,122 @@
+// The frame reader: questions 1 to 4 of the plan, then 10 to 12 of the frame. Both public calls rest on one check.
+ghost use mathlib.Core.Path.{_≡_};
+ghost use Prim.Native.Nat.{_≤_};
+ghost use lib.ListN.{length};
+ghost use Rattle.token.specs.Admission.{frameHeaded, sumsRight, updatesRight, frameVerdict, readVerdict};
+ghost use Rattle.token.specs.Answer.{verdictOf, visitOf, partRead, visitRead};
+use crate::sums;
+use crate::updates;
+use word::fields;
+
+// Accepted, or refused with the number of the question whose answer is no.
+pub enum FrameCheck {
+    Accepted,
+    Refused(u32),
+}
+
+// The visit number, or the number of the question whose answer is no.
+pub enum VisitAnswer {
+    Visit(u32),
+    Refused(u32),
+}
+
+// Question 10. The length is compared whole.
+fn frame_headed(frame: &[u32]) -> bool
+    ensures { λ r. ⌜ r ≡ frameHeaded (now (frame .entry)) ⌝ }
+{
+    let words = frame.len();
+    if words < 4 {
+        return false;
+    }
+    if 6404 < words {
+        return false;
+    }
+    let head = frame[0];
+    if head / fields::KIND != 9 {
+        return false;
+    }
+    if !word::reserved_zero(head) {
+        return false;
+    }
+    (head % 0x1_0000) as usize == words
+}
+
+// Question 11.
+fn sums_right(frame: &[u32]) -> bool
+    requires { ⌜ 4 ≤ length (now frame) ⌝ }
+    ensures { λ r. ⌜ r ≡ sumsRight (now (frame .entry)) ⌝ }
+{
+    let end = frame.len() - 2;
+    let sums = sums::frame_sums(&frame[..end]);
+    if frame[end] != sums.first {
+        return false;
+    }
+    frame[end + 1] == sums.second
+}
+
+// Question 12.
+fn updates_right(desks: u32, frame: &[u32]) -> bool
+    requires { ⌜ (1 ≤ desks) × (desks ≤ 8) × (4 ≤ length (now frame)) ⌝ }
+    ensures { λ r. ⌜ r ≡ updatesRight desks (now (frame .entry)) ⌝ }
+{
+    let head = frame[0];
+    let visit = frame[1];
+    if head / fields::ADDRESSED % 16 != visit % desks {
+        return false;
+    }
+    let end = frame.len() - 2;
+    updates::updates_admitted(desks, &frame[2..end])
+}
+
+// Questions 10 to 12, all of one before the next.
+pub fn check_frame(desks: u32, frame: &[u32]) -> FrameCheck
+    requires { ⌜ (1 ≤ desks) × (desks ≤ 8) ⌝ }
+    ensures { λ r. ⌜ verdictOf r ≡ frameVerdict desks (now (frame .entry)) ⌝ }
+{
+    if !frame_headed(frame) {
+        return FrameCheck::Refused(10);
+    }
+    if !sums_right(frame) {
+        return FrameCheck::Refused(11);
+    }
+    if !updates_right(desks, frame) {
+        return FrameCheck::Refused(12);
+    }
+    FrameCheck::Accepted
+}
+
+// Questions 1 to 4, then 10 to 12: the check behind both calls.
+fn check(plan: &[u32], frame: &[u32]) -> FrameCheck
+    ensures { λ r. ⌜ verdictOf r ≡ readVerdict (now (plan .entry)) (now (frame .entry)) ⌝ }
+{
+    let answer = plan::read_plan(plan);
+    match answer {
+        plan::PlanAnswer::Accepted => check_frame(plan[0] / fields::DESKS % 16, frame),
+        plan::PlanAnswer::Refused(question) => FrameCheck::Refused(question),
+    }
+}
+
+// The part of the frame that holds the updates, or the empty part where the frame is refused.
+pub fn read_frame<'a>(plan: &[u32], frame: &'a [u32]) -> &'a [u32]
+    ensures { λ r. ⌜ now r ≡ partRead (readVerdict (now (plan .entry)) (now (frame .entry))) (now (frame .entry)) ⌝ }
+{
+    let answer = check(plan, frame);
+    match answer {
+        FrameCheck::Accepted => {
+            let end = frame.len() - 2;
+            &frame[2..end]
+        }
+        FrameCheck::Refused(_) => &frame[..0],
+    }
+}
+
+// The visit number, or the refusal's number, by the same questions.
+pub fn frame_visit(plan: &[u32], frame: &[u32]) -> VisitAnswer
+    ensures { λ r. ⌜ visitOf r ≡ visitRead (readVerdict (now (plan .entry)) (now (frame .entry))) (now (frame .entry)) ⌝ }
+{
+    let answer = check(plan, frame);
+    match answer {
+        FrameCheck::Accepted => VisitAnswer::Visit(frame[1]),
+        FrameCheck::Refused(question) => VisitAnswer::Refused(question),
+    }
+}

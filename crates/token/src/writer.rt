@@ -1,0 +1,81 @@
+// Writing frames: an update into what is left of the outgoing words, the seal around the updates, and the starting frame.
+ghost use mathlib.Core.Path.{_≡_};
+ghost use Prim.Native.Nat.{_+_, _-_, _*_, _≤_};
+ghost use lib.ListN.{length, take, drop};
+ghost use Rattle.operation.specs.Answer.{updateOf};
+ghost use Rattle.token.specs.Frame.{sent, frameHead, updateHead, cellWord, updateWords, frameAround, overwritten};
+ghost use Rattle.token.specs.Answer.{startOf, startVerdict, startWords};
+use crate::sums;
+use word::fields;
+
+// Written, or refused with the number of the question whose answer is no.
+pub enum StartAnswer {
+    Written,
+    Refused(u32),
+}
+
+// Word 0 of a frame: kind 9.
+fn frame_head(desk: u32, words: usize) -> u32
+    ensures { λ r. ⌜ r ≡ frameHead desk words ⌝ }
+{
+    0x9000_0000 + (desk % 16 * fields::ADDRESSED + (words % 0x1_0000) as u32)
+}
+
+// An update's word: kind 10.
+fn update_head(desk: u32, cells: usize) -> u32
+    ensures { λ r. ⌜ r ≡ updateHead desk cells ⌝ }
+{
+    0xa000_0000 + (desk % 16 * fields::UPDATE_DESK + (cells % 16) as u32 * fields::CELLS)
+}
+
+// A cell's word: kind 11.
+fn cell_word(cell: u32) -> u32
+    ensures { λ r. ⌜ r ≡ cellWord cell ⌝ }
+{
+    0xb000_0000 + cell % 0x400
+}
+
+// Writes the update at the front of what is left of the outgoing words, and answers how many words it wrote.
+pub fn write_update(out: &mut [u32], desk: u32, update: operation::Update) -> usize
+    requires { ⌜ (update .count ≤ 12) × (1 + 2 * update .count ≤ length (now out)) ⌝ }
+    ensures words { λ r. ⌜ r ≡ length (updateWords (sent desk (updateOf update))) ⌝ }
+    ensures written { λ r. ⌜ now (out .exit) ≡ overwritten (updateWords (sent desk (updateOf update))) (now (out .entry)) ⌝ }
+{
+    let count = update.count;
+    out[0] = update_head(desk, count);
+    let mut at: usize = 1;
+    let mut i: usize = 0;
+    while i < count {
+        let cell = update.cells[i];
+        let value = update.values[i];
+        i = i + 1;
+        out[at] = cell_word(cell);
+        out[at + 1] = value;
+        at = at + 2;
+    }
+    at
+}
+
+// Makes a frame of the updates that stand in the outgoing words from word 2 up to `end`: writes words 0 and 1, and the sums.
+pub fn seal(out: &mut [u32], desk: u32, visit: u32, end: usize)
+    requires { ⌜ (2 ≤ end) × (end + 2 ≤ length (now out)) ⌝ }
+    ensures { λ r. ⌜ now (out .exit) ≡ overwritten (frameAround desk visit (take (end - 2) (drop 2 (now (out .entry))))) (now (out .entry)) ⌝ }
+{
+    out[0] = frame_head(desk, end + 2);
+    out[1] = visit;
+    let sums = sums::frame_sums(&out[..end]);
+    out[end] = sums.first;
+    out[end + 1] = sums.second;
+}
+
+// The starting frame, visit 0 with no update. Question 5: at least 4 words.
+pub fn starting_frame(out: &mut [u32]) -> StartAnswer
+    ensures answer { λ r. ⌜ startOf r ≡ startVerdict (now (out .entry)) ⌝ }
+    ensures written { λ r. ⌜ now (out .exit) ≡ startWords (now (out .entry)) ⌝ }
+{
+    if out.len() < 4 {
+        return StartAnswer::Refused(5);
+    }
+    seal(out, 0, 0, 2);
+    StartAnswer::Written
+}
