@@ -1,0 +1,7 @@
+// The queue of waiting requests: a lent slice of records. These functions alone touch the slice; all else is reckoned on plain data.
+mod record;
+
+pub use record::Request;
+pub use record::blank;
+pub use record::blanks;
+pub use record::params;
