@@ -26,7 +26,7 @@ framed (a ∷ b ∷ r) h v k l =
     ap (λ (t : List ℕ). h ∷ v ∷ t) (sym (take-append-drop k r) ∙ ap (λ (m : ℕ). take k r ++ drop m r) (sym n))
 
 -- the words before the sums, with their sums behind them, are the frame
-around : (desk visit h a b : ℕ) (body : List ℕ) → h ≡ frameHead desk (length body + 4) → (a, b) ≡ sumsOf (h ∷ visit ∷ body)
+pub around : (desk visit h a b : ℕ) (body : List ℕ) → h ≡ frameHead desk (length body + 4) → (a, b) ≡ sumsOf (h ∷ visit ∷ body)
     → (h ∷ visit ∷ body) ++ (a ∷ b ∷ []) ≡ frameAround desk visit body
 unfolding frameAround
 around desk visit h a b body e s =

@@ -75,10 +75,15 @@ pub desks-range : (plan : List ℕ) → planVerdict plan ≡ accepted
 desks-range plan e = let a = accepted-gives plan e in (a .words-low, a .desks-low, a .desks-high)
 
 -- the frame's verdict behind the plan's
-pub read-after : (plan frame : List ℕ) (v : Verdict) → planVerdict plan ≡ accepted → v ≡ frameVerdict (headDesks (headOf plan)) frame
+pub read-after : (plan frame : List ℕ) (v : Verdict) → planVerdict plan ≡ accepted → v ≡ frameVerdict (planOf plan .desks) frame
     → v ≡ readVerdict plan frame
-unfolding readVerdict planOf
+unfolding readVerdict
 read-after plan frame v p e = rw p e
+
+-- n stands in the plan's head
+pub desks-of : (plan : List ℕ) → planOf plan .desks ≡ headDesks (headOf plan)
+unfolding planOf
+desks-of plan = refl
 
 pub read-refused : (plan frame : List ℕ) (q : ℕ) → planVerdict plan ≡ refused q → refused q ≡ readVerdict plan frame
 unfolding readVerdict

@@ -1,3 +1,4 @@
 pub mod Frame
 pub mod Admission
+pub mod WellFormed
 pub mod Answer

@@ -3,7 +3,9 @@
 use mathlib.Core.Path.{_≡_, _∙_, sym, ap}
 use Rattle.plan.specs.Admission.{planVerdict, accepted}
 use Rattle.plan.specs.Answer as plans
-use Rattle.token.proofs.Verdicts.{desks-range, read-after, read-refused}
+use Prim.Native.Nat.{ℕ}
+use Rattle.token.specs.Admission.{frameVerdict}
+use Rattle.token.proofs.Verdicts.{desks-range, desks-of, read-after, read-refused}
 use borrow.Author.Needs.{needs}
 use Rattle.token.proofs.reader.check.Statement.{statement}
 use Rattle.token.proofs.reader.check.Tie as tie
@@ -28,7 +30,10 @@ enum-known-answer : tie.Need-enum-known-answer
 enum-known-answer c = search needs
 
 returns : tie.Need-returns
-returns c = read-after _ _ _ (plan-accepted (c .before .before)) (c .check-frame .ensures)
+returns c =
+    let a = c .before .before .before .before .before .before .before .args in
+    read-after (a .plan .now) (a .frame .now) _ (plan-accepted (c .before .before))
+    (c .check-frame .ensures ∙ ap (λ (n : ℕ). frameVerdict n (a .frame .now)) (sym (desks-of (a .plan .now))))
 
 returns-2 : tie.Need-returns-2
 returns-2 c =

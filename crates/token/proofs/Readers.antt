@@ -1,0 +1,55 @@
+-- The two calls of the frame reader never disagree, and the starting frame reads as visit 0 with no update.
+-- Assumes nothing.
+use mathlib.Core.Path.{_≡_, refl, _∙_, sym, ap, subst}
+use mathlib.Core.List.{List, [], _∷_}
+use Prim.Native.Nat.{ℕ, _%_, _≤_}
+use native.Mathlib.Nat.{zero-mod}
+use native.Mathlib.Omega.{arith}
+use Rattle.plan.specs.Decode.{planOf}
+use Rattle.plan.specs.Admission.{every, Verdict, accepted, refused}
+use Rattle.token.specs.Frame.{SentUpdate, updatesWords, frameAround, frameWords, startingFrame}
+use Rattle.token.specs.Admission.{updatesPart, frameVisit, frameUpdates, deskCount, readVerdict, ReadsAs}
+use Rattle.token.specs.WellFormed.{WellFormed}
+use Rattle.token.specs.Answer.{partRead, VisitRead, visitNumber, refusal, visitRead}
+use Rattle.token.proofs.Parts.{laid-part}
+use Rattle.token.proofs.RoundTrip.{reads-written, written-reads, part-written}
+use Rattle.token.proofs.Verdicts.{read-accepted}
+
+-- where one call refuses, the other hands back the empty part; where it gives a visit, the frame reads as that visit and some updates,
+-- and the part that the other hands back is their words
+pub record Agree (plan frame : List ℕ) : Type 0 where
+  pub refusing : (q : ℕ) → visitRead (readVerdict plan frame) frame ≡ refusal q → partRead (readVerdict plan frame) frame ≡ []
+  pub reading : (v : ℕ) → visitRead (readVerdict plan frame) frame ≡ visitNumber v
+      → ReadsAs (planOf plan .desks) frame v (frameUpdates frame) × (partRead (readVerdict plan frame) frame ≡ updatesWords (frameUpdates frame))
+
+refused-part : (r : Verdict) (frame : List ℕ) (q : ℕ) → visitRead r frame ≡ refusal q → partRead r frame ≡ []
+refused-part accepted frame q e = let z : _≡_ {A = ℕ} 0 1 = cc in absurd (omega arith)
+refused-part (refused k) frame q e = refl
+
+visit-accepted : (r : Verdict) (frame : List ℕ) (v : ℕ) → visitRead r frame ≡ visitNumber v → (r ≡ accepted) × (frameVisit frame ≡ v)
+visit-accepted accepted frame v e = (refl, (cc))
+visit-accepted (refused k) frame v e = let z : _≡_ {A = ℕ} 0 1 = cc in absurd (omega arith)
+
+pub readers-agree : (plan frame : List ℕ) → Agree plan frame
+readers-agree plan frame =
+    record {
+      refusing = refused-part (readVerdict plan frame) frame;
+      reading = λ v e.
+          let a = visit-accepted (readVerdict plan frame) frame v e in
+          let f = read-accepted plan frame (a .0) .1 in
+          (record { verdict = f; number = a .1; sent = refl }, ap (λ r. partRead r frame) (a .0) ∙ part-written (planOf plan .desks) frame f);
+    }
+
+-- ---- the starting frame
+
+no-updates : (n : ℕ) → WellFormed n []
+unfolding every deskCount
+no-updates n = record { each = refl; perDesk = λ d. omega arith }
+
+pub starting-words : (n : ℕ) → startingFrame ≡ frameWords n 0 []
+unfolding updatesWords
+starting-words n = ap (λ (d : ℕ). frameAround d 0 []) (sym (zero-mod n))
+
+pub starting-reads : (n : ℕ) → 1 ≤ n → n ≤ 8 → ReadsAs n startingFrame 0 []
+starting-reads n low high =
+    subst (λ (ws : List ℕ). ReadsAs n ws 0 []) (sym (starting-words n)) (written-reads n 0 [] low high (no-updates n))
