@@ -1,0 +1,111 @@
+-- Laws of lists: a property of every element or of every pair, one entry more, and a function changed at one place.
+-- Assumes nothing.
+use Prim.Native.Nat.{ℕ, suc}
+use mathlib.Core.Path.{_≡_, refl, sym, _∙_, ap, fun-ext}
+use mathlib.Core.Logic.{_≢_, ⊎-elim}
+use mathlib.Core.Bool.{Bool, true, false, cond}
+use mathlib.Core.List.{List, [], _∷_, _++_, map, List·Memᴰ, List·Memᴰ·head, List·Memᴰ·tail, List·Memᴰ·cases-cons, List·Memᴰ·not-nil}
+use native.Mathlib.Omega.{arith}
+use lib.ListN.{length, getD, List·getD-append, List·getD-eq-default, length-append}
+use lib.Seq.{getD-append-seam}
+use lib.Dec.{eqb}
+use Rattle.serial.specs.History.{assign}
+use Rattle.serial.proofs.Tests.{by-same, by-less, eqb-yes, eqb-no, eqb-self}
+
+-- ---- every element
+
+abbrev pub All : {A : Type 0} → (A → Type 0) → List A → Type 0
+All P [] = Unit {0}
+All P (x ∷ xs) = P x × All P xs
+
+pub All-append : {A : Type 0} (P : A → Type 0) (xs ys : List A) → All P xs → All P ys → All P (xs ++ ys)
+All-append P [] ys h k = k
+All-append P (x ∷ xs) ys h k = (h .0, All-append P xs ys (h .1) k)
+
+pub All-left : {A : Type 0} (P : A → Type 0) (xs ys : List A) → All P (xs ++ ys) → All P xs
+All-left P [] ys h = tt
+All-left P (x ∷ xs) ys h = (h .0, All-left P xs ys (h .1))
+
+pub All-right : {A : Type 0} (P : A → Type 0) (xs ys : List A) → All P (xs ++ ys) → All P ys
+All-right P [] ys h = h
+All-right P (x ∷ xs) ys h = All-right P xs ys (h .1)
+
+pub All-part : {A : Type 0} (P Q : A → Type 0) (xs : List A) → ((x : A) → P x → Q x) → All P xs → All Q xs
+All-part P Q [] f h = tt
+All-part P Q (x ∷ xs) f h = (f x (h .0), All-part P Q xs f (h .1))
+
+pub All-mem : {A : Type 0} (P : A → Type 0) (x : A) (xs : List A) → List·Memᴰ x xs → All P xs → P x
+All-mem P x [] m h = absurd (List·Memᴰ·not-nil m)
+All-mem {A} P x (y ∷ ys) m h = ⊎-elim (λ (e : x ≡ y). rw e (h .0)) (λ k. All-mem P x ys k (h .1)) (List·Memᴰ·cases-cons m)
+
+pub mem-All : {A : Type 0} (P : A → Type 0) (xs : List A) → ((x : A) → List·Memᴰ x xs → P x) → All P xs
+mem-All P [] f = tt
+mem-All P (x ∷ xs) f = (f x (List·Memᴰ·head refl), mem-All P xs (λ y m. f y (List·Memᴰ·tail m)))
+
+pub mem-map : {A B : Type 0} (f : A → B) (x : A) (xs : List A) → List·Memᴰ x xs → List·Memᴰ (f x) (map f xs)
+mem-map f x [] m = absurd (List·Memᴰ·not-nil m)
+mem-map f x (y ∷ ys) m =
+    ⊎-elim (λ (e : x ≡ y). List·Memᴰ·head (ap f e)) (λ (k : List·Memᴰ x ys). List·Memᴰ·tail (mem-map f x ys k)) (List·Memᴰ·cases-cons m)
+
+-- ---- every pair, the earlier first
+
+abbrev pub Pairs : {A : Type 0} → (A → A → Type 0) → List A → Type 0
+Pairs R [] = Unit {0}
+Pairs R (x ∷ xs) = All (R x) xs × Pairs R xs
+
+pub Pairs-append : {A : Type 0} (R : A → A → Type 0) (xs ys : List A) → Pairs R xs → Pairs R ys → All (λ (x : A). All (R x) ys) xs →
+    Pairs R (xs ++ ys)
+Pairs-append R [] ys h k c = k
+Pairs-append R (x ∷ xs) ys h k c = (All-append (R x) xs ys (h .0) (c .0), Pairs-append R xs ys (h .1) k (c .1))
+
+pub Pairs-part : {A : Type 0} (P : A → Type 0) (R Q : A → A → Type 0) (xs : List A) → ((x y : A) → P x → P y → R x y → Q x y) →
+    All P xs → Pairs R xs → Pairs Q xs
+Pairs-part P R Q [] f h k = tt
+Pairs-part P R Q (x ∷ xs) f h k = (both xs (h .1) (k .0), Pairs-part P R Q xs f (h .1) (k .1))
+  where
+    both : (ys : List _) → All P ys → All (R x) ys → All (Q x) ys
+    both [] a b = tt
+    both (y ∷ ys) a b = (f x y (h .0) (a .0) (b .0), both ys (a .1) (b .1))
+
+-- ---- nothing in a joined list
+
+pub none-left : {A : Type 0} (xs ys : List A) → xs ++ ys ≡ [] → xs ≡ []
+none-left [] ys h = refl
+none-left (x ∷ xs) ys h = cc
+
+pub none-right : {A : Type 0} (xs ys : List A) → xs ++ ys ≡ [] → ys ≡ []
+none-right [] ys h = h
+none-right (x ∷ xs) ys h = cc
+
+-- ---- one more entry
+
+pub one-more : {A : Type 0} (xs : List A) (x : A) → suc (length xs) ≡ length (xs ++ (x ∷ []))
+one-more xs x = simp length-append (omega arith)
+
+pub snoc-own : {A : Type 0} (xs : List (List A)) (x : List A) → getD (xs ++ (x ∷ [])) (length xs) [] ≡ x
+snoc-own xs x = getD-append-seam xs x [] []
+
+pub snoc-other : {A : Type 0} (xs : List (List A)) (x : List A) (i : ℕ) → i ≢ length xs → getD (xs ++ (x ∷ [])) i [] ≡ getD xs i []
+snoc-other xs x i h =
+    by-less i (length xs) (λ l. List·getD-append xs (x ∷ []) [] i l)
+    (λ l. List·getD-eq-default (xs ++ (x ∷ [])) [] (simp length-append (omega arith)) ∙ sym (List·getD-eq-default xs [] l))
+
+pub snoc-nil : {A : Type 0} (xs : List (List A)) (i : ℕ) → getD (xs ++ ([] ∷ [])) i [] ≡ getD xs i []
+snoc-nil {A} xs i =
+    by-same i (length xs) (λ e. rw e (snoc-own xs [] ∙ sym (List·getD-eq-default xs [] (omega arith)))) (λ e. snoc-other xs [] i e)
+
+-- ---- a function changed at one place
+
+cond-map : {A B : Type 0} (f : A → B) (b : Bool) (x y : A) → f (cond b x y) ≡ cond b (f x) (f y)
+cond-map f true x y = refl
+cond-map f false x y = refl
+
+pub assign-map : {A B : Type 0} (f : A → B) (p : ℕ) (x : A) (w : ℕ → A) → (λ (q : ℕ). f (assign p x w q))
+    ≡ assign p (f x) (λ (q : ℕ). f (w q))
+assign-map f p x w = fun-ext (λ q. cond-map f (eqb q p) x (w q))
+
+pub assign-same : {A : Type 0} (p : ℕ) (x : A) (w : ℕ → A) → assign p x w p ≡ x
+assign-same p x w = rw (eqb-self p) refl
+
+pub assign-self : {A : Type 0} (p : ℕ) (w : ℕ → A) → assign p (w p) w ≡ w
+assign-self p w = fun-ext (λ q. by-same q p (λ e. rw (eqb-yes e) (rw e refl)) (λ e. rw (eqb-no e) refl))

@@ -1,0 +1,12 @@
+pub mod Store
+pub mod Frame
+pub mod Desk
+pub mod System
+pub mod Step
+pub mod History
+pub mod Order
+pub mod SerialRun
+pub mod Claim
+pub mod Visits
+pub mod Hearing
+pub mod Machine
