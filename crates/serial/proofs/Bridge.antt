@@ -14,6 +14,7 @@ use Rattle.serial.specs.SerialRun.{serial}
 use Rattle.serial.specs.Claim.{Serializable, Claim}
 use Rattle.serial.specs.Machine.{Machine, Words, atDesk, machineStep, machineAfter, seen, answerSeen, answersSeen, IfVisit}
 use Rattle.serial.specs.Machine.{MachineProper}
+use Rattle.serial.specs.AtEnd.{ProperFrom, answersOf, desksOf}
 use Rattle.serial.proofs.Tests.{by-same, eqb-yes, eqb-no}
 use Rattle.serial.proofs.Lists.{All, mem-map, assign-map}
 use Rattle.serial.proofs.Claim.{serializable}
@@ -102,13 +103,13 @@ module _ {S : System} (M : Machine S) (N : Words M) where
     pub machine-called : All (Called M) cs
     machine-called = proper-called cs w (N .start ∷ []) pr
 
-    pub machine-proper : Proper S (newDesks S b) (startFrame ∷ []) (map callOf cs)
+    pub machine-proper : ProperFrom S b (map callOf cs)
     machine-proper = rw (← e, ← N .start-frame) (proper-seen cs w (N .start ∷ []) ok pr)
 
-    pub machine-answers : answersSeen M w cs ≡ answers S (newDesks S b) (map callOf cs)
+    pub machine-answers : answersSeen M w cs ≡ answersOf S b (map callOf cs)
     machine-answers = seen-answers M cs w machine-called ok ∙ ap (λ (v : ℕ → Desk (S .Op)). answers S v (map callOf cs)) e
 
-    pub machine-desks : seen M (machineAfter M w cs) ≡ desksAfter S (newDesks S b) (map callOf cs)
+    pub machine-desks : seen M (machineAfter M w cs) ≡ desksOf S b (map callOf cs)
     machine-desks = seen-after M cs w machine-called ok ∙ ap (λ (v : ℕ → Desk (S .Op)). desksAfter S v (map callOf cs)) e
 
     -- the claim, with the premise in the machine's words

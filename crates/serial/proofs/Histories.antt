@@ -12,8 +12,9 @@ use Rattle.serial.specs.Desk.{Request, Desk, Call, request, visit, deskC
 use Rattle.serial.specs.System.{System, Laws}
 use Rattle.serial.specs.Step.{Route, immediate, enqueue, redirect, route, requestStep, acceptedStep, serve}
 use Rattle.serial.specs.History.{assign, answerAt, stepAt, answers, desksAfter, newDesks, Framed, Proper}
-use Rattle.serial.specs.SerialRun.{Serial, note, noteAll, newSerial, serial}
+use Rattle.serial.specs.SerialRun.{Serial, note, noteAll, newSerial}
 use Rattle.serial.specs.Visits.{frameAfter, latestFrame, framesAfter}
+use Rattle.serial.specs.AtEnd.{ProperFrom, answersOf, desksOf, serialOf, framesOf, latestOf}
 use Rattle.serial.proofs.Tests.{true-T}
 use Rattle.serial.proofs.Routes.{routed}
 use Rattle.serial.proofs.Calls.{Replies, Good, still-good, request-good, frame-is-latest, visit-good}
@@ -95,11 +96,6 @@ module _ (S : System) (L : Laws S) (b : Store) where
         };
       }
 
-  -- the serial run of a history, from its own answers
-  abbrev pub serialOf : List (Call Op Extra) → Serial Op
-  serialOf cs = serial S cs (map isRefused (answers S (newDesks S b) cs))
-
-  pub history-good : (cs : List (Call Op Extra)) → Proper S (newDesks S b) (startFrame ∷ []) cs →
-      Good S b (desksAfter S (newDesks S b) cs) (serialOf cs) (map given (answers S (newDesks S b) cs))
-      (framesAfter (startFrame ∷ []) (answers S (newDesks S b) cs)) (latestFrame startFrame (answers S (newDesks S b) cs))
+  pub history-good : (cs : List (Call Op Extra)) → ProperFrom S b cs →
+      Good S b (desksOf S b cs) (serialOf S b cs) (map given (answersOf S b cs)) (framesOf S b cs) (latestOf S b cs)
   history-good cs pr = calls-good cs new-good pr

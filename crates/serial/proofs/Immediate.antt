@@ -39,8 +39,8 @@ module _ (S : System) (L : Laws S) where
   at-elsewhere p q o ne (inr l) = inr (l .0, λ e. ne (sym e ∙ l .1))
 
   module _ {b : Store} {stores : ℕ → Store} {queues : ℕ → List (Request Op)} {aw g : ℕ → ℕ} {m : ℕ} {es : List (Finished Op)}
-      {past : List (List (ℕ × Reply))}
-      {fs : List Frame} {tk : Frame} (I : Inv S b stores queues aw g m es past fs tk) (p : ℕ) (below : p < n) where
+      {past : List (List (ℕ × Reply))} {fs : List Frame} {tk : Frame} (I : Inv S b stores queues aw g m es past fs tk)
+      (p : ℕ) (below : p < n) where
     -- ---- A free or local operation runs at desk p
 
     module _ (t : Request Op) (hr : RunsAt S p (t .op)) where

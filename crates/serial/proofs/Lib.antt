@@ -26,3 +26,5 @@ pub mod Circle
 pub mod TokenTheorems
 pub mod Answered
 pub mod Standing
+pub mod Quiescence
+pub mod Prefixes

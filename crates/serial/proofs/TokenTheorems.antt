@@ -10,12 +10,13 @@ use native.Mathlib.Omega.{arith}
 use lib.ListN.{length, drop, getD, length-append}
 use lib.Seq.{drop-nil}
 use Rattle.serial.specs.Store.{Store}
-use Rattle.serial.specs.Frame.{Frame, startFrame, foreign}
+use Rattle.serial.specs.Frame.{Frame, foreign}
 use Rattle.serial.specs.Desk.{Desk, Call, visit}
 use Rattle.serial.specs.System.{System, Laws}
-use Rattle.serial.specs.History.{answerAt, stepAt, answers, desksAfter, newDesks, Proper}
+use Rattle.serial.specs.History.{answerAt, stepAt, answers, Proper}
 use Rattle.serial.specs.SerialRun.{Serial}
-use Rattle.serial.specs.Visits.{Visit, appended, lastOf, frameAfter, latestFrame, framesAfter, visitsAt, visits}
+use Rattle.serial.specs.Visits.{Visit, appended, lastOf, frameAfter, latestFrame, visitsAt, visits}
+use Rattle.serial.specs.AtEnd.{ProperFrom, desksOf, visitsOf, framesOf, latestOf}
 use Rattle.serial.proofs.Tests.{true-T}
 use Rattle.serial.proofs.Calls.{Replies, Good}
 use Rattle.serial.proofs.Histories.{accepted-latest, call-good, new-good, history-good}
@@ -54,43 +55,39 @@ module _ (S : System) (L : Laws S) (b : Store) where
       (logged cs (call-good S L b k c (pr .0) (pr .1)) (pr .2) (vs ++ visitsAt S w c)
       (logged-turn vs tk (visitsAt S w c) (frameAfter tk (answerAt S w c)) g (turn S L k c (pr .0) (pr .1))))
 
-  module _ (cs : List (Call Op Extra)) (pr : Proper S (newDesks S b) (startFrame ∷ []) cs) where
-    abbrev vs : List Visit
-    vs = visits S (newDesks S b) cs
-
-    abbrev latest : Frame
-    latest = latestFrame startFrame (answers S (newDesks S b) cs)
-
-    pub history-logged : Logged n vs latest
+  module _ (cs : List (Call Op Extra)) (pr : ProperFrom S b cs) where
+    pub history-logged : Logged n (visitsOf S b cs) (latestOf S b cs)
     history-logged = logged cs (new-good S L b) pr []
         (record { count = refl; numbered = tt; carried = ap appended (sym (drop-nil (0 - n))) })
 
     -- the i-th accepted visit has number i, is at desk i mod n, and appended updates of that desk
-    pub visits-numbered : (i : ℕ) (d : Visit) → i < length vs → Entry n i (getD vs i d)
+    pub visits-numbered : (i : ℕ) (d : Visit) → i < length (visitsOf S b cs) → Entry n i (getD (visitsOf S b cs) i d)
     visits-numbered i d h =
         let e : 0 + i ≡ i = omega arith in
-        subst (λ (k : ℕ). Entry n k (getD vs i d)) e (numbered-at n 0 vs i d (history-logged .numbered) h)
+        subst (λ (k : ℕ). Entry n k (getD (visitsOf S b cs) i d)) e (numbered-at n 0 (visitsOf S b cs) i d (history-logged .numbered) h)
 
     -- the latest frame has the number of accepted visits
-    pub latest-number : latest .number ≡ length vs
+    pub latest-number : latestOf S b cs .number ≡ length (visitsOf S b cs)
     latest-number = sym (history-logged .count)
 
     -- the updates that travel in the latest frame are those of the last n visits, in order
-    pub frame-carries-last-n : latest .updates ≡ appended (lastOf n vs)
+    pub frame-carries-last-n : latestOf S b cs .updates ≡ appended (lastOf n (visitsOf S b cs))
     frame-carries-last-n = history-logged .carried
 
-    -- an accepted visit after this history takes in the updates of the visits since its desk's latest one: of the last n - 1
-    module _ (p : ℕ) (f : Frame) (x : Extra) (below : p < n)
-        (known : List·Memᴰ f (framesAfter (startFrame ∷ []) (answers S (newDesks S b) cs)))
-        (accepted : admits (desksAfter S (newDesks S b) cs p) (visit p f x) ≡ true) where
-      brings-latest : f ≡ latest
-      brings-latest = accepted-latest S L b (history-good S L b cs pr) p f x below accepted known
+    -- a visit with a known frame that is accepted after this history
+    module _ (p : ℕ) (f : Frame) (x : Extra) (below : p < n) (known : List·Memᴰ f (framesOf S b cs))
+        (accepted : admits (desksOf S b cs p) (visit p f x) ≡ true) where
+      -- brings the latest frame
+      pub visit-brings-latest : f ≡ latestOf S b cs
+      visit-brings-latest = accepted-latest S L b (history-good S L b cs pr) p f x below accepted known
 
-      pub visit-takes-in : foreign p (f .updates) ≡ appended (drop (suc (length vs) - n) vs)
+      -- and takes in the updates of the visits since its desk's latest one: of the last n - 1
+      pub visit-takes-in : foreign p (f .updates) ≡ appended (drop (suc (length (visitsOf S b cs)) - n) (visitsOf S b cs))
       visit-takes-in =
-          let w : Desk Op = desksAfter S (newDesks S b) cs p in
+          let w : Desk Op = desksOf S b cs p in
+          let vs : List Visit = visitsOf S b cs in
           let a : f .number ≡ w .awaited = L .awaited-only w p f x (true-T _ accepted) in
-          let v : w .awaited ≡ length vs = sym a ∙ ap (λ (g : Frame). g .number) brings-latest ∙ latest-number in
+          let v : w .awaited ≡ length vs = sym a ∙ ap (λ (g : Frame). g .number) visit-brings-latest ∙ latest-number in
           let e : p ≡ length vs % n = sym (history-good S L b cs pr .inv .wait-mod p below) ∙ ap (λ (i : ℕ). i % n) v in
-          rw (brings-latest, frame-carries-last-n)
+          rw (visit-brings-latest, frame-carries-last-n)
           (ap (λ (q : ℕ). foreign q (appended (lastOf n vs))) e ∙ drops-oldest n (L .some-desk) vs (history-logged .numbered))

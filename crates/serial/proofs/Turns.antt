@@ -42,8 +42,7 @@ all-marked p [] = tt
 all-marked p (u ∷ us) = (refl, all-marked p us)
 
 module _ (S : System) (L : Laws S) {b : Store} {w : ℕ → Desk (S .Op)} {s : Serial (S .Op)} {past : Replies (S .Reply)} {fs : List Frame}
-    {tk : Frame}
-    (k : Good S b w s past fs tk) where
+    {tk : Frame} (k : Good S b w s past fs tk) where
   open System S using (n, Op, Extra, Reply, admits)
 
   abbrev metBy : Call Op Extra → Bool → Answer Reply

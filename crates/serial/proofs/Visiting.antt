@@ -33,8 +33,8 @@ module _ (S : System) (L : Laws S) where
   open System S using (n, Op, Reply)
 
   module _ {b : Store} {stores : ℕ → Store} {queues : ℕ → List (Request Op)} {aw g : ℕ → ℕ} {m : ℕ} {es : List (Finished Op)}
-      {past : List (List (ℕ × Reply))}
-      {fs : List Frame} {tk : Frame} (I : Inv S b stores queues aw g m es past fs tk) (p : ℕ) (below : p < n) where
+      {past : List (List (ℕ × Reply))} {fs : List Frame} {tk : Frame} (I : Inv S b stores queues aw g m es past fs tk)
+      (p : ℕ) (below : p < n) where
     -- ---- Visit tk .number at desk p
 
     module _ (turn : tk .number ≡ aw p) where
@@ -72,8 +72,8 @@ module _ (S : System) (L : Laws S) where
       -- every other desk's turn is later
       later : (q : ℕ) → q < n → q ≢ p → aw p < aw q
       later q h ne = by-less (aw p) (aw q) (λ l. l)
-          (λ l. let e : aw q ≡ aw p = omega (arith, I .wait-low q h) in absurd
-          (ne (sym (I .wait-mod q h) ∙ ap (λ (x : ℕ). x % n) e ∙ I .wait-mod p below)))
+          (λ l. let e : aw q ≡ aw p = omega (arith, I .wait-low q h) in
+          absurd (ne (sym (I .wait-mod q h) ∙ ap (λ (x : ℕ). x % n) e ∙ I .wait-mod p below)))
 
       -- with the others' updates in, the desk's store is the serial one at the end, and the queue runs on either alike
       mine-end : Same (Hears S p) mine end
@@ -87,16 +87,16 @@ module _ (S : System) (L : Laws S) where
       reading = All-part (OfDesk S p) (ReadsIn S (Hears S p)) queue (λ t d c r. Conflicts.desk-hears S L p (t .op) c d (inl r))
           (I .queued p)
 
-      end-line : storeAfter S (es ++ last) b ≡ runAll S queue end
-      end-line = Runs.storeAfter-append S L es last b ∙ Queues.ranked-store S L (length past) m queue end
+      end-queue : storeAfter S (es ++ last) b ≡ runAll S queue end
+      end-queue = Runs.storeAfter-append S L es last b ∙ Queues.ranked-store S L (length past) m queue end
 
       mine-after : Same (Hears S p) (runAll S queue mine) (storeAfter S (es ++ last) b)
-      mine-after = rw end-line (Queues.runAll-same S L (Hears S p) queue mine end reading mine-end)
+      mine-after = rw end-queue (Queues.runAll-same S L (Hears S p) queue mine end reading mine-end)
 
       news-end : applyAll news end ≡ storeAfter S (es ++ last) b
       news-end =
           ap (λ (us : List Update). applyAll us end) (Queues.updates-same S L (Hears S p) queue mine end reading mine-end)
-          ∙ sym (Queues.runAll-updates S L queue end) ∙ sym end-line
+          ∙ sym (Queues.runAll-updates S L queue end) ∙ sym end-queue
 
       -- what each desk is owed by the frame that goes out
       sent-tags : All (Tagged S) (out .updates)

@@ -1,14 +1,13 @@
 -- Demand 3: "a single claim about a whole history, not one for each call".
 use Prim.Native.Nat.{ℕ, _<_}
 use mathlib.Core.Path.{_≡_}
-use mathlib.Core.List.{List, [], _∷_, map}
+use mathlib.Core.List.{List, [], map}
 use lib.ListN.{getD}
 use Rattle.serial.specs.Store.{Store}
-use Rattle.serial.specs.Frame.{startFrame}
-use Rattle.serial.specs.Desk.{Desk, Call, Answer, isRefused, given}
+use Rattle.serial.specs.Desk.{Desk, Call, Answer, given}
 use Rattle.serial.specs.System.{System, Touches}
-use Rattle.serial.specs.History.{answers, desksAfter, newDesks, Proper}
-use Rattle.serial.specs.SerialRun.{Serial, serial, order, storeAfter, due}
+use Rattle.serial.specs.SerialRun.{Serial, order, storeAfter, due}
+use Rattle.serial.specs.AtEnd.{ProperFrom, answersOf, desksOf, serialOf}
 
 module _ (S : System) where
   open System S using (n, Op, Extra, Reply, desk)
@@ -30,6 +29,5 @@ module _ (S : System) where
 
   -- every history that satisfies the premise, from any starting store
   unfoldable pub Claim : Type 0
-  Claim = (b : Store) (cs : List (Call Op Extra)) → Proper S (newDesks S b) (startFrame ∷ []) cs →
-      Serializable b (answers S (newDesks S b) cs) (desksAfter S (newDesks S b) cs)
-      (serial S cs (map isRefused (answers S (newDesks S b) cs)))
+  Claim = (b : Store) (cs : List (Call Op Extra)) → ProperFrom S b cs →
+      Serializable b (answersOf S b cs) (desksOf S b cs) (serialOf S b cs)

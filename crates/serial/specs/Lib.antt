@@ -6,7 +6,8 @@ pub mod Step
 pub mod History
 pub mod Order
 pub mod SerialRun
-pub mod Claim
 pub mod Visits
+pub mod AtEnd
+pub mod Claim
 pub mod Hearing
 pub mod Machine

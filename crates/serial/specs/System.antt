@@ -54,7 +54,8 @@ pub record Laws (S : System) : Type 0 where
   pub free-reads : (o : S .Op) → S .class o ≡ free → (c : ℕ) → S .Reads o c → (o′ : S .Op) → S .Writes o′ c → ⊥
   -- "Local: .. no operation of another desk may touch a cell it may write." Of a global operation nothing is asked.
   pub local-alone : (o : S .Op) → S .class o ≡ local → (c : ℕ) → S .Writes o c → (o′ : S .Op) → Touches S o′ c → S .desk o′ ≡ S .desk o
-  -- the joined queue holds what waited and the request, and nothing else; their order is free
+  -- the joined queue holds what waited and the request, and nothing else; their order is free. The claim rests on join-only, and that
+  -- each waiting request is answered on join-keeps.
   pub join-keeps : (q : List (Request (S .Op))) (r t : Request (S .Op)) → List·Memᴰ t (r ∷ q) → List·Memᴰ t (S .join q r)
   pub join-only : (q : List (Request (S .Op))) (r t : Request (S .Op)) → List·Memᴰ t (S .join q r) → List·Memᴰ t (r ∷ q)
   -- all that is asked of the admission: question 14, "Is the visit the awaited one?"
