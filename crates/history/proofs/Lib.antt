@@ -1,1 +1,3 @@
-
+pub mod Operations
+pub mod Protocol
+pub mod ProtocolLaws
