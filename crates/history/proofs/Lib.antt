@@ -1,3 +1,5 @@
 pub mod Operations
 pub mod Protocol
 pub mod ProtocolLaws
+pub mod Outgoing
+pub mod Seen

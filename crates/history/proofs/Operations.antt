@@ -13,7 +13,13 @@ use Rattle.plan.specs.Admission.{every, Verdict, accepted, refused}
 use Rattle.plan.proofs.Bool.{and-fst, and-snd, and-true}
 use Rattle.operation.specs.Operation.{Operation}
 use Rattle.operation.specs.Admission.{IsOperation, operationVerdict}
+use Rattle.queue.specs.declared.record.Request.{Request}
+use Rattle.conveyor.specs.Queueing.{operationOf}
 use Rattle.conveyor.specs.Admission.{isAccepted}
+
+-- the record's operation is one of the plan's
+abbrev pub Runs : Plan → Request → Type 0
+Runs p r = IsOperation p (operationOf r)
 
 abbrev isWord : ℕ → Bool
 isWord w = ltb w (2 ^ 32)
