@@ -3,3 +3,6 @@ pub mod Protocol
 pub mod ProtocolLaws
 pub mod Outgoing
 pub mod Seen
+pub mod View
+pub mod Standing
+pub mod Requests
