@@ -6,3 +6,4 @@ pub mod Seen
 pub mod View
 pub mod Standing
 pub mod Requests
+pub mod Visits
