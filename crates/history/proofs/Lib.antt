@@ -7,3 +7,6 @@ pub mod View
 pub mod Standing
 pub mod Requests
 pub mod Visits
+pub mod Machine
+pub mod SerialSeen
+pub mod OrderSeen
