@@ -10,3 +10,6 @@ pub mod Visits
 pub mod Machine
 pub mod SerialSeen
 pub mod OrderSeen
+pub mod Notes
+pub mod Given
+pub mod Claim
