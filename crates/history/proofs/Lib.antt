@@ -13,3 +13,5 @@ pub mod OrderSeen
 pub mod Notes
 pub mod Given
 pub mod Claim
+pub mod Start
+pub mod AcceptedVisit
