@@ -34,7 +34,7 @@ use Rattle.history.proofs.View.{callSeen}
 use Rattle.history.proofs.Standing.{start-stands}
 use Rattle.history.proofs.Machine.{machine, frames, after-is, refusals-are, proper-is}
 use Rattle.history.proofs.SerialSeen.{finishedSeen, serialSeen, notes-seen}
-use Rattle.history.proofs.OrderSeen.{RunsAll, sort-seen, all-sorted, store-seen, due-seen}
+use Rattle.history.proofs.OrderSeen.{RanAs, RunsAll, sort-seen, all-sorted, store-seen, due-seen}
 use Rattle.history.proofs.Notes.{Noted, notes-noted}
 use Rattle.history.proofs.Given.{each-gives}
 
@@ -56,7 +56,7 @@ module _ (ws : List ℕ) (accept : planVerdict ws ≡ accepted) (class : Operati
   s = serial p class cs refusals
 
   abbrev ordered : List Finished
-  ordered = order p s
+  ordered = order s
 
   -- ---- the protocol's serial run is this one
 
@@ -74,13 +74,14 @@ module _ (ws : List ℕ) (accept : planVerdict ws ≡ accepted) (class : Operati
       (λ q l. start-stands ws cells rows q l) refl cs (proper-is ws accept class right records cs w (startingFrame ∷ []) pr)
       (laws ws accept class right records))
 
+  ended : RunsAll p (s .finished)
+  ended = notes-noted ws class cs w (startingFrame ∷ []) newSerial pr (record { lines = λ d. tt; ended = tt }) .ended
+
   runs : RunsAll p ordered
-  runs =
-      all-sorted (p .desks) _ [] (s .finished) tt
-      (notes-noted ws class cs w (startingFrame ∷ []) newSerial pr (record { lines = λ d. tt; ended = tt }) .ended)
+  runs = all-sorted (RanAs p) [] (s .finished) tt ended
 
   order-is : run.order (system ws class records) (serialSeen s) ≡ map finishedSeen ordered
-  order-is = sym (sort-seen (p .desks) [] (s .finished))
+  order-is = sym (sort-seen p [] (s .finished) tt ended)
 
   store-is : run.storeAfter (system ws class records) (run.order (system ws class records) (serialSeen s)) cells ≡ storeAfter p ordered cells
   store-is =

@@ -50,11 +50,11 @@ EachGives replies i (c ∷ cs) (o ∷ os) = Gives c o (replies i) × EachGives r
 
 -- b the starting cells, os the outcomes of the calls cs, w the holdings at the end, s the serial run at the end
 pub record Serializable (p : Plan) (b : Store) (cs : List Call) (os : List Outcome) (w : ℕ → Holding) (s : Serial) : Type 0 where
-  pub all-replies : EachGives (λ i. due p i (order p s) b) 0 cs os
+  pub all-replies : EachGives (λ i. due p i (order s) b) 0 cs os
   -- "A cell that just one desk may touch has its serial value in that desk's book"
-  pub one-desk : (c d : ℕ) → JustOne p c d → getD (w d .cells) c 0 ≡ getD (storeAfter p (order p s) b) c 0
+  pub one-desk : (c d : ℕ) → JustOne p c d → getD (w d .cells) c 0 ≡ getD (storeAfter p (order s) b) c 0
   -- "any other, at the desk of the latest accepted visit (desk 0 before any)"
-  pub any-other : (c : ℕ) → ((d : ℕ) → JustOne p c d → ⊥) → getD (w (s .latest) .cells) c 0 ≡ getD (storeAfter p (order p s) b) c 0
+  pub any-other : (c : ℕ) → ((d : ℕ) → JustOne p c d → ⊥) → getD (w (s .latest) .cells) c 0 ≡ getD (storeAfter p (order s) b) c 0
 
 -- every history that satisfies the premise, "all with one plan that the plan reader accepts", from equal cells and any queues
 abbrev pub Claim : Type 0

@@ -1,11 +1,11 @@
--- The serial order of 01: what is noted of a finished request, its place, and putting in order.
-use Prim.Native.Nat.{ℕ, suc, _+_, _*_}
-use mathlib.Core.Bool.{cond}
+-- The serial order of 01: what is noted of a finished request, and putting in order.
+use Prim.Native.Nat.{ℕ}
+use mathlib.Core.Bool.{Bool, cond}
 use mathlib.Core.List.{List, [], _∷_}
-use lib.Dec.{ltb}
+use lib.Dec.{ltb, leb, eqb}
 use Rattle.queue.specs.declared.record.Request.{Request}
 
--- the k-th global, from 1; or a local or free run, with "the desk called and that desk's g"
+-- the k-th global, from 1; or a local or free run, with that desk's g and "the desk called"
 pub data Slot : Type 0 where
   globalRun : (k : ℕ) → Slot
   immediateRun : (g desk : ℕ) → Slot
@@ -16,21 +16,21 @@ pub record Finished : Type 0 where
   pub by : ℕ
   pub request : Request
 
--- "Globals by visit, then order of running. A local or free run comes after the g-th global and before the next, ..; with equal g by
--- desk": with n desks each global takes n + 1 places, its own and behind it one for each desk
-abbrev pub placeOf : ℕ → Slot → ℕ
-placeOf n (globalRun k) = k * suc n + 0
-placeOf n (immediateRun g p) = g * suc n + suc p
+-- whether one goes before another. "Globals by visit, then order of running": by their number
+abbrev pub before : Slot → Slot → Bool
+before (globalRun j) (globalRun k) = ltb j k
+-- "A local or free run comes after the g-th global and before the next"
+before (globalRun k) (immediateRun g p) = leb k g
+before (immediateRun g p) (globalRun k) = ltb g k
+-- "with equal g by desk"
+before (immediateRun g p) (immediateRun h q) = cond (eqb g h) (ltb p q) (ltb g h)
 
-abbrev pub place : ℕ → Finished → ℕ
-place n e = placeOf n (e .slot)
+-- "then order of running": one more goes behind all, but for those that it goes before
+abbrev pub insert : Finished → List Finished → List Finished
+insert e [] = e ∷ []
+insert e (f ∷ fs) = cond (before (e .slot) (f .slot)) (e ∷ f ∷ fs) (f ∷ insert e fs)
 
--- "then order of running": one more, behind all whose place is not greater
-abbrev pub insert : ℕ → Finished → List Finished → List Finished
-insert n e [] = e ∷ []
-insert n e (f ∷ fs) = cond (ltb (place n e) (place n f)) (e ∷ f ∷ fs) (f ∷ insert n e fs)
-
--- the sorted ones, and those still to be put in order, first to last
-abbrev pub sortOnto : ℕ → List Finished → List Finished → List Finished
-sortOnto n es [] = es
-sortOnto n es (e ∷ fs) = sortOnto n (insert n e es) fs
+-- those in order, and those still to be put in order, in order of running
+abbrev pub sortOnto : List Finished → List Finished → List Finished
+sortOnto es [] = es
+sortOnto es (e ∷ fs) = sortOnto (insert e es) fs

@@ -123,11 +123,11 @@ module _ (p : Plan) (class : Operation → Class) where
   abbrev pub serial : List Call → List Bool → Serial
   serial cs refusals = noteAll newSerial cs refusals
 
-module _ (p : Plan) where
-  -- "the finished operations, two equal requests being two, are put in serial order"
-  abbrev pub order : Serial → List Finished
-  order s = sortOnto (p .desks) [] (s .finished)
+-- "the finished operations, two equal requests being two, are put in serial order"
+abbrev pub order : Serial → List Finished
+order s = sortOnto [] (s .finished)
 
+module _ (p : Plan) where
   -- "and each runs on the book as the one before left it"
   abbrev pub ranOne : Request → Store → Store
   ranOne r s = applyUpdate (run p (operationOf r) s .update) s
