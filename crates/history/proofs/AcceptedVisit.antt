@@ -2,9 +2,9 @@
 -- a frame with one word changed is refused.
 -- Assumes nothing.
 use Prim.Native.Nat.{ℕ, zero, suc, _+_, _^_, _≤_, _<_}
-use mathlib.Core.Path.{_≡_, refl, sym, _∙_, ap, subst}
+use mathlib.Core.Path.{_≡_, refl, sym, _∙_, ap}
 use mathlib.Core.Logic.{_⊎_, inl, inr, ⊎-elim}
-use mathlib.Core.Bool.{Bool, true, _&&_, cond}
+use mathlib.Core.Bool.{true, _&&_, cond}
 use mathlib.Core.List.{List, [], _∷_, map, List·Memᴰ, List·Memᴰ·head, List·Memᴰ·tail, List·Memᴰ·not-nil}
 use native.Mathlib.Omega.{arith}
 use lib.Dec.{eqb}
@@ -19,7 +19,7 @@ use Rattle.plan.proofs.Accepted.{yes-of}
 use Rattle.operation.specs.Admission.{operationVerdict}
 use Rattle.operation.specs.Run.{Store, applyUpdate, run}
 use Rattle.operation.proofs.Words.{AllWords}
-use Rattle.token.specs.Frame.{SentUpdate, overwritten}
+use Rattle.token.specs.Frame.{overwritten}
 use Rattle.token.specs.Admission.{frameVerdict, frameVisit, frameUpdates, readVerdict}
 use Rattle.token.proofs.OneWord.{one-word}
 use Rattle.token.proofs.Verdicts.{read-after}
@@ -27,11 +27,11 @@ use Rattle.queue.specs.Queue.{paramsOf}
 use Rattle.queue.specs.declared.record.Request.{Request}
 use Rattle.conveyor.specs.declared.desk.Desk.{Desk}
 use Rattle.conveyor.specs.Queueing.{operationOf, waitingIn}
-use Rattle.conveyor.specs.Admission.{isAccepted, deskBuffersFit, visitBuffersFit, waitsHere, deskStands, turnVerdict}
-use Rattle.conveyor.specs.Visit.{Passage, forwarded, isRefused, Visited, caughtUp, outgoingUpdates, outgoingFrame, visitedBy, visitVerdict}
+use Rattle.conveyor.specs.Admission.{isAccepted, deskBuffersFit, visitBuffersFit, waitsHere, deskStands}
+use Rattle.conveyor.specs.Visit.{forwarded, isRefused, Visited, caughtUp, outgoingUpdates, outgoingFrame, visitedBy, visitVerdict}
 use Rattle.conveyor.specs.Visit.{visitResult}
 use Rattle.conveyor.specs.Waiting.{Answered, repliesOf, repliesWords}
-use Rattle.serial.proofs.Lists.{All, mem-All}
+use Rattle.serial.proofs.Lists.{mem-All}
 use Rattle.history.specs.History.{Holding}
 use Rattle.history.proofs.Operations.{Runs, only-accepted}
 use Rattle.history.proofs.Standing.{Stands, Six, six, then-both}
@@ -141,8 +141,8 @@ module _ (plan : List ℕ) (d : Desk) (cells : List ℕ) (queue : List Request) 
     visit-answers-waiting =
         let c = caughtUp (planOf plan) d cells queue frame out replies in
         let counted : length given ≡ d .waiting =
-          sym (length-map given (λ (a : Answered). a .client)) ∙ ap length (replies-clients waiting c)
-          ∙ length-map waiting (λ (r : Request). r .client) ∙ length-take-le (d .waiting) queue room-of in
+        sym (length-map given (λ (a : Answered). a .client)) ∙ ap length (replies-clients waiting c)
+        ∙ length-map waiting (λ (r : Request). r .client) ∙ length-take-le (d .waiting) queue room-of in
         record {
           count-is = same-count (sym answered ∙ given-is .0) ∙ counted;
           words = given-is .1;
@@ -170,17 +170,17 @@ module _ (plan : List ℕ) (d : Desk) (cells : List ℕ) (queue : List Request) 
     pub visit-frame-reads : RecordsFit queue → Sends (take words (left .out))
     visit-frame-reads fit =
         let ok : Stands plan (λ (q : ℕ). length queue) (d .desk) h =
-          record {
-            desk = refl;
-            stands = rest-of .1;
-            size = refl;
-            room = room-of;
-            runs = mem-All (Runs (planOf plan)) waiting (waits-runs fit);
-          } in
+        record {
+          desk = refl;
+          stands = rest-of .1;
+          size = refl;
+          room = room-of;
+          runs = mem-All (Runs (planOf plan)) waiting (waits-runs fit);
+        } in
         let sends = outgoingFrame (planOf plan) d cells queue frame out replies in
         let r = sends-reads plan plan-of (λ q. length queue) h ok frame out replies (turn-of plan d cells queue frame out replies verdict-of) in
         let whole : take words (left .out) ≡ sends =
-          rw (given-is .2, same-words (sym answered ∙ given-is .0)) (take-append-seam sends (drop (length sends) out)) in
+        rw (given-is .2, same-words (sym answered ∙ given-is .0)) (take-append-seam sends (drop (length sends) out)) in
         rw whole
         (record {
           verdict = sym (read-after plan sends accepted plan-of (sym (r .verdict)));

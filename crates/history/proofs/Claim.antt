@@ -1,6 +1,6 @@
 -- Demand 3, proved: every proper history of the engine is serializable.
 -- Assumes nothing.
-use Prim.Native.Nat.{ℕ, _+_, _<_}
+use Prim.Native.Nat.{ℕ, _<_}
 use mathlib.Core.Path.{_≡_, refl, sym, _∙_, ap, subst}
 use mathlib.Core.Bool.{Bool}
 use mathlib.Core.List.{List, [], _∷_, map}
@@ -9,19 +9,18 @@ use lib.ListN.{length, getD}
 use Rattle.plan.specs.Plan.{Plan}
 use Rattle.plan.specs.Decode.{planOf}
 use Rattle.plan.specs.Admission.{planVerdict, accepted}
-use Rattle.operation.specs.Operation.{Operation, deskOf}
+use Rattle.operation.specs.Operation.{Operation}
 use Rattle.operation.specs.Run.{Store}
 use Rattle.conflict.specs.Class.{Class, JustOne}
-use Rattle.conflict.proofs.Classes.{class-means}
 use Rattle.conflict.proofs.MaskMeaning.{desk-low}
 use Rattle.conflict.proofs.Touching.{some-desk}
 use Rattle.token.specs.Frame.{startingFrame}
 use Rattle.queue.specs.declared.record.Request.{Request}
-use Rattle.serial.specs.Desk as desk
+use Rattle.serial.specs.System.{System}
 use Rattle.serial.specs.SerialRun as run
 use Rattle.serial.specs.Order as protocolOrder
 use Rattle.serial.specs.Claim as protocol
-use Rattle.serial.specs.Machine.{machineAfter, seen, answersSeen}
+use Rattle.serial.specs.Machine.{Machine, machineAfter, seen, answersSeen}
 use Rattle.serial.proofs.Bridge.{machine-serializable}
 use Rattle.history.specs.History.{Holding, Call, isRefused, outcomes, holdingsAfter, start, ProperFromStart}
 use Rattle.history.specs.Order.{Finished}
@@ -35,7 +34,7 @@ use Rattle.history.proofs.Standing.{start-stands}
 use Rattle.history.proofs.Machine.{machine, frames, after-is, refusals-are, proper-is}
 use Rattle.history.proofs.SerialSeen.{finishedSeen, serialSeen, notes-seen}
 use Rattle.history.proofs.OrderSeen.{RanAs, RunsAll, sort-seen, all-sorted, store-seen, due-seen}
-use Rattle.history.proofs.Notes.{Noted, notes-noted}
+use Rattle.history.proofs.Notes.{notes-noted}
 use Rattle.history.proofs.Given.{each-gives}
 
 module _ (ws : List ℕ) (accept : planVerdict ws ≡ accepted) (class : Operation → Class) (right : Classifies (planOf ws) class)
@@ -45,6 +44,12 @@ module _ (ws : List ℕ) (accept : planVerdict ws ≡ accepted) (class : Operati
 
   abbrev records : ℕ → ℕ
   records q = length (rows q)
+
+  abbrev S : System
+  S = system ws class records
+
+  abbrev M : Machine S
+  M = machine ws accept class right records
 
   abbrev w : ℕ → Holding
   w = start cells rows
@@ -62,15 +67,15 @@ module _ (ws : List ℕ) (accept : planVerdict ws ≡ accepted) (class : Operati
 
   abbrev Whole : run.Serial Operation → Type 0
   Whole t =
-      protocol.Serializable (system ws class records) cells (answersSeen (machine ws accept class right records) w cs)
-      (seen (machine ws accept class right records) (machineAfter (machine ws accept class right records) w cs)) t
+      protocol.Serializable S cells (answersSeen M w cs)
+      (seen M (machineAfter M w cs)) t
 
   whole : Whole (serialSeen s)
   whole =
       subst Whole
-      (ap (run.serial (system ws class records) (map callSeen cs)) (refusals-are ws accept class right records cs w)
+      (ap (run.serial S (map callSeen cs)) (refusals-are ws accept class right records cs w)
       ∙ sym (notes-seen ws class records cs refusals newSerial))
-      (machine-serializable (machine ws accept class right records) (frames ws accept class right records) cells w
+      (machine-serializable M (frames ws accept class right records) cells w
       (λ q l. start-stands ws cells rows q l) refl cs (proper-is ws accept class right records cs w (startingFrame ∷ []) pr)
       (laws ws accept class right records))
 
@@ -80,31 +85,31 @@ module _ (ws : List ℕ) (accept : planVerdict ws ≡ accepted) (class : Operati
   runs : RunsAll p ordered
   runs = all-sorted (RanAs p) [] (s .finished) tt ended
 
-  order-is : run.order (system ws class records) (serialSeen s) ≡ map finishedSeen ordered
+  order-is : run.order S (serialSeen s) ≡ map finishedSeen ordered
   order-is = sym (sort-seen p [] (s .finished) tt ended)
 
-  store-is : run.storeAfter (system ws class records) (run.order (system ws class records) (serialSeen s)) cells ≡ storeAfter p ordered cells
+  store-is : run.storeAfter S (run.order S (serialSeen s)) cells ≡ storeAfter p ordered cells
   store-is =
-      ap (λ (es : List (protocolOrder.Finished Operation)). run.storeAfter (system ws class records) es cells) order-is ∙ store-seen ws class records ordered cells runs
+      ap (λ (es : List (protocolOrder.Finished Operation)). run.storeAfter S es cells) order-is ∙ store-seen ws class records ordered cells runs
 
-  due-is : (i : ℕ) → run.due (system ws class records) i (run.order (system ws class records) (serialSeen s)) cells
+  due-is : (i : ℕ) → run.due S i (run.order S (serialSeen s)) cells
       ≡ map answeredSeen (due p i ordered cells)
   due-is i =
-      ap (λ (es : List (protocolOrder.Finished Operation)). run.due (system ws class records) i es cells) order-is ∙ due-seen ws class records i ordered cells runs
+      ap (λ (es : List (protocolOrder.Finished Operation)). run.due S i es cells) order-is ∙ due-seen ws class records i ordered cells runs
 
   -- ---- the desks at the end, and just one desk
 
-  value-is : (d c v : ℕ) → getD (seen (machine ws accept class right records) (machineAfter (machine ws accept class right records) w cs) d .store) c 0
+  value-is : (d c v : ℕ) → getD (seen M (machineAfter M w cs) d .store) c 0
       ≡ v → getD (holdingsAfter ws w cs d .cells) c 0 ≡ v
   value-is d c v e = ap (λ (m : ℕ → Holding). getD (m d .cells) c 0) (sym (after-is ws accept class right records cs w)) ∙ e
 
-  one-of : (c d : ℕ) → JustOne p c d → protocol.JustOne (system ws class records) d c
+  one-of : (c d : ℕ) → JustOne p c d → protocol.JustOne S d c
   one-of c d j = (
     (j .0 .0, of-touch ws accept class right records (j .0 .0) c (j .0 .1) (j .0 .3), j .0 .2),
     λ o t. let k = touch-of ws accept class right records o c t in j .1 o (k .0) (k .1),
   )
 
-  of-one : (c d : ℕ) → protocol.JustOne (system ws class records) d c → JustOne p c d
+  of-one : (c d : ℕ) → protocol.JustOne S d c → JustOne p c d
   of-one c d k =
       let t = touch-of ws accept class right records (k .0 .0) c (k .0 .1) in (
         (k .0 .0, t .0, k .0 .2, t .1),

@@ -9,6 +9,7 @@ pub mod Requests
 pub mod Visits
 pub mod Machine
 pub mod SerialSeen
+pub mod Places
 pub mod OrderSeen
 pub mod Notes
 pub mod Given

@@ -1,11 +1,10 @@
 -- The engine is a machine of `serial`: each call is the protocol's, seen through the view, and its frames are words. Its histories are
 -- those of specs/History.
 -- Assumes nothing.
-use Prim.Native.Nat.{ℕ, _≤_, _<_}
+use Prim.Native.Nat.{ℕ, _≤_}
 use mathlib.Core.Path.{_≡_, refl, sym, _∙_, ap, ap₂, subst}
-use mathlib.Core.Bool.{Bool, false}
-use mathlib.Core.List.{List, [], _∷_, _++_, map, List·Memᴰ}
-use lib.ListN.{getD}
+use mathlib.Core.Bool.{Bool}
+use mathlib.Core.List.{List, [], _∷_, _++_, map}
 use Rattle.plan.specs.Decode.{planOf}
 use Rattle.plan.specs.Admission.{planVerdict, accepted}
 use Rattle.plan.proofs.Accepted.{accepted-gives, desk-count}
@@ -28,7 +27,7 @@ use Rattle.history.specs.History.{responseRefused, passageRefused, frame
 use Rattle.history.specs.History.{holdingsAfter, WordsFit, Proper}
 use Rattle.history.specs.SerialRun.{Classifies}
 use Rattle.history.proofs.Protocol.{Brought, system}
-use Rattle.history.proofs.Seen.{requestSeen, frameSeen, answeredSeen}
+use Rattle.history.proofs.Seen.{frameSeen}
 use Rattle.history.proofs.View.{view, callSeen, responseSeen, passageSeen, outcomeSeen, repliesRun}
 use Rattle.history.proofs.Standing.{Stands}
 use Rattle.history.proofs.Requests.{request-seen, request-stands}

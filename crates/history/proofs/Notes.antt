@@ -17,7 +17,7 @@ use Rattle.conveyor.specs.Queueing.{operationOf}
 use Rattle.conveyor.specs.Admission.{deskBuffersFit, deskStands}
 use Rattle.conveyor.specs.Request.{recordOf, served, requestVerdict, requestResult}
 use Rattle.serial.proofs.Lists.{All, All-append}
-use Rattle.history.specs.History.{Holding, Call, request, visit, deskCalled, responseRefused, isRefused, assign, outcomeAt, stepAt, outcomes}
+use Rattle.history.specs.History.{Holding, Call, request, visit, deskCalled, responseRefused, isRefused, outcomeAt, stepAt, outcomes}
 use Rattle.history.specs.History.{written, WordsFit, Proper}
 use Rattle.history.specs.SerialRun.{Serial, noteNothing, noteRun, noteJoin, noteRequest, ranked, noteVisit, note, noteAll}
 use Rattle.history.proofs.Operations.{Runs}

@@ -1,15 +1,15 @@
 -- The updates that an accepted visit sends on are well formed: those of the others as they came, and one for each waiting request.
 -- Assumes nothing.
 use Prim.Native.Nat.{ℕ, suc, _+_, _≤_, _<_}
-use mathlib.Core.Path.{_≡_, refl, sym, _∙_, ap, subst}
-use mathlib.Core.Bool.{Bool, true, false, _&&_, cond}
+use mathlib.Core.Path.{_≡_, refl, sym, ap, subst}
+use mathlib.Core.Bool.{Bool, true, false, cond}
 use mathlib.Core.List.{List, [], _∷_, _++_, map}
 use native.Mathlib.Omega.{arith}
-use lib.Dec.{ltb, leb, eqb}
-use lib.ListN.{length, length-map}
+use lib.Dec.{eqb}
+use lib.ListN.{length}
 use borrow.Author.Tests.{lt-ltb, le-leb}
 use Rattle.word.specs.Field.{headTransactions}
-use Rattle.plan.specs.Plan.{Transaction, writes, transactionAt}
+use Rattle.plan.specs.Plan.{Transaction, writes}
 use Rattle.plan.specs.Decode.{planOf, headOf}
 use Rattle.plan.specs.Admission.{every, planVerdict, accepted}
 use Rattle.plan.specs.Place.{transactionPlace, transactionFrom}
@@ -110,7 +110,7 @@ module _ (ws : List ℕ) (accept : planVerdict ws ≡ accepted) where
     update-cells : (s : Store) → every cellFits (run (planOf ws) o s .update) ≡ true
     update-cells s =
         let fits : AllFit (transactionOf (planOf ws) o .steps) =
-          subst (λ (t : Transaction). AllFit (t .steps)) stands (transaction-fits ws (transactionPlace ws (o .transaction))) in
+        subst (λ (t : Transaction). AllFit (t .steps)) stands (transaction-fits ws (transactionPlace ws (o .transaction))) in
         member-every cellFits (run (planOf ws) o s .update)
         (λ w m. lt-ltb (w .0) 1024 (cells-low writes (o .params) (transactionOf (planOf ws) o .steps) fits (rows-passed (planOf ws) o i) (w .0)
         (writes-within (transactionOf (planOf ws) o) (o .params) s w m)))

@@ -1,12 +1,11 @@
 -- The laws that `serial` asks of the protocol, from the classes over all operations and from the runs of a plan's operations.
 -- Assumes nothing.
-use Prim.Native.Nat.{ℕ, _<_}
+use Prim.Native.Nat.{ℕ}
 use mathlib.Core.Path.{_≡_, refl, ap, subst}
 use mathlib.Core.Logic.{inl, inr}
 use mathlib.Core.Bool.{Bool, true, false, cond}
 use mathlib.Core.List.{List}
-use native.Mathlib.Omega.{arith}
-use lib.Dec.{T, eqb, eqb→eq}
+use lib.Dec.{eqb, eqb→eq}
 use Rattle.plan.specs.Decode.{planOf}
 use Rattle.plan.specs.Admission.{planVerdict, accepted}
 use Rattle.plan.proofs.Bool.{and-fst}
@@ -18,8 +17,6 @@ use Rattle.conflict.specs.Class.{Class, free, local, global}
 use Rattle.conflict.proofs.MaskMeaning.{desk-low}
 use Rattle.conflict.proofs.Touching.{some-desk}
 use Rattle.serial.specs.Store.{Same, Within}
-use Rattle.serial.specs.Desk.{Desk}
-use Rattle.serial.specs.Frame.{Frame}
 use Rattle.serial.specs.System.{Laws, Touches}
 use Rattle.serial.specs.System as protocol
 use Rattle.serial.proofs.Tests.{by-same, T-true, true-T}
@@ -28,7 +25,7 @@ use Rattle.serial.proofs.Transactions.{run-update-writes}
 use Rattle.serial.proofs.Example.{last-keeps, last-only}
 use Rattle.history.specs.SerialRun.{Is, Classifies}
 use Rattle.history.proofs.Operations.{isOperation, is-of-decided}
-use Rattle.history.proofs.Protocol.{Brought, classSeen, ran, visitAsked, system}
+use Rattle.history.proofs.Protocol.{classSeen, ran, system}
 
 seen-free : (k : Class) → classSeen k ≡ protocol.free → k ≡ free
 seen-free free e = refl

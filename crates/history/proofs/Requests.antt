@@ -1,12 +1,12 @@
 -- A request at a desk that stands is the protocol's request, and the desk stands behind it.
 -- Assumes nothing.
-use Prim.Native.Nat.{ℕ, zero, suc, _+_, _^_, _%_, _≤_, _<_}
+use Prim.Native.Nat.{ℕ, zero, suc, _+_, _^_, _%_, _<_}
 use mathlib.Core.Path.{_≡_, refl, sym, _∙_, ap, ap₂, subst}
 use mathlib.Core.Bool.{Bool, true, false, _&&_, cond}
 use mathlib.Core.List.{List, [], _∷_, _++_, map, map-append}
 use native.Mathlib.Numerals.{add-one}
 use native.Mathlib.Omega.{arith}
-use lib.Dec.{ltb, leb, eqb}
+use lib.Dec.{ltb, eqb}
 use lib.ListN.{length, getD, set, take, length-map, length-set}
 use lib.Seq.{take-suc-set, length-take-le}
 use borrow.Author.Tests.{ltb-true, eqb-true, le-leb, eq-eqb}
@@ -16,15 +16,16 @@ use Rattle.plan.proofs.Bool.{and-snd, and-true}
 use Rattle.plan.proofs.Accepted.{yes-of}
 use Rattle.operation.specs.Operation.{Operation, deskOf}
 use Rattle.operation.specs.Admission.{IsOperation, operationVerdict}
-use Rattle.operation.specs.Run.{Store, Outcome, Reply, run}
+use Rattle.operation.specs.Run.{Store, Outcome, Reply}
 use Rattle.conflict.specs.Class.{Class, free, local, global, classOf}
 use Rattle.conflict.proofs.Classes.{class-free, class-local, class-global}
 use Rattle.queue.specs.declared.record.Request.{Request}
 use Rattle.conveyor.specs.declared.desk.Desk.{Desk}
 use Rattle.conveyor.specs.Queueing.{operationOf, waitingIn}
-use Rattle.conveyor.specs.Admission.{isAccepted, isGlobal, deskBuffersFit, waitsHere, deskStands}
+use Rattle.conveyor.specs.Admission.{isAccepted, deskBuffersFit, waitsHere, deskStands}
 use Rattle.conveyor.specs.Request.{Requested, recordOf, served, routed, ranNow, enqueued, unchanged, requestVerdict, requestResult}
 use Rattle.conveyor.specs.Request as asked
+use Rattle.serial.specs.System.{System}
 use Rattle.serial.specs.Desk as desk
 use Rattle.serial.specs.Step as step
 use Rattle.serial.proofs.Lists.{All, All-append}
@@ -60,6 +61,10 @@ class-same ws e o i global m = class-global ws e o i .1 m
 module _ (ws : List ℕ) (accept : planVerdict ws ≡ accepted) (class : Operation → Class) (right : Classifies (planOf ws) class)
     (records : ℕ → ℕ) (h : Holding) (ok : Stands ws records (h .state .desk) h) (client k : ℕ) (ps : List ℕ)
     (words : (i : ℕ) → getD ps i 0 < 2 ^ 32) where
+  -- the protocol of the plan
+  abbrev pub S : System
+  S = system ws class records
+
   abbrev r : Request
   r = recordOf client k ps
 
@@ -109,14 +114,14 @@ module _ (ws : List ℕ) (accept : planVerdict ws ≡ accepted) (class : Operati
     joined : d .waiting < 32 → take (d .waiting + 1) (set (h .queue) (d .waiting) r) ≡ take (d .waiting) (h .queue) ++ (r ∷ [])
     joined l = rw add-one (take-suc-set (h .queue) (d .waiting) r (omega (arith, p .whole)))
 
-    now-seen : seen (ranNow d (h .cells) (h .queue) (planOf ws) o) ≡ step.requestStep (system ws class records) step.immediate (view h) (requestSeen r)
+    now-seen : seen (ranNow d (h .cells) (h .queue) (planOf ws) o) ≡ step.requestStep S step.immediate (view h) (requestSeen r)
     now-seen =
         ap₂ (λ (s : Store) (m : Outcome). (record { store = s; queue = view h .queue; awaited = d .awaited }, desk.replied (client, m .reply)))
         (sym (one-seen ws class records o (h .cells) (p .runs))) (sym (ran-is ws class records o (h .cells) (p .runs)))
 
     join-seen : (b : Bool) → ltb (d .waiting) 32 ≡ b →
         seen (cond b (enqueued d (h .cells) (h .queue) r) (unchanged d (h .cells) (h .queue) (asked.isRefused 9)))
-        ≡ cond b (step.requestStep (system ws class records) step.enqueue (view h) (requestSeen r)) (view h, desk.refused)
+        ≡ cond b (step.requestStep S step.enqueue (view h) (requestSeen r)) (view h, desk.refused)
     join-seen true e =
         ap (λ (q : List (desk.Request Operation)). (record { store = h .cells; queue = q; awaited = d .awaited }, desk.waits))
         (ap (map requestSeen) (joined (ltb-true (d .waiting) 32 e)) ∙ map-append requestSeen (take (d .waiting) (h .queue)) (r ∷ []))
@@ -124,7 +129,7 @@ module _ (ws : List ℕ) (accept : planVerdict ws ≡ accepted) (class : Operati
 
     routed-seen : (c : Class) (b : Bool) → seen (routed d (h .cells) (h .queue) c b (planOf ws) r)
         ≡ cond (roomBy c b (length (view h .queue)))
-        (step.requestStep (system ws class records) (step.routeBy (classSeen c) b) (view h) (requestSeen r)) (view h, desk.refused)
+        (step.requestStep S (step.routeBy (classSeen c) b) (view h) (requestSeen r)) (view h, desk.refused)
     routed-seen free b = now-seen
     routed-seen local true = now-seen
     routed-seen local false = refl
@@ -133,7 +138,7 @@ module _ (ws : List ℕ) (accept : planVerdict ws ≡ accepted) (class : Operati
 
   served-seen : (v : Verdict) → (v ≡ accepted → Passes) → seen (served d (h .cells) (h .queue) v (planOf ws) r)
       ≡ cond (isAccepted v && roomBy (class o) own (length (view h .queue)))
-      (step.requestStep (system ws class records) (step.routeBy (classSeen (class o)) own) (view h) (requestSeen r)) (view h, desk.refused)
+      (step.requestStep S (step.routeBy (classSeen (class o)) own) (view h) (requestSeen r)) (view h, desk.refused)
   served-seen (refused q) f = refl
   served-seen accepted f =
       let p : Passes = f refl in
@@ -142,12 +147,12 @@ module _ (ws : List ℕ) (accept : planVerdict ws ≡ accepted) (class : Operati
 
   -- the state and the answer are the protocol's
   pub request-seen : seen (requestResult ws d (h .cells) (h .queue) r)
-      ≡ step.serve (system ws class records) (view h) (desk.request (d .desk) (requestSeen r) (record { frame = []; out = []; replies = [] }))
+      ≡ step.serve S (view h) (desk.request (d .desk) (requestSeen r) (record { frame = []; out = []; replies = [] }))
   unfolding requestResult
   request-seen =
       served-seen asking passes
       ∙ ap (λ (v : Verdict). cond (isAccepted v && roomBy (class o) own (length (view h .queue)))
-      (step.requestStep (system ws class records) (step.routeBy (classSeen (class o)) own) (view h) (requestSeen r)) (view h, desk.refused))
+      (step.requestStep S (step.routeBy (classSeen (class o)) own) (view h) (requestSeen r)) (view h, desk.refused))
       asking-is
 
   -- ---- the desk stands behind the call

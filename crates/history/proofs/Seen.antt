@@ -16,13 +16,14 @@ use Rattle.queue.specs.declared.record.Request.{Request}
 use Rattle.conveyor.specs.Queueing.{operationOf}
 use Rattle.conveyor.specs.Visit.{foreign, applyAll}
 use Rattle.conveyor.specs.Waiting.{Answered, runAll, updatesOf, repliesOf}
+use Rattle.serial.specs.System.{System}
 use Rattle.serial.specs.Store as store
 use Rattle.serial.specs.Frame as frame
 use Rattle.serial.specs.Desk as desk
 use Rattle.serial.specs.Step as step
 use Rattle.serial.proofs.Transactions.{apply-agrees}
 use Rattle.serial.proofs.Lists.{All}
-use Rattle.history.proofs.Operations.{Runs, isOperation, decided-of-is}
+use Rattle.history.proofs.Operations.{Runs, decided-of-is}
 use Rattle.history.proofs.Protocol.{ran, system}
 
 abbrev pub requestSeen : Request → desk.Request Operation
@@ -62,36 +63,40 @@ sent-seen p (u ∷ us) = ap (λ (l : List (ℕ × Update)). (p, u) ∷ l) (sent-
 -- ---- runs
 
 module _ (ws : List ℕ) (class : Operation → Class) (records : ℕ → ℕ) where
+  -- the protocol of the plan
+  abbrev pub S : System
+  S = system ws class records
+
   pub ran-is : (o : Operation) (s : Store) → IsOperation (planOf ws) o → ran ws class records o s ≡ run (planOf ws) o s
   ran-is o s i = rw (decided-of-is (planOf ws) o i) refl
 
   pub one-seen : (o : Operation) (s : Store) → IsOperation (planOf ws) o →
-      step.runOne (system ws class records) o s ≡ applyUpdate (run (planOf ws) o s .update) s
+      step.runOne S o s ≡ applyUpdate (run (planOf ws) o s .update) s
   one-seen o s i = rw (ran-is o s i) (sym (apply-agrees (run (planOf ws) o s .update) s))
 
   -- a queue's runs, one after another
   pub runAll-seen : (q : List Request) (s : Store) → All (Runs (planOf ws)) q →
-      step.runAll (system ws class records) (map requestSeen q) s ≡ runAll (planOf ws) q s
+      step.runAll S (map requestSeen q) s ≡ runAll (planOf ws) q s
   unfolding runAll
   runAll-seen [] s k = refl
   runAll-seen (r ∷ q) s k =
-      ap (step.runAll (system ws class records) (map requestSeen q)) (one-seen (operationOf r) s (k .0))
+      ap (step.runAll S (map requestSeen q)) (one-seen (operationOf r) s (k .0))
       ∙ runAll-seen q (applyUpdate (run (planOf ws) (operationOf r) s .update) s) (k .1)
 
   pub updates-seen : (q : List Request) (s : Store) → All (Runs (planOf ws)) q →
-      step.updatesOf (system ws class records) (map requestSeen q) s ≡ updatesOf (planOf ws) q s
+      step.updatesOf S (map requestSeen q) s ≡ updatesOf (planOf ws) q s
   unfolding updatesOf
   updates-seen [] s k = refl
   updates-seen (r ∷ q) s k =
       ap₂ (λ (u : Update) (us : List Update). u ∷ us) (ap (λ (m : Outcome). m .update) (ran-is (operationOf r) s (k .0)))
-      (ap (step.updatesOf (system ws class records) (map requestSeen q)) (one-seen (operationOf r) s (k .0))
+      (ap (step.updatesOf S (map requestSeen q)) (one-seen (operationOf r) s (k .0))
       ∙ updates-seen q (applyUpdate (run (planOf ws) (operationOf r) s .update) s) (k .1))
 
   pub replies-seen : (q : List Request) (s : Store) → All (Runs (planOf ws)) q →
-      step.repliesOf (system ws class records) (map requestSeen q) s ≡ map answeredSeen (repliesOf (planOf ws) q s)
+      step.repliesOf S (map requestSeen q) s ≡ map answeredSeen (repliesOf (planOf ws) q s)
   unfolding repliesOf
   replies-seen [] s k = refl
   replies-seen (r ∷ q) s k =
       ap₂ (λ (m : Outcome) (rs : List (ℕ × Reply)). (r .client, m .reply) ∷ rs) (ran-is (operationOf r) s (k .0))
-      (ap (step.repliesOf (system ws class records) (map requestSeen q)) (one-seen (operationOf r) s (k .0))
+      (ap (step.repliesOf S (map requestSeen q)) (one-seen (operationOf r) s (k .0))
       ∙ replies-seen q (applyUpdate (run (planOf ws) (operationOf r) s .update) s) (k .1))

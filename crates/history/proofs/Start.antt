@@ -3,12 +3,9 @@
 use Prim.Native.Nat.{ℕ, _<_}
 use mathlib.Core.Path.{_≡_, refl}
 use mathlib.Core.List.{List, map}
-use lib.Dec.{ltb}
 use borrow.Author.Tests.{lt-ltb}
 use Rattle.plan.specs.Decode.{planOf}
 use Rattle.plan.specs.Admission.{planVerdict, accepted}
-use Rattle.operation.specs.Operation.{Operation}
-use Rattle.operation.specs.Admission.{IsOperation}
 use Rattle.conflict.specs.Class.{Class, free, local, global, classOf}
 use Rattle.conflict.proofs.Classes.{class-free, class-local, class-global}
 use Rattle.queue.specs.declared.record.Request.{Request}

@@ -1,14 +1,14 @@
 -- A visit at a desk that stands is the protocol's visit; what it writes is read back; and the desk stands behind it.
 -- Assumes nothing.
-use Prim.Native.Nat.{ℕ, suc, _+_, _%_, _≤_, _<_}
+use Prim.Native.Nat.{ℕ, _+_, _%_, _≤_, _<_}
 use mathlib.Core.Path.{_≡_, refl, sym, _∙_, ap, ap₂}
 use mathlib.Core.Bool.{Bool, true, false, _&&_, cond}
-use mathlib.Core.List.{List, [], _∷_, _++_, map, map-append}
+use mathlib.Core.List.{List, [], _++_, map, map-append}
 use native.Mathlib.Nat.{add-mod-right}
 use native.Mathlib.Numerals.{add-one}
 use native.Mathlib.Omega.{arith}
-use lib.Dec.{ltb, leb, eqb}
-use lib.ListN.{length, take, drop}
+use lib.Dec.{eqb}
+use lib.ListN.{length, drop}
 use lib.Seq.{take-append-seam, length-take-le}
 use borrow.Author.Tests.{ltb-true, eqb-true, eq-eqb}
 use Rattle.word.specs.Field.{addressedDesk}
@@ -19,29 +19,28 @@ use Rattle.plan.proofs.Accepted.{yes-of, accepted-gives, desk-count}
 use Rattle.operation.specs.Operation.{Operation}
 use Rattle.operation.specs.Run.{Store, Update, Reply}
 use Rattle.conflict.specs.Class.{Class}
-use Rattle.token.specs.Frame.{SentUpdate, sent, frameWords, overwritten}
+use Rattle.token.specs.Frame.{SentUpdate, sent}
 use Rattle.token.specs.Admission.{frameVerdict, frameVisit, frameUpdates, ReadsAs}
-use Rattle.token.specs.WellFormed.{WellFormed}
 use Rattle.token.proofs.RoundTrip.{reads-written, written-reads}
 use Rattle.queue.specs.declared.record.Request.{Request}
 use Rattle.conveyor.specs.declared.desk.Desk.{Desk}
 use Rattle.conveyor.specs.Queueing.{waitingIn}
 use Rattle.conveyor.specs.Admission.{isAccepted, deskBuffersFit, visitBuffersFit, deskStands, turnVerdict}
-use Rattle.conveyor.specs.Visit.{Visited, foreign, applyAll, caughtUp, outgoingUpdates, outgoingFrame, passed, visitedBy, visitVerdict, visitResult}
-use Rattle.conveyor.specs.Waiting.{Answered, runAll, updatesOf, repliesOf}
+use Rattle.conveyor.specs.Visit.{Visited, foreign, applyAll, caughtUp, outgoingUpdates, outgoingFrame, passed, visitedBy, visitVerdict}
+use Rattle.conveyor.specs.Visit.{visitResult}
+use Rattle.conveyor.specs.Waiting.{runAll, updatesOf, repliesOf}
+use Rattle.serial.specs.System.{System}
 use Rattle.serial.specs.Store as store
 use Rattle.serial.specs.Frame as frame
 use Rattle.serial.specs.Desk as desk
 use Rattle.serial.specs.Step as step
-use Rattle.serial.proofs.Lists.{All}
 use Rattle.history.specs.History.{Holding, visited, holdingAfter}
-use Rattle.history.proofs.Operations.{Runs}
 use Rattle.history.proofs.Protocol.{Brought, visitAsked, system}
 use Rattle.history.proofs.Outgoing.{outgoing-formed}
 use Rattle.history.proofs.Seen.{requestSeen, updateSeen, frameSeen, answeredSeen, foreign-seen, apply-seen, sent-seen, runAll-seen}
 use Rattle.history.proofs.Seen.{updates-seen, replies-seen}
 use Rattle.history.proofs.View.{view, passageSeen}
-use Rattle.history.proofs.Standing.{Stands, Six, six, then-both}
+use Rattle.history.proofs.Standing.{Stands, six, then-both}
 
 and-false : (a : Bool) → (a && false) ≡ false
 and-false true = refl
@@ -148,6 +147,10 @@ module _ (ws : List ℕ) (accept : planVerdict ws ≡ accepted) (records : ℕ �
   -- ---- what the protocol sees
 
   module _ (class : Operation → Class) where
+    -- the protocol of the plan
+    abbrev pub S : System
+    S = system ws class records
+
     abbrev Seen : Type 0
     Seen = desk.Desk Operation × desk.Answer Reply
 
@@ -161,18 +164,18 @@ module _ (ws : List ℕ) (accept : planVerdict ws ≡ accepted) (records : ℕ �
     unfolding visitVerdict deskBuffersFit turnVerdict
     asking-is = rw (accept, ok .stands, ok .size) refl
 
-    caught-seen : step.caughtUp (system ws class records) (d .desk) (view h) (frameSeen ft) ≡ c
+    caught-seen : step.caughtUp S (d .desk) (view h) (frameSeen ft) ≡ c
     caught-seen =
         ap (λ (ts : List (ℕ × Update)). store.applyAll (frame.untag ts) (h .cells)) (foreign-seen (d .desk) us)
         ∙ apply-seen (foreign (d .desk) us) (h .cells)
 
-    made-seen : step.made (system ws class records) (d .desk) (view h) (frameSeen ft) ≡ map updateSeen (map (sent (d .desk)) (updatesOf (planOf ws) q c))
+    made-seen : step.made S (d .desk) (view h) (frameSeen ft) ≡ map updateSeen (map (sent (d .desk)) (updatesOf (planOf ws) q c))
     made-seen =
-        ap (λ (s : Store). frame.tag (d .desk) (step.updatesOf (system ws class records) (map requestSeen q) s)) caught-seen
+        ap (λ (s : Store). frame.tag (d .desk) (step.updatesOf S (map requestSeen q) s)) caught-seen
         ∙ ap (frame.tag (d .desk)) (updates-seen ws class records q c (ok .runs))
         ∙ sent-seen (d .desk) (updatesOf (planOf ws) q c)
 
-    outgoing-seen : Turn ws d ft → frameSeen sends ≡ step.outgoing (system ws class records) (d .desk) (view h) (frameSeen ft)
+    outgoing-seen : Turn ws d ft → frameSeen sends ≡ step.outgoing S (d .desk) (view h) (frameSeen ft)
     outgoing-seen t =
         let r = sends-reads t in
         ap₂ (λ (v : ℕ) (ts : List (ℕ × Update)). record { number = v; updates = ts })
@@ -181,32 +184,32 @@ module _ (ws : List ℕ) (accept : planVerdict ws ≡ accepted) (records : ℕ �
         ∙ map-append updateSeen (foreign (d .desk) us) (map (sent (d .desk)) (updatesOf (planOf ws) q c))
         ∙ ap₂ _++_ (sym (foreign-seen (d .desk) us)) (sym made-seen))
 
-    store-seen : runAll (planOf ws) q c ≡ step.runAll (system ws class records) (map requestSeen q)
-        (step.caughtUp (system ws class records) (d .desk) (view h) (frameSeen ft))
+    store-seen : runAll (planOf ws) q c ≡ step.runAll S (map requestSeen q)
+        (step.caughtUp S (d .desk) (view h) (frameSeen ft))
     store-seen =
-        sym (ap (step.runAll (system ws class records) (map requestSeen q)) caught-seen ∙ runAll-seen ws class records q c (ok .runs))
+        sym (ap (step.runAll S (map requestSeen q)) caught-seen ∙ runAll-seen ws class records q c (ok .runs))
 
-    given-seen : map answeredSeen (repliesOf (planOf ws) q c) ≡ step.repliesOf (system ws class records) (map requestSeen q)
-        (step.caughtUp (system ws class records) (d .desk) (view h) (frameSeen ft))
+    given-seen : map answeredSeen (repliesOf (planOf ws) q c) ≡ step.repliesOf S (map requestSeen q)
+        (step.caughtUp S (d .desk) (view h) (frameSeen ft))
     given-seen =
-        sym (ap (step.repliesOf (system ws class records) (map requestSeen q)) caught-seen ∙ replies-seen ws class records q c (ok .runs))
+        sym (ap (step.repliesOf S (map requestSeen q)) caught-seen ∙ replies-seen ws class records q c (ok .runs))
 
-    passed-seen : Turn ws d ft → seen passing ≡ step.visitStep (system ws class records) (d .desk) (view h) (frameSeen ft)
+    passed-seen : Turn ws d ft → seen passing ≡ step.visitStep S (d .desk) (view h) (frameSeen ft)
     passed-seen t =
         ap₂ (λ (s : Store) (a : desk.Answer Reply). (record { store = s; queue = []; awaited = frameVisit ft + n }, a)) store-seen
         (ap₂ desk.forwarded (ap frameSeen (take-append-seam sends (drop (length sends) out)) ∙ outgoing-seen t) given-seen)
 
     visited-seen : (v : Verdict) → (v ≡ accepted → Turn ws d ft) → seen (visitedBy (planOf ws) d (h .cells) (h .queue) ft out replies v)
         ≡ cond (eqb (frameVisit ft) (d .awaited) && isAccepted v)
-        (step.visitStep (system ws class records) (d .desk) (view h) (frameSeen ft)) (view h, desk.refused)
+        (step.visitStep S (d .desk) (view h) (frameSeen ft)) (view h, desk.refused)
     visited-seen accepted f = rw (eq-eqb (frameVisit ft) (d .awaited) (f refl .number)) (passed-seen (f refl))
     visited-seen (refused k) f = rw (and-false (eqb (frameVisit ft) (d .awaited))) refl
 
     -- the state and the answer are the protocol's
     pub visit-seen : seen (visitResult ws d (h .cells) (h .queue) ft out replies)
-        ≡ step.serve (system ws class records) (view h) (desk.visit (d .desk) (frameSeen ft) brought)
+        ≡ step.serve S (view h) (desk.visit (d .desk) (frameSeen ft) brought)
     unfolding visitResult
     visit-seen =
         visited-seen asking (turn-of ws d (h .cells) (h .queue) ft out replies)
         ∙ ap (λ (v : Verdict). cond (eqb (frameVisit ft) (d .awaited) && isAccepted v)
-        (step.visitStep (system ws class records) (d .desk) (view h) (frameSeen ft)) (view h, desk.refused)) asking-is
+        (step.visitStep S (d .desk) (view h) (frameSeen ft)) (view h, desk.refused)) asking-is
