@@ -1,0 +1,6 @@
+pub mod Queueing
+pub mod Admission
+pub mod Waiting
+pub mod Request
+pub mod Visit
+pub mod Answer

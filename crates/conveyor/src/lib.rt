@@ -1,0 +1,12 @@
+// The engine: new desk, request and visit.
+mod desk;
+mod request;
+mod visit;
+
+pub use desk::Desk;
+pub use desk::DeskAnswer;
+pub use desk::new_desk;
+pub use request::RequestAnswer;
+pub use request::RequestResult;
+pub use visit::VisitAnswer;
+pub use visit::VisitResult;

@@ -1,0 +1,175 @@
+-- The engine is a machine of `serial`: each call is the protocol's, seen through the view, and its frames are words. Its histories are
+-- those of specs/History.
+-- Assumes nothing.
+use Prim.Native.Nat.{ℕ, _≤_}
+use mathlib.Core.Path.{_≡_, refl, sym, _∙_, ap, ap₂, subst}
+use mathlib.Core.Bool.{Bool}
+use mathlib.Core.List.{List, [], _∷_, _++_, map}
+use Rattle.plan.specs.Decode.{planOf}
+use Rattle.plan.specs.Admission.{planVerdict, accepted}
+use Rattle.plan.proofs.Accepted.{accepted-gives, desk-count}
+use Rattle.operation.specs.Operation.{Operation}
+use Rattle.operation.specs.Run.{Update, Reply}
+use Rattle.conflict.specs.Class.{Class}
+use Rattle.token.specs.Frame.{startingFrame}
+use Rattle.token.proofs.Readers.{starting-reads}
+use Rattle.conveyor.specs.Request.{recordOf, requestResult}
+use Rattle.conveyor.specs.Request as asked
+use Rattle.conveyor.specs.Visit.{visitResult}
+use Rattle.conveyor.specs.Visit as passing
+use Rattle.conveyor.specs.Waiting.{Answered}
+use Rattle.serial.specs.Frame as frame
+use Rattle.serial.specs.Desk as desk
+use Rattle.serial.specs.Step as step
+use Rattle.serial.specs.Machine.{Machine, Words, machineAfter, answersSeen, MachineProper}
+use Rattle.history.specs.History.{Holding, Call, request, visit, deskCalled, Outcome, requested, visited, isRefused, holdingAfter}
+use Rattle.history.specs.History.{responseRefused, passageRefused, frameWritten, written, outcome, stepAt, outcomeAt, outcomes}
+use Rattle.history.specs.History.{holdingsAfter, WordsFit, Proper}
+use Rattle.history.specs.SerialRun.{Classifies}
+use Rattle.history.proofs.Protocol.{Brought, system}
+use Rattle.history.proofs.Seen.{frameSeen}
+use Rattle.history.proofs.View.{view, callSeen, responseSeen, passageSeen, outcomeSeen, repliesRun}
+use Rattle.history.proofs.Standing.{Stands}
+use Rattle.history.proofs.Requests.{request-seen, request-stands}
+use Rattle.history.proofs.Visits.{visit-seen, visit-stands}
+
+-- the words of the frame that a call brings
+abbrev pub frameBrought : Call → List ℕ
+frameBrought (request p client k ps) = []
+frameBrought (visit p ft out replies) = ft
+
+-- ---- answers as the protocol sees them
+
+response-refused : (client : ℕ) (a : asked.Response) → desk.isRefused (responseSeen client a) ≡ responseRefused a
+response-refused client (asked.replied r) = refl
+response-refused client asked.waits = refl
+response-refused client (asked.redirected d) = refl
+response-refused client (asked.isRefused question) = refl
+
+response-sends : (client : ℕ) (a : asked.Response) → desk.sent (responseSeen client a) ≡ []
+response-sends client (asked.replied r) = refl
+response-sends client asked.waits = refl
+response-sends client (asked.redirected d) = refl
+response-sends client (asked.isRefused question) = refl
+
+passage-refused : (a : passing.Passage) (out : List ℕ) (rs : List Answered) → desk.isRefused (passageSeen a out rs) ≡ passageRefused a
+passage-refused (passing.forwarded words count) out rs = refl
+passage-refused (passing.isRefused question) out rs = refl
+
+passage-sends : (a : passing.Passage) (out : List ℕ) (rs : List Answered) → desk.sent (passageSeen a out rs)
+    ≡ map frameSeen (frameWritten a out)
+passage-sends (passing.forwarded words count) out rs = refl
+passage-sends (passing.isRefused question) out rs = refl
+
+module _ (ws : List ℕ) (h : Holding) (rs : List Answered) where
+  pub refused-seen : (c : Call) → desk.isRefused (outcomeSeen c (outcome ws h c) rs) ≡ isRefused (outcome ws h c)
+  refused-seen (request p client k ps) =
+      response-refused client (requestResult ws (h .state) (h .cells) (h .queue) (recordOf client k ps) .answer)
+  refused-seen (visit p ft out replies) =
+      let v = visitResult ws (h .state) (h .cells) (h .queue) ft out replies in passage-refused (v .answer) (v .out) rs
+
+  pub sent-is : (c : Call) → desk.sent (outcomeSeen c (outcome ws h c) rs) ≡ map frameSeen (written (outcome ws h c))
+  sent-is (request p client k ps) =
+      response-sends client (requestResult ws (h .state) (h .cells) (h .queue) (recordOf client k ps) .answer)
+  sent-is (visit p ft out replies) =
+      let v = visitResult ws (h .state) (h .cells) (h .queue) ft out replies in passage-sends (v .answer) (v .out) rs
+
+-- the words that a visit brings are those of its frame
+pub shows : (c : Call) (p : ℕ) (f : frame.Frame) (x : Brought) → callSeen c ≡ desk.visit p f x → f ≡ frameSeen (frameBrought c)
+shows (request d client k ps) p f x e = cc
+shows (visit d ft out replies) p f x e = cc
+
+pub start-seen : (ws : List ℕ) → planVerdict ws ≡ accepted → frameSeen startingFrame ≡ frame.startFrame
+start-seen ws accept =
+    let low : 1 ≤ planOf ws .desks = rw (desk-count ws) (accepted-gives ws accept .desks-low) in
+    let high : planOf ws .desks ≤ 8 = rw (desk-count ws) (accepted-gives ws accept .desks-high) in
+    let r = starting-reads (planOf ws .desks) low high in
+    ap₂ (λ (v : ℕ) (ts : List (ℕ × Update)). record { number = v; updates = ts }) (r .number) (ap (map _) (r .sent))
+
+module _ (ws : List ℕ) (accept : planVerdict ws ≡ accepted) (class : Operation → Class) (right : Classifies (planOf ws) class)
+    (records : ℕ → ℕ) where
+  pub stands-does : (h : Holding) (c : Call) → WordsFit c → Stands ws records (desk.deskCalled (callSeen c)) h →
+      Stands ws records (desk.deskCalled (callSeen c)) (holdingAfter h (outcome ws h c))
+  stands-does h (request p client k ps) f ok =
+      subst
+      (λ (q : ℕ). Stands ws records q h → Stands ws records q
+      (holdingAfter h (requested (requestResult ws (h .state) (h .cells) (h .queue) (recordOf client k ps)))))
+      (ok .desk) (λ s. request-stands ws accept class right records h s client k ps f) ok
+  stands-does h (visit p ft out replies) f ok =
+      subst
+      (λ (q : ℕ). Stands ws records q h → Stands ws records q
+      (holdingAfter h (visited (visitResult ws (h .state) (h .cells) (h .queue) ft out replies))))
+      (ok .desk) (λ s. visit-stands ws accept records h s ft out replies) ok
+
+  abbrev pub Served : Holding → Call → Type 0
+  Served h c =
+      _≡_ {A = desk.Desk Operation × desk.Answer Reply}
+      (view (holdingAfter h (outcome ws h c)), outcomeSeen c (outcome ws h c) (repliesRun ws h c))
+      (step.serve (system ws class records) (view h) (callSeen c))
+
+  pub served : (h : Holding) (c : Call) → WordsFit c → Stands ws records (desk.deskCalled (callSeen c)) h → Served h c
+  served h (request p client k ps) f ok =
+      subst (λ (q : ℕ). Stands ws records q h → Served h (request q client k ps)) (ok .desk)
+      (λ s. request-seen ws accept class right records h s client k ps f) ok
+  served h (visit p ft out replies) f ok =
+      subst (λ (q : ℕ). Stands ws records q h → Served h (visit q ft out replies)) (ok .desk)
+      (λ s. visit-seen ws accept records h s ft out replies class) ok
+
+  abbrev pub machine : Machine (system ws class records)
+  machine =
+      record {
+        State = Holding;
+        C = Call;
+        A = Outcome × List Answered;
+        does = λ h c. (holdingAfter h (outcome ws h c), (outcome ws h c, repliesRun ws h c));
+        view = view;
+        callOf = callSeen;
+        answerOf = λ c a. outcomeSeen c (a .0) (a .1);
+        Ok = Stands ws records;
+        Fine = WordsFit;
+        ok-does = λ h c l f ok. stands-does h c f ok;
+        view-does = λ h c l f ok. ap (λ (x : desk.Desk Operation × desk.Answer Reply). x .0) (served h c f ok);
+        answer-does = λ h c l f ok. ap (λ (x : desk.Desk Operation × desk.Answer Reply). x .1) (served h c f ok);
+      }
+
+  abbrev pub frames : Words machine
+  frames =
+      record {
+        W = List ℕ;
+        frameOf = frameSeen;
+        shown = frameBrought;
+        out = λ a. written (a .0);
+        start = startingFrame;
+        shown-frame = shows;
+        out-frame = λ h c l f ok. sent-is ws h (repliesRun ws h c) c;
+        start-frame = start-seen ws accept;
+      }
+
+  -- ---- its histories
+
+  pub after-is : (cs : List Call) (w : ℕ → Holding) → machineAfter machine w cs ≡ holdingsAfter ws w cs
+  after-is [] w = refl
+  after-is (request p client k ps ∷ cs) w = after-is cs (stepAt ws w (request p client k ps))
+  after-is (visit p ft out replies ∷ cs) w = after-is cs (stepAt ws w (visit p ft out replies))
+
+  pub refusals-are : (cs : List Call) (w : ℕ → Holding) → map desk.isRefused (answersSeen machine w cs) ≡ map isRefused (outcomes ws w cs)
+  refusals-are [] w = refl
+  refusals-are (request p client k ps ∷ cs) w =
+      ap₂ (λ (b : Bool) (bs : List Bool). b ∷ bs) (refused-seen ws (w p) [] (request p client k ps))
+      (refusals-are cs (stepAt ws w (request p client k ps)))
+  refusals-are (visit p ft out replies ∷ cs) w =
+      ap₂ (λ (b : Bool) (bs : List Bool). b ∷ bs)
+      (refused-seen ws (w p) (repliesRun ws (w p) (visit p ft out replies)) (visit p ft out replies))
+      (refusals-are cs (stepAt ws w (visit p ft out replies)))
+
+  pub proper-is : (cs : List Call) (w : ℕ → Holding) (fs : List (List ℕ)) → Proper ws w fs cs → MachineProper machine frames w fs cs
+  proper-is [] w fs pr = tt
+  proper-is (request p client k ps ∷ cs) w fs pr =
+      (pr .0, pr .1, λ e. tt, proper-is cs (stepAt ws w (request p client k ps)) (fs ++ []) (pr .3))
+  proper-is (visit p ft out replies ∷ cs) w fs pr =
+      let c : Call = visit p ft out replies in (
+        pr .0,
+        pr .1,
+        λ e. pr .2 (sym (refused-seen ws (w p) (repliesRun ws (w p) c) c) ∙ e),
+        proper-is cs (stepAt ws w c) (fs ++ written (outcomeAt ws w c)) (pr .3),
+      )

@@ -1,0 +1,84 @@
+-- The protocol of `serial` for a plan: its operations, their classes and runs, and the admission of calls.
+-- Assumes nothing.
+use Prim.Native.Nat.{ℕ}
+use mathlib.Core.Bool.{Bool, true, false, _&&_, cond}
+use mathlib.Core.List.{List}
+use lib.Dec.{ltb, eqb}
+use lib.ListN.{length}
+use Rattle.plan.specs.Plan.{Plan}
+use Rattle.plan.specs.Decode.{planOf}
+use Rattle.plan.specs.Admission.{Verdict, accepted, refused}
+use Rattle.operation.specs.Operation.{Operation, deskOf, MayRead, MayWrite}
+use Rattle.operation.specs.Admission.{IsOperation, operationVerdict}
+use Rattle.operation.specs.Run.{Store, Reply, Outcome, declined, run}
+use Rattle.conflict.specs.Class.{Class, free, local, global}
+use Rattle.token.specs.Admission.{andThen, frameVerdict}
+use Rattle.conveyor.specs.Admission.{isAccepted, visitBuffersFit, turnVerdict}
+use Rattle.serial.specs.Desk.{Desk, Call, request, visit}
+use Rattle.serial.specs.System.{System}
+use Rattle.serial.specs.System as protocol
+use Rattle.serial.proofs.Example.{joinLast}
+use Rattle.history.proofs.Operations.{isOperation}
+
+-- what a visit brings besides the visit's number and the updates
+pub record Brought : Type 0 where
+  pub frame : List ℕ
+  pub out : List ℕ
+  pub replies : List ℕ
+
+abbrev pub classSeen : Class → protocol.Class
+classSeen free = protocol.free
+classSeen local = protocol.local
+classSeen global = protocol.global
+
+-- 9: "For a global request at its desk: do fewer than 32 wait?"
+abbrev pub roomBy : Class → Bool → ℕ → Bool
+roomBy free own waiting = true
+roomBy local own waiting = true
+roomBy global true waiting = ltb waiting 32
+roomBy global false waiting = true
+
+module _ (ws : List ℕ) (class : Operation → Class) (records : ℕ → ℕ) where
+  abbrev pub thePlan : Plan
+  thePlan = planOf ws
+
+  -- what is no operation does nothing
+  abbrev pub ran : Operation → Store → Outcome
+  ran o s = cond (isOperation thePlan o) (run thePlan o s) (declined 0)
+
+  -- 5 for a desk with this store and a queue of as many records as desk p's
+  abbrev pub sizesFit : Store → ℕ → Bool
+  sizesFit s p = eqb (length s) 1024 && eqb (records p) 32
+
+  -- 5, 7 and 8. Question 6 holds throughout a history
+  abbrev pub requestAsked : Store → ℕ → Operation → Verdict
+  requestAsked s p o = andThen (cond (sizesFit s p) accepted (refused 5)) (operationVerdict thePlan o)
+
+  -- 5 and 10 to 15
+  abbrev pub visitAsked : Store → ℕ → ℕ → Brought → Verdict
+  visitAsked s p awaited x =
+      andThen (cond (sizesFit s p && visitBuffersFit (x .out) (x .replies)) accepted (refused 5))
+      (andThen (frameVerdict (thePlan .desks) (x .frame)) (turnVerdict (record { desk = p; waiting = 0; awaited = awaited }) (x .frame)))
+
+  abbrev pub admission : Desk Operation → Call Operation Brought → Bool
+  admission d (request p r x) =
+      isAccepted (requestAsked (d .store) p (r .op))
+      && roomBy (class (r .op)) (eqb (deskOf thePlan (r .op)) p) (length (d .queue))
+  admission d (visit p f x) = eqb (f .number) (d .awaited) && isAccepted (visitAsked (d .store) p (d .awaited) x)
+
+  abbrev pub system : System
+  system =
+      record {
+        n = thePlan .desks;
+        Op = Operation;
+        Extra = Brought;
+        Reply = Reply;
+        desk = deskOf thePlan;
+        class = λ o. classSeen (class o);
+        Reads = λ o c. IsOperation thePlan o × MayRead thePlan o c;
+        Writes = λ o c. IsOperation thePlan o × MayWrite thePlan o c;
+        reply = λ o s. ran o s .reply;
+        update = λ o s. ran o s .update;
+        join = joinLast;
+        admits = admission;
+      }

@@ -1,0 +1,202 @@
+-- A request at a desk that stands is the protocol's request, and the desk stands behind it.
+-- Assumes nothing.
+use Prim.Native.Nat.{ℕ, zero, suc, _+_, _^_, _%_, _<_}
+use mathlib.Core.Path.{_≡_, refl, sym, _∙_, ap, ap₂, subst}
+use mathlib.Core.Bool.{Bool, true, false, _&&_, cond}
+use mathlib.Core.List.{List, [], _∷_, _++_, map, map-append}
+use native.Mathlib.Numerals.{add-one}
+use native.Mathlib.Omega.{arith}
+use lib.Dec.{ltb, eqb}
+use lib.ListN.{length, getD, set, take, length-map, length-set}
+use lib.Seq.{take-suc-set, length-take-le}
+use borrow.Author.Tests.{ltb-true, eqb-true, le-leb, eq-eqb}
+use Rattle.plan.specs.Decode.{planOf}
+use Rattle.plan.specs.Admission.{every, Verdict, accepted, refused, planVerdict}
+use Rattle.plan.proofs.Bool.{and-snd, and-true}
+use Rattle.plan.proofs.Accepted.{yes-of}
+use Rattle.operation.specs.Operation.{Operation, deskOf}
+use Rattle.operation.specs.Admission.{IsOperation, operationVerdict}
+use Rattle.operation.specs.Run.{Store, Outcome, Reply}
+use Rattle.conflict.specs.Class.{Class, free, local, global, classOf}
+use Rattle.conflict.proofs.Classes.{class-free, class-local, class-global}
+use Rattle.queue.specs.declared.record.Request.{Request}
+use Rattle.conveyor.specs.declared.desk.Desk.{Desk}
+use Rattle.conveyor.specs.Queueing.{operationOf, waitingIn}
+use Rattle.conveyor.specs.Admission.{isAccepted, deskBuffersFit, waitsHere, deskStands}
+use Rattle.conveyor.specs.Request.{Requested, recordOf, served, routed, ranNow, enqueued, unchanged, requestVerdict, requestResult}
+use Rattle.conveyor.specs.Request as asked
+use Rattle.serial.specs.System.{System}
+use Rattle.serial.specs.Desk as desk
+use Rattle.serial.specs.Step as step
+use Rattle.serial.proofs.Lists.{All, All-append}
+use Rattle.history.specs.History.{Holding, requested, holdingAfter}
+use Rattle.history.specs.SerialRun.{Is, Classifies}
+use Rattle.history.proofs.Operations.{Runs}
+use Rattle.history.proofs.Protocol.{classSeen, roomBy, sizesFit, requestAsked, system}
+use Rattle.history.proofs.Outgoing.{every-last}
+use Rattle.history.proofs.Seen.{requestSeen, ran-is, one-seen}
+use Rattle.history.proofs.View.{view, responseSeen}
+use Rattle.history.proofs.Standing.{Stands, six, then-both}
+
+-- the record of a request whose parameters are words and that passes 7 and 8 holds an operation
+four-words : (ps : List ℕ) → ((i : ℕ) → getD ps i 0 < 2 ^ 32) → (i : ℕ)
+    → getD (getD ps 0 0 ∷ getD ps 1 0 ∷ getD ps 2 0 ∷ getD ps 3 0 ∷ []) i 0 < 2 ^ 32
+four-words ps h zero = h 0
+four-words ps h (suc zero) = h 1
+four-words ps h (suc (suc zero)) = h 2
+four-words ps h (suc (suc (suc zero))) = h 3
+four-words ps h (suc (suc (suc (suc i)))) = omega arith
+
+pub record-runs : (ws : List ℕ) (client k : ℕ) (ps : List ℕ) → ((i : ℕ) → getD ps i 0 < 2 ^ 32)
+    → operationVerdict (planOf ws) (operationOf (recordOf client k ps)) ≡ accepted → Runs (planOf ws) (recordOf client k ps)
+record-runs ws client k ps h e = record { four = refl; words = four-words ps h; passes = e }
+
+-- the computed class is the one over all operations
+pub class-same : (ws : List ℕ) → planVerdict ws ≡ accepted → (o : Operation) → IsOperation (planOf ws) o → (k : Class)
+    → Is (planOf ws) o k → classOf (planOf ws) o ≡ k
+class-same ws e o i free m = class-free ws e o i .1 m
+class-same ws e o i local m = class-local ws e o i .1 m
+class-same ws e o i global m = class-global ws e o i .1 m
+
+module _ (ws : List ℕ) (accept : planVerdict ws ≡ accepted) (class : Operation → Class) (right : Classifies (planOf ws) class)
+    (records : ℕ → ℕ) (h : Holding) (ok : Stands ws records (h .state .desk) h) (client k : ℕ) (ps : List ℕ)
+    (words : (i : ℕ) → getD ps i 0 < 2 ^ 32) where
+  -- the protocol of the plan
+  abbrev pub S : System
+  S = system ws class records
+
+  abbrev r : Request
+  r = recordOf client k ps
+
+  abbrev o : Operation
+  o = operationOf r
+
+  abbrev d : Desk
+  d = h .state
+
+  abbrev own : Bool
+  own = eqb (deskOf (planOf ws) o) (d .desk)
+
+  -- ---- the verdict
+
+  abbrev asking : Verdict
+  asking = requestVerdict ws d (h .cells) (h .queue) r
+
+  asking-is : asking ≡ requestAsked ws class records (h .cells) (d .desk) o
+  unfolding requestVerdict deskBuffersFit
+  asking-is = rw (accept, ok .stands, ok .size) refl
+
+  record Passes : Type 0 where
+    pub runs : IsOperation (planOf ws) o
+    pub whole : length (h .queue) ≡ 32
+
+  passes : asking ≡ accepted → Passes
+  passes e =
+      let b = then-both (cond (sizesFit ws class records (h .cells) (d .desk)) accepted (refused 5)) _ (sym asking-is ∙ e) in
+      let s = yes-of (sizesFit ws class records (h .cells) (d .desk)) accepted 5 (b .0) .0 in
+      record {
+        runs = record-runs ws client k ps words (b .1);
+        whole = ok .size ∙ eqb-true (records (d .desk)) 32 (and-snd (eqb (length (h .cells)) 1024) _ s);
+      }
+
+  -- ---- what the protocol sees
+
+  abbrev Seen : Type 0
+  Seen = desk.Desk Operation × desk.Answer Reply
+
+  abbrev seen : Requested → Seen
+  seen m = (view (holdingAfter h (requested m)), responseSeen client (m .answer))
+
+  waiting-count : length (map requestSeen (waitingIn (d .waiting) (h .queue))) ≡ d .waiting
+  waiting-count = length-map (waitingIn (d .waiting) (h .queue)) requestSeen ∙ length-take-le (d .waiting) (h .queue) (ok .room)
+
+  module _ (p : Passes) where
+    joined : d .waiting < 32 → take (d .waiting + 1) (set (h .queue) (d .waiting) r) ≡ take (d .waiting) (h .queue) ++ (r ∷ [])
+    joined l = rw add-one (take-suc-set (h .queue) (d .waiting) r (omega (arith, p .whole)))
+
+    now-seen : seen (ranNow d (h .cells) (h .queue) (planOf ws) o) ≡ step.requestStep S step.immediate (view h) (requestSeen r)
+    now-seen =
+        ap₂ (λ (s : Store) (m : Outcome). (record { store = s; queue = view h .queue; awaited = d .awaited }, desk.replied (client, m .reply)))
+        (sym (one-seen ws class records o (h .cells) (p .runs))) (sym (ran-is ws class records o (h .cells) (p .runs)))
+
+    join-seen : (b : Bool) → ltb (d .waiting) 32 ≡ b →
+        seen (cond b (enqueued d (h .cells) (h .queue) r) (unchanged d (h .cells) (h .queue) (asked.isRefused 9)))
+        ≡ cond b (step.requestStep S step.enqueue (view h) (requestSeen r)) (view h, desk.refused)
+    join-seen true e =
+        ap (λ (q : List (desk.Request Operation)). (record { store = h .cells; queue = q; awaited = d .awaited }, desk.waits))
+        (ap (map requestSeen) (joined (ltb-true (d .waiting) 32 e)) ∙ map-append requestSeen (take (d .waiting) (h .queue)) (r ∷ []))
+    join-seen false e = refl
+
+    routed-seen : (c : Class) (b : Bool) → seen (routed d (h .cells) (h .queue) c b (planOf ws) r)
+        ≡ cond (roomBy c b (length (view h .queue)))
+        (step.requestStep S (step.routeBy (classSeen c) b) (view h) (requestSeen r)) (view h, desk.refused)
+    routed-seen free b = now-seen
+    routed-seen local true = now-seen
+    routed-seen local false = refl
+    routed-seen global true = rw waiting-count (join-seen (ltb (d .waiting) 32) refl)
+    routed-seen global false = refl
+
+  served-seen : (v : Verdict) → (v ≡ accepted → Passes) → seen (served d (h .cells) (h .queue) v (planOf ws) r)
+      ≡ cond (isAccepted v && roomBy (class o) own (length (view h .queue)))
+      (step.requestStep S (step.routeBy (classSeen (class o)) own) (view h) (requestSeen r)) (view h, desk.refused)
+  served-seen (refused q) f = refl
+  served-seen accepted f =
+      let p : Passes = f refl in
+      ap (λ (c : Class). seen (routed d (h .cells) (h .queue) c own (planOf ws) r)) (class-same ws accept o (p .runs) (class o) (right o (p .runs)))
+      ∙ routed-seen p (class o) own
+
+  -- the state and the answer are the protocol's
+  pub request-seen : seen (requestResult ws d (h .cells) (h .queue) r)
+      ≡ step.serve S (view h) (desk.request (d .desk) (requestSeen r) (record { frame = []; out = []; replies = [] }))
+  unfolding requestResult
+  request-seen =
+      served-seen asking passes
+      ∙ ap (λ (v : Verdict). cond (isAccepted v && roomBy (class o) own (length (view h .queue)))
+      (step.requestStep S (step.routeBy (classSeen (class o)) own) (view h) (requestSeen r)) (view h, desk.refused))
+      asking-is
+
+  -- ---- the desk stands behind the call
+
+  abbrev After : Requested → Type 0
+  After m = Stands ws records (d .desk) (holdingAfter h (requested m))
+
+  kept : (cells : List ℕ) → Stands ws records (d .desk) (record { state = d; cells = cells; queue = h .queue })
+  kept cells = record { desk = refl; stands = ok .stands; size = ok .size; room = ok .room; runs = ok .runs }
+
+  joins-stands : Passes → d .waiting < 32 → classOf (planOf ws) o ≡ global → own ≡ true → After (enqueued d (h .cells) (h .queue) r)
+  unfolding deskStands waitsHere
+  joins-stands p l c b =
+      let s = six ws h (ok .stands) in
+      let here : waitsHere (planOf ws) (d .desk) r ≡ true = rw (p .runs .passes, c, b) refl in
+      record {
+        desk = refl;
+        stands = and-true _ _ (s .below)
+            (and-true _ _ (le-leb (d .waiting + 1) 32 (omega arith))
+            (and-true _ _ (eq-eqb (d .awaited % planOf ws .desks) (d .desk) (s .turn))
+            (ap (every (waitsHere (planOf ws) (d .desk))) (joined p l)
+            ∙ every-last (waitsHere (planOf ws) (d .desk)) (waitingIn (d .waiting) (h .queue)) r (s .each) here)));
+        size = length-set (h .queue) (d .waiting) r ∙ ok .size;
+        room = omega (arith, length-set (h .queue) (d .waiting) r, p .whole);
+        runs = subst (All (Runs (planOf ws))) (sym (joined p l))
+            (All-append (Runs (planOf ws)) (waitingIn (d .waiting) (h .queue)) (r ∷ []) (ok .runs) (p .runs, tt));
+      }
+
+  join-stands : Passes → classOf (planOf ws) o ≡ global → own ≡ true → (t : Bool) → ltb (d .waiting) 32 ≡ t →
+      After (cond t (enqueued d (h .cells) (h .queue) r) (unchanged d (h .cells) (h .queue) (asked.isRefused 9)))
+  join-stands p c b true e = joins-stands p (ltb-true (d .waiting) 32 e) c b
+  join-stands p c b false e = kept (h .cells)
+
+  routed-stands : Passes → (c : Class) (b : Bool) → classOf (planOf ws) o ≡ c → own ≡ b → After (routed d (h .cells) (h .queue) c b (planOf ws) r)
+  routed-stands p free b c e = kept _
+  routed-stands p local true c e = kept _
+  routed-stands p local false c e = kept _
+  routed-stands p global true c e = join-stands p c e (ltb (d .waiting) 32) refl
+  routed-stands p global false c e = kept _
+
+  served-stands : (v : Verdict) → (v ≡ accepted → Passes) → After (served d (h .cells) (h .queue) v (planOf ws) r)
+  served-stands (refused q) f = kept _
+  served-stands accepted f = routed-stands (f refl) (classOf (planOf ws) o) own refl refl
+
+  pub request-stands : After (requestResult ws d (h .cells) (h .queue) r)
+  unfolding requestResult
+  request-stands = served-stands asking passes

@@ -1,0 +1,68 @@
+-- What a history keeps of a desk's holding: question 6 is answered by yes, and every waiting record is an operation.
+-- Assumes nothing.
+use Prim.Native.Nat.{ℕ, _%_, _≤_, _<_}
+use mathlib.Core.Path.{_≡_, refl}
+use mathlib.Core.Bool.{true}
+use mathlib.Core.List.{List}
+use native.Mathlib.Nat.{mod-eq-of-lt}
+use native.Mathlib.Omega.{arith}
+use lib.Dec.{ltb, leb, eqb}
+use lib.ListN.{length}
+use borrow.Author.Tests.{leb-true, eqb-true, lt-ltb, eq-eqb}
+use Rattle.plan.specs.Decode.{planOf}
+use Rattle.plan.specs.Admission.{every, Verdict, accepted, refused}
+use Rattle.plan.proofs.Bool.{and-fst, and-snd, and-true}
+use Rattle.token.specs.Admission.{andThen}
+use Rattle.queue.specs.declared.record.Request.{Request}
+use Rattle.conveyor.specs.Queueing.{waitingIn}
+use Rattle.conveyor.specs.Admission.{waitsHere, deskStands}
+use Rattle.serial.proofs.Lists.{All}
+use Rattle.history.specs.History.{Holding, start}
+use Rattle.history.proofs.Operations.{Runs}
+
+-- desk p's holding; records p is how many records its queue has
+pub record Stands (ws : List ℕ) (records : ℕ → ℕ) (p : ℕ) (h : Holding) : Type 0 where
+  pub desk : h .state .desk ≡ p
+  pub stands : deskStands (planOf ws) (h .state) (h .queue) ≡ true
+  pub size : length (h .queue) ≡ records p
+  pub room : h .state .waiting ≤ length (h .queue)
+  pub runs : All (Runs (planOf ws)) (waitingIn (h .state .waiting) (h .queue))
+
+-- 6, part by part
+pub record Six (ws : List ℕ) (h : Holding) : Type 0 where
+  pub below : ltb (h .state .desk) (planOf ws .desks) ≡ true
+  pub few : h .state .waiting ≤ 32
+  pub turn : h .state .awaited % planOf ws .desks ≡ h .state .desk
+  pub each : every (waitsHere (planOf ws) (h .state .desk)) (waitingIn (h .state .waiting) (h .queue)) ≡ true
+
+pub six : (ws : List ℕ) (h : Holding) → deskStands (planOf ws) (h .state) (h .queue) ≡ true → Six ws h
+unfolding deskStands
+six ws h e =
+    let a = and-snd (ltb (h .state .desk) (planOf ws .desks)) _ e in
+    let b = and-snd (leb (h .state .waiting) 32) _ a in
+    record {
+      below = and-fst _ _ e;
+      few = leb-true (h .state .waiting) 32 (and-fst _ _ a);
+      turn = eqb-true (h .state .awaited % planOf ws .desks) (h .state .desk) (and-fst _ _ b);
+      each = and-snd (eqb (h .state .awaited % planOf ws .desks) (h .state .desk)) _ b;
+    }
+
+-- a new desk stands
+pub start-stands : (ws cells : List ℕ) (rows : ℕ → List Request) (p : ℕ) → p < planOf ws .desks →
+    Stands ws (λ q. length (rows q)) p (start cells rows p)
+unfolding deskStands every
+start-stands ws cells rows p h =
+    record {
+      desk = refl;
+      stands = and-true _ _ (lt-ltb p (planOf ws .desks) h)
+          (and-true _ _ refl (and-true _ _ (eq-eqb (p % planOf ws .desks) p (mod-eq-of-lt h)) refl));
+      size = refl;
+      room = omega arith;
+      runs = tt;
+    }
+
+-- ---- verdicts one after another
+
+pub then-both : (v w : Verdict) → andThen v w ≡ accepted → (v ≡ accepted) × (w ≡ accepted)
+then-both accepted w e = (refl, e)
+then-both (refused q) w e = let z : _≡_ {A = ℕ} 0 1 = cc in absurd (omega arith)

@@ -1,0 +1,55 @@
+-- Holdings, calls and outcomes of the engine through the eyes of the protocol.
+-- Assumes nothing.
+use Prim.Native.Nat.{ℕ}
+use mathlib.Core.List.{List, [], map}
+use lib.ListN.{take}
+use Rattle.plan.specs.Decode.{planOf}
+use Rattle.operation.specs.Operation.{Operation}
+use Rattle.operation.specs.Run.{Reply}
+use Rattle.conveyor.specs.Queueing.{waitingIn}
+use Rattle.conveyor.specs.Request.{recordOf}
+use Rattle.conveyor.specs.Request as asked
+use Rattle.conveyor.specs.Visit.{caughtUp}
+use Rattle.conveyor.specs.Visit as passing
+use Rattle.conveyor.specs.Waiting.{Answered, repliesOf}
+use Rattle.serial.specs.Desk as desk
+use Rattle.history.specs.History.{Holding, Call, request, visit, Outcome, requested, visited}
+use Rattle.history.proofs.Protocol.{Brought}
+use Rattle.history.proofs.Seen.{requestSeen, frameSeen, answeredSeen}
+
+-- the store, the waiting requests and the awaited number
+abbrev pub view : Holding → desk.Desk Operation
+view h =
+    record {
+      store = h .cells;
+      queue = map requestSeen (waitingIn (h .state .waiting) (h .queue));
+      awaited = h .state .awaited;
+    }
+
+abbrev pub callSeen : Call → desk.Call Operation Brought
+callSeen (request p client k ps) = desk.request p (requestSeen (recordOf client k ps)) (record { frame = []; out = []; replies = [] })
+callSeen (visit p frame out replies) = desk.visit p (frameSeen frame) (record { frame = frame; out = out; replies = replies })
+
+abbrev pub responseSeen : ℕ → asked.Response → desk.Answer Reply
+responseSeen client (asked.replied r) = desk.replied (client, r)
+responseSeen client asked.waits = desk.waits
+responseSeen client (asked.redirected d) = desk.redirected d
+responseSeen client (asked.isRefused question) = desk.refused
+
+-- a visit's answer with its outgoing words, and the replies whose words stand in the reply buffer
+abbrev pub passageSeen : passing.Passage → List ℕ → List Answered → desk.Answer Reply
+passageSeen (passing.forwarded words count) out rs = desk.forwarded (frameSeen (take words out)) (map answeredSeen rs)
+passageSeen (passing.isRefused question) out rs = desk.refused
+
+abbrev pub outcomeSeen : Call → Outcome → List Answered → desk.Answer Reply
+outcomeSeen (request p client k ps) (requested r) rs = responseSeen client (r .answer)
+outcomeSeen (request p client k ps) (visited v) rs = desk.refused
+outcomeSeen (visit p frame out replies) (requested r) rs = desk.refused
+outcomeSeen (visit p frame out replies) (visited v) rs = passageSeen (v .answer) (v .out) rs
+
+-- the replies of the requests that a visit runs
+abbrev pub repliesRun : List ℕ → Holding → Call → List Answered
+repliesRun ws h (request p client k ps) = []
+repliesRun ws h (visit p frame out replies) =
+    repliesOf (planOf ws) (waitingIn (h .state .waiting) (h .queue))
+    (caughtUp (planOf ws) (h .state) (h .cells) (h .queue) frame out replies)

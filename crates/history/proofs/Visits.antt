@@ -1,0 +1,215 @@
+-- A visit at a desk that stands is the protocol's visit; what it writes is read back; and the desk stands behind it.
+-- Assumes nothing.
+use Prim.Native.Nat.{ℕ, _+_, _%_, _≤_, _<_}
+use mathlib.Core.Path.{_≡_, refl, sym, _∙_, ap, ap₂}
+use mathlib.Core.Bool.{Bool, true, false, _&&_, cond}
+use mathlib.Core.List.{List, [], _++_, map, map-append}
+use native.Mathlib.Nat.{add-mod-right}
+use native.Mathlib.Numerals.{add-one}
+use native.Mathlib.Omega.{arith}
+use lib.Dec.{eqb}
+use lib.ListN.{length, drop}
+use lib.Seq.{take-append-seam, length-take-le}
+use borrow.Author.Tests.{ltb-true, eqb-true, eq-eqb}
+use Rattle.word.specs.Field.{addressedDesk}
+use Rattle.plan.specs.Decode.{headOf, planOf}
+use Rattle.plan.specs.Admission.{every, Verdict, accepted, refused, planVerdict}
+use Rattle.plan.proofs.Bool.{and-true}
+use Rattle.plan.proofs.Accepted.{yes-of, accepted-gives, desk-count}
+use Rattle.operation.specs.Operation.{Operation}
+use Rattle.operation.specs.Run.{Store, Update, Reply}
+use Rattle.conflict.specs.Class.{Class}
+use Rattle.token.specs.Frame.{SentUpdate, sent}
+use Rattle.token.specs.Admission.{frameVerdict, frameVisit, frameUpdates, ReadsAs}
+use Rattle.token.proofs.RoundTrip.{reads-written, written-reads}
+use Rattle.queue.specs.declared.record.Request.{Request}
+use Rattle.conveyor.specs.declared.desk.Desk.{Desk}
+use Rattle.conveyor.specs.Queueing.{waitingIn}
+use Rattle.conveyor.specs.Admission.{isAccepted, deskBuffersFit, visitBuffersFit, deskStands, turnVerdict}
+use Rattle.conveyor.specs.Visit.{Visited, foreign, applyAll, caughtUp, outgoingUpdates, outgoingFrame, passed, visitedBy, visitVerdict}
+use Rattle.conveyor.specs.Visit.{visitResult}
+use Rattle.conveyor.specs.Waiting.{runAll, updatesOf, repliesOf}
+use Rattle.serial.specs.System.{System}
+use Rattle.serial.specs.Store as store
+use Rattle.serial.specs.Frame as frame
+use Rattle.serial.specs.Desk as desk
+use Rattle.serial.specs.Step as step
+use Rattle.history.specs.History.{Holding, visited, holdingAfter}
+use Rattle.history.proofs.Protocol.{Brought, visitAsked, system}
+use Rattle.history.proofs.Outgoing.{outgoing-formed}
+use Rattle.history.proofs.Seen.{requestSeen, updateSeen, frameSeen, answeredSeen, foreign-seen, apply-seen, sent-seen, runAll-seen}
+use Rattle.history.proofs.Seen.{updates-seen, replies-seen}
+use Rattle.history.proofs.View.{view, passageSeen}
+use Rattle.history.proofs.Standing.{Stands, six, then-both}
+
+and-false : (a : Bool) → (a && false) ≡ false
+and-false true = refl
+and-false false = refl
+
+-- what an accepted visit shows of the frame: it reads, and its number is the awaited one
+pub record Turn (ws : List ℕ) (d : Desk) (ft : List ℕ) : Type 0 where
+  pub reads : frameVerdict (planOf ws .desks) ft ≡ accepted
+  pub number : frameVisit ft ≡ d .awaited
+
+pub turn-of : (ws : List ℕ) (d : Desk) (cells : List ℕ) (queue : List Request) (ft out replies : List ℕ) →
+    visitVerdict ws d cells queue ft out replies ≡ accepted → Turn ws d ft
+unfolding visitVerdict turnVerdict
+turn-of ws d cells queue ft out replies e =
+    let a = then-both (planVerdict ws) _ e .1 in
+    let b = then-both (cond (deskBuffersFit cells queue && visitBuffersFit out replies) accepted (refused 5)) _ a .1 in
+    let c = then-both (cond (deskStands (planOf ws) d queue) accepted (refused 6)) _ b .1 in
+    let f = then-both (frameVerdict (planOf ws .desks) ft) _ c in
+    let t = yes-of (eqb (addressedDesk (headOf ft)) (d .desk)) _ 13 (f .1) .1 in
+    record {
+      reads = f .0;
+      number = eqb-true (frameVisit ft) (d .awaited) (yes-of (eqb (frameVisit ft) (d .awaited)) _ 14 t .0);
+    }
+
+module _ (ws : List ℕ) (accept : planVerdict ws ≡ accepted) (records : ℕ → ℕ) (h : Holding)
+    (ok : Stands ws records (h .state .desk) h) (ft out replies : List ℕ) where
+  abbrev d : Desk
+  d = h .state
+
+  abbrev n : ℕ
+  n = planOf ws .desks
+
+  abbrev us : List SentUpdate
+  us = frameUpdates ft
+
+  abbrev q : List Request
+  q = waitingIn (d .waiting) (h .queue)
+
+  abbrev c : Store
+  c = caughtUp (planOf ws) d (h .cells) (h .queue) ft out replies
+
+  abbrev outs : List SentUpdate
+  outs = outgoingUpdates (planOf ws) d (h .cells) (h .queue) ft out replies
+
+  abbrev sends : List ℕ
+  sends = outgoingFrame (planOf ws) d (h .cells) (h .queue) ft out replies
+
+  abbrev passing : Visited
+  passing = passed (planOf ws) d (h .cells) (h .queue) ft out replies
+
+  abbrev asking : Verdict
+  asking = visitVerdict ws d (h .cells) (h .queue) ft out replies
+
+  -- ---- what is written reads
+
+  low : 1 ≤ n
+  low = rw (desk-count ws) (accepted-gives ws accept .desks-low)
+
+  high : n ≤ 8
+  high = rw (desk-count ws) (accepted-gives ws accept .desks-high)
+
+  below : d .desk < n
+  below = ltb-true (d .desk) n (six ws h (ok .stands) .below)
+
+  few : length q ≤ 32
+  few = omega (arith, length-take-le (d .waiting) (h .queue) (ok .room), six ws h (ok .stands) .few)
+
+  -- the outgoing frame reads as visit v + 1 with the outgoing updates
+  pub sends-reads : Turn ws d ft → ReadsAs n sends (frameVisit ft + 1) outs
+  sends-reads t =
+      written-reads n (frameVisit ft + 1) outs low high
+      (outgoing-formed ws accept (d .desk) below us q c
+      (reads-written n ft (frameVisit ft) us (record { verdict = t .reads; number = refl; sent = refl }) .1) (ok .runs) few)
+
+  -- ---- the desk stands behind the call
+
+  abbrev After : Visited → Type 0
+  After m = Stands ws records (d .desk) (holdingAfter h (visited m))
+
+  passed-stands : Turn ws d ft → After passing
+  unfolding deskStands every
+  passed-stands t =
+      let s = six ws h (ok .stands) in
+      record {
+        desk = refl;
+        stands = and-true _ _ (s .below)
+            (and-true _ _ refl
+            (and-true _ _ (eq-eqb ((frameVisit ft + n) % n) (d .desk)
+            (add-mod-right (frameVisit ft) n ∙ ap (λ (v : ℕ). v % n) (t .number) ∙ s .turn)) refl));
+        size = ok .size;
+        room = omega arith;
+        runs = tt;
+      }
+
+  visited-stands : (v : Verdict) → (v ≡ accepted → Turn ws d ft) → After (visitedBy (planOf ws) d (h .cells) (h .queue) ft out replies v)
+  visited-stands accepted f = passed-stands (f refl)
+  visited-stands (refused k) f =
+      record { desk = refl; stands = ok .stands; size = ok .size; room = ok .room; runs = ok .runs }
+
+  pub visit-stands : After (visitResult ws d (h .cells) (h .queue) ft out replies)
+  unfolding visitResult
+  visit-stands = visited-stands asking (turn-of ws d (h .cells) (h .queue) ft out replies)
+
+  -- ---- what the protocol sees
+
+  module _ (class : Operation → Class) where
+    -- the protocol of the plan
+    abbrev pub S : System
+    S = system ws class records
+
+    abbrev Seen : Type 0
+    Seen = desk.Desk Operation × desk.Answer Reply
+
+    abbrev seen : Visited → Seen
+    seen m = (view (holdingAfter h (visited m)), passageSeen (m .answer) (m .out) (repliesOf (planOf ws) q c))
+
+    abbrev brought : Brought
+    brought = record { frame = ft; out = out; replies = replies }
+
+    asking-is : asking ≡ visitAsked ws class records (h .cells) (d .desk) (d .awaited) brought
+    unfolding visitVerdict deskBuffersFit turnVerdict
+    asking-is = rw (accept, ok .stands, ok .size) refl
+
+    caught-seen : step.caughtUp S (d .desk) (view h) (frameSeen ft) ≡ c
+    caught-seen =
+        ap (λ (ts : List (ℕ × Update)). store.applyAll (frame.untag ts) (h .cells)) (foreign-seen (d .desk) us)
+        ∙ apply-seen (foreign (d .desk) us) (h .cells)
+
+    made-seen : step.made S (d .desk) (view h) (frameSeen ft) ≡ map updateSeen (map (sent (d .desk)) (updatesOf (planOf ws) q c))
+    made-seen =
+        ap (λ (s : Store). frame.tag (d .desk) (step.updatesOf S (map requestSeen q) s)) caught-seen
+        ∙ ap (frame.tag (d .desk)) (updates-seen ws class records q c (ok .runs))
+        ∙ sent-seen (d .desk) (updatesOf (planOf ws) q c)
+
+    outgoing-seen : Turn ws d ft → frameSeen sends ≡ step.outgoing S (d .desk) (view h) (frameSeen ft)
+    outgoing-seen t =
+        let r = sends-reads t in
+        ap₂ (λ (v : ℕ) (ts : List (ℕ × Update)). record { number = v; updates = ts })
+        (r .number ∙ add-one (frameVisit ft))
+        (ap (map updateSeen) (r .sent)
+        ∙ map-append updateSeen (foreign (d .desk) us) (map (sent (d .desk)) (updatesOf (planOf ws) q c))
+        ∙ ap₂ _++_ (sym (foreign-seen (d .desk) us)) (sym made-seen))
+
+    store-seen : runAll (planOf ws) q c ≡ step.runAll S (map requestSeen q)
+        (step.caughtUp S (d .desk) (view h) (frameSeen ft))
+    store-seen =
+        sym (ap (step.runAll S (map requestSeen q)) caught-seen ∙ runAll-seen ws class records q c (ok .runs))
+
+    given-seen : map answeredSeen (repliesOf (planOf ws) q c) ≡ step.repliesOf S (map requestSeen q)
+        (step.caughtUp S (d .desk) (view h) (frameSeen ft))
+    given-seen =
+        sym (ap (step.repliesOf S (map requestSeen q)) caught-seen ∙ replies-seen ws class records q c (ok .runs))
+
+    passed-seen : Turn ws d ft → seen passing ≡ step.visitStep S (d .desk) (view h) (frameSeen ft)
+    passed-seen t =
+        ap₂ (λ (s : Store) (a : desk.Answer Reply). (record { store = s; queue = []; awaited = frameVisit ft + n }, a)) store-seen
+        (ap₂ desk.forwarded (ap frameSeen (take-append-seam sends (drop (length sends) out)) ∙ outgoing-seen t) given-seen)
+
+    visited-seen : (v : Verdict) → (v ≡ accepted → Turn ws d ft) → seen (visitedBy (planOf ws) d (h .cells) (h .queue) ft out replies v)
+        ≡ cond (eqb (frameVisit ft) (d .awaited) && isAccepted v)
+        (step.visitStep S (d .desk) (view h) (frameSeen ft)) (view h, desk.refused)
+    visited-seen accepted f = rw (eq-eqb (frameVisit ft) (d .awaited) (f refl .number)) (passed-seen (f refl))
+    visited-seen (refused k) f = rw (and-false (eqb (frameVisit ft) (d .awaited))) refl
+
+    -- the state and the answer are the protocol's
+    pub visit-seen : seen (visitResult ws d (h .cells) (h .queue) ft out replies)
+        ≡ step.serve S (view h) (desk.visit (d .desk) (frameSeen ft) brought)
+    unfolding visitResult
+    visit-seen =
+        visited-seen asking (turn-of ws d (h .cells) (h .queue) ft out replies)
+        ∙ ap (λ (v : Verdict). cond (eqb (frameVisit ft) (d .awaited) && isAccepted v)
+        (step.visitStep S (d .desk) (view h) (frameSeen ft)) (view h, desk.refused)) asking-is

@@ -1,0 +1,65 @@
+-- Demand 3: "a single claim about a whole history, not one for each call".
+use Prim.Native.Nat.{ℕ, suc}
+use mathlib.Core.Path.{_≡_}
+use mathlib.Core.List.{List, [], _∷_, map}
+use lib.ListN.{length, getD}
+use Rattle.plan.specs.Plan.{Plan}
+use Rattle.plan.specs.Decode.{planOf}
+use Rattle.plan.specs.Admission.{planVerdict, accepted}
+use Rattle.operation.specs.Operation.{Operation}
+use Rattle.operation.specs.Run.{Store}
+use Rattle.conflict.specs.Class.{Class, JustOne}
+use Rattle.token.specs.Frame.{overwritten}
+use Rattle.queue.specs.declared.record.Request.{Request}
+use Rattle.conveyor.specs.Request as asked
+use Rattle.conveyor.specs.Visit as passing
+use Rattle.conveyor.specs.Waiting.{Answered, repliesWords}
+use Rattle.history.specs.History.{Holding, Call, request, visit, Outcome, requested, visited, isRefused, outcomes, holdingsAfter}
+use Rattle.history.specs.History.{start, ProperFromStart}
+use Rattle.history.specs.SerialRun.{Classifies, Serial, serial, order, storeAfter, due}
+
+-- ---- what a call gives
+
+-- "A request finished at once is answered with its reply": the replies of a request's answer, with the client's word
+abbrev pub repliesIn : ℕ → asked.Response → List Answered
+repliesIn client (asked.replied r) = record { client = client; reply = r } ∷ []
+repliesIn client asked.waits = []
+repliesIn client (asked.redirected d) = []
+repliesIn client (asked.isRefused question) = []
+
+-- "A visit puts out the replies of what it finished, in that order and with their clients' words, and its count is how many they
+-- are": rs stand in the reply buffer, whose words past them are as they were; `before` are its words before the visit
+abbrev pub PutsOut : passing.Passage → List ℕ → List ℕ → List Answered → Type 0
+PutsOut (passing.forwarded words count) before after rs = (count ≡ length rs) × (after ≡ overwritten (repliesWords rs) before)
+PutsOut (passing.isRefused question) before after rs = (rs ≡ []) × (after ≡ before)
+
+-- the call with this outcome gives these replies, and no other
+abbrev pub Gives : Call → Outcome → List Answered → Type 0
+Gives (request p client k ps) (requested r) rs = repliesIn client (r .answer) ≡ rs
+Gives (request p client k ps) (visited v) rs = ⊥
+Gives (visit p frame out replies) (requested r) rs = ⊥
+Gives (visit p frame out replies) (visited v) rs = PutsOut (v .answer) replies (v .replies) rs
+
+-- each of the calls, the first of them number i, gives the replies due to it
+abbrev pub EachGives : (ℕ → List Answered) → ℕ → List Call → List Outcome → Type 0
+EachGives replies i [] os = Unit {0}
+EachGives replies i (c ∷ cs) [] = ⊥
+EachGives replies i (c ∷ cs) (o ∷ os) = Gives c o (replies i) × EachGives replies (suc i) cs os
+
+-- ---- the claim
+
+-- b the starting cells, os the outcomes of the calls cs, w the holdings at the end, s the serial run at the end
+pub record Serializable (p : Plan) (b : Store) (cs : List Call) (os : List Outcome) (w : ℕ → Holding) (s : Serial) : Type 0 where
+  pub all-replies : EachGives (λ i. due p i (order s) b) 0 cs os
+  -- "A cell that just one desk may touch has its serial value in that desk's book"
+  pub one-desk : (c d : ℕ) → JustOne p c d → getD (w d .cells) c 0 ≡ getD (storeAfter p (order s) b) c 0
+  -- "any other, at the desk of the latest accepted visit (desk 0 before any)"
+  pub any-other : (c : ℕ) → ((d : ℕ) → JustOne p c d → ⊥) → getD (w (s .latest) .cells) c 0 ≡ getD (storeAfter p (order s) b) c 0
+
+-- every history that satisfies the premise, "all with one plan that the plan reader accepts", from equal cells and any queues
+abbrev pub Claim : Type 0
+Claim =
+    (plan : List ℕ) → planVerdict plan ≡ accepted → (class : Operation → Class) → Classifies (planOf plan) class
+    → (cells : List ℕ) (rows : ℕ → List Request) (cs : List Call) → ProperFromStart plan cells rows cs
+    → Serializable (planOf plan) cells cs (outcomes plan (start cells rows) cs) (holdingsAfter plan (start cells rows) cs)
+    (serial (planOf plan) class cs (map isRefused (outcomes plan (start cells rows) cs)))

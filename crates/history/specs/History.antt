@@ -1,0 +1,128 @@
+-- A history of the engine: calls one after another, each at its desk, by the definitions that the contracts of `request` and `visit`
+-- cite; how it starts; and the premise on accepted frames.
+use Prim.Native.Nat.{ℕ, _^_, _<_}
+use mathlib.Core.Path.{_≡_}
+use mathlib.Core.Bool.{Bool, true, false, cond}
+use mathlib.Core.List.{List, [], _∷_, _++_, List·Memᴰ}
+use lib.Dec.{eqb}
+use lib.ListN.{getD, take}
+use Rattle.plan.specs.Decode.{planOf}
+use Rattle.token.specs.Frame.{startingFrame}
+use Rattle.queue.specs.declared.record.Request.{Request}
+use Rattle.conveyor.specs.declared.desk.Desk.{Desk}
+use Rattle.conveyor.specs.Request.{Requested, recordOf, requestResult}
+use Rattle.conveyor.specs.Request as asked
+use Rattle.conveyor.specs.Visit.{Visited, visitResult}
+use Rattle.conveyor.specs.Visit as passing
+
+-- ---- the calls
+
+-- "State, book and row": what a desk holds from call to call. The cells are its book, the queue its row of records.
+pub record Holding : Type 0 where
+  pub state : Desk
+  pub cells : List ℕ
+  pub queue : List Request
+
+-- "A history is a list of requests and visits, each at a desk"; "client, transaction, parameters, frame words and the sizes and
+-- contents of outgoing and reply buffers are any"
+pub data Call : Type 0 where
+  request : (desk client transaction : ℕ) (params : List ℕ) → Call
+  visit : (desk : ℕ) (frame out replies : List ℕ) → Call
+
+-- the desk called
+abbrev pub deskCalled : Call → ℕ
+deskCalled (request p client k ps) = p
+deskCalled (visit p frame out replies) = p
+
+-- all that a call answers and leaves
+pub data Outcome : Type 0 where
+  requested : Requested → Outcome
+  visited : Visited → Outcome
+
+-- "Accepted means not refused."
+abbrev pub responseRefused : asked.Response → Bool
+responseRefused (asked.replied r) = false
+responseRefused asked.waits = false
+responseRefused (asked.redirected d) = false
+responseRefused (asked.isRefused question) = true
+
+abbrev pub passageRefused : passing.Passage → Bool
+passageRefused (passing.forwarded words replies) = false
+passageRefused (passing.isRefused question) = true
+
+abbrev pub isRefused : Outcome → Bool
+isRefused (requested r) = responseRefused (r .answer)
+isRefused (visited v) = passageRefused (v .answer)
+
+-- what the desk holds behind the call. "the row of records is untouched" by a visit
+abbrev pub holdingAfter : Holding → Outcome → Holding
+holdingAfter h (requested r) = record { state = r .state; cells = r .cells; queue = r .queue }
+holdingAfter h (visited v) = record { state = v .state; cells = v .cells; queue = h .queue }
+
+-- the frame that an accepted visit wrote: the first `words` words of its outgoing buffer, `words` being its answer
+abbrev pub frameWritten : passing.Passage → List ℕ → List (List ℕ)
+frameWritten (passing.forwarded words replies) out = take words out ∷ []
+frameWritten (passing.isRefused question) out = []
+
+abbrev pub written : Outcome → List (List ℕ)
+written (requested r) = []
+written (visited v) = frameWritten (v .answer) (v .out)
+
+-- ---- the course. The function f with x at p:
+abbrev pub assign : {A : Type 0} → ℕ → A → (ℕ → A) → ℕ → A
+assign p x f q = cond (eqb q p) x (f q)
+
+module _ (plan : List ℕ) where
+  -- the call at a desk with this holding
+  abbrev pub outcome : Holding → Call → Outcome
+  outcome h (request p client k ps) = requested (requestResult plan (h .state) (h .cells) (h .queue) (recordOf client k ps))
+  outcome h (visit p frame out replies) = visited (visitResult plan (h .state) (h .cells) (h .queue) frame out replies)
+
+  abbrev pub outcomeAt : (ℕ → Holding) → Call → Outcome
+  outcomeAt w c = outcome (w (deskCalled c)) c
+
+  -- "State, book and row pass from call to call at their desk."
+  abbrev pub stepAt : (ℕ → Holding) → Call → ℕ → Holding
+  stepAt w c = assign (deskCalled c) (holdingAfter (w (deskCalled c)) (outcomeAt w c)) w
+
+  abbrev pub outcomes : (ℕ → Holding) → List Call → List Outcome
+  outcomes w [] = []
+  outcomes w (c ∷ cs) = outcomeAt w c ∷ outcomes (stepAt w c) cs
+
+  abbrev pub holdingsAfter : (ℕ → Holding) → List Call → ℕ → Holding
+  holdingsAfter w [] = w
+  holdingsAfter w (c ∷ cs) = holdingsAfter (stepAt w c) cs
+
+-- ---- the start
+
+-- "A new desk p awaits p with none waiting"
+abbrev pub newState : ℕ → Desk
+newState p = record { desk = p; waiting = 0; awaited = p }
+
+-- "At its start each desk is as the new desk call gives it, the books are equal, the rows hold anything."
+abbrev pub start : List ℕ → (ℕ → List Request) → ℕ → Holding
+start cells rows p = record { state = newState p; cells = cells; queue = rows p }
+
+-- ---- the premise
+
+-- parameters are words
+abbrev pub WordsFit : Call → Type 0
+WordsFit (request p client k ps) = (i : ℕ) → getD ps i 0 < 2 ^ 32
+WordsFit (visit p frame out replies) = Unit {0}
+
+-- the frame is, word for word, one of these
+abbrev pub FrameAmong : List (List ℕ) → Call → Type 0
+FrameAmong frames (request p client k ps) = Unit {0}
+FrameAmong frames (visit p frame out replies) = List·Memᴰ frame frames
+
+-- "each at a desk below n", and an accepted frame is the starting frame or one that an earlier accepted visit wrote: `frames` are
+-- those so far. A refused visit may bring any frame.
+abbrev pub Proper : List ℕ → (ℕ → Holding) → List (List ℕ) → List Call → Type 0
+Proper plan w frames [] = Unit {0}
+Proper plan w frames (c ∷ cs) =
+    (deskCalled c < planOf plan .desks) × WordsFit c
+    × (isRefused (outcomeAt plan w c) ≡ false → FrameAmong frames c)
+    × Proper plan (stepAt plan w c) (frames ++ written (outcomeAt plan w c)) cs
+
+abbrev pub ProperFromStart : List ℕ → List ℕ → (ℕ → List Request) → List Call → Type 0
+ProperFromStart plan cells rows cs = Proper plan (start cells rows) (startingFrame ∷ []) cs

@@ -1,0 +1,4 @@
+pub mod History
+pub mod Order
+pub mod SerialRun
+pub mod Claim
