@@ -10,7 +10,7 @@ use Rattle.plan.specs.Decode.{headOf}
 use Rattle.plan.specs.Admission.{every, Verdict, accepted, refused}
 use Rattle.operation.specs.Operation.{deskOf}
 use Rattle.operation.specs.Admission.{operationVerdict}
-use Rattle.conflict.specs.Class.{Class, free, local, global, classOf}
+use Rattle.conflict.specs.Class.{isGlobal, classOf}
 use Rattle.token.specs.Admission.{frameVisit}
 use Rattle.queue.specs.declared.record.Request.{Request}
 use Rattle.conveyor.specs.declared.desk.Desk.{Desk}
@@ -19,11 +19,6 @@ use Rattle.conveyor.specs.Queueing.{operationOf, waitingIn}
 abbrev pub isAccepted : Verdict → Bool
 isAccepted accepted = true
 isAccepted (refused question) = false
-
-abbrev pub isGlobal : Class → Bool
-isGlobal free = false
-isGlobal local = false
-isGlobal global = true
 
 -- 5: "book exactly 1,024, row exactly 32"
 unfoldable pub deskBuffersFit : List ℕ → List Request → Bool
