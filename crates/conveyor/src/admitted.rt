@@ -38,7 +38,11 @@ pub(crate) fn operation_desk(plan: &[u32], request: Request) -> u32
     ensures { λ r. ⌜ r ≡ deskOf (planOf (now (plan .entry))) (operationOf request) ⌝ }
 {
     let at = plan::transaction_place(plan, request.transaction);
-    operation::desk(plan[at], plan[0] / fields::DESKS % 16, queue::params(request))
+    operation::desk(
+        plan[at],
+        plan[0] / fields::DESKS % 16,
+        queue::params(request),
+    )
 }
 
 pub(crate) fn operation_class(plan: &[u32], request: Request) -> Class

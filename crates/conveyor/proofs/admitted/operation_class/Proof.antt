@@ -15,9 +15,11 @@ params-requires c κs = search needs
 class-of-requires : tie.Need-class-of-requires
 class-of-requires c κs =
     let e = c .before in
-    let d = e .before .before in
-    (d .pre .planned, admitted-stands (d .args .plan .now) (d .args .request) (d .pre) _ (e .transaction-place .ensures),
-    parameters-passed (d .args .plan .now) (d .args .request) (d .pre) _ (e .transaction-place .ensures) _ (c .params .ensures))
+    let d = e .before .before in (
+      d .pre .planned,
+      admitted-stands (d .args .plan .now) (d .args .request) (d .pre) _ (e .transaction-place .ensures),
+      parameters-passed (d .args .plan .now) (d .args .request) (d .pre) _ (e .transaction-place .ensures) _ (c .params .ensures),
+    )
 
 returns : tie.Need-returns
 returns c =

@@ -20,9 +20,10 @@ run-requires : tie.Need-run-requires
 run-requires c κs =
     let f = c .before in
     let e = f .before in
-    let d = e .before .before .before in
-    (admitted-stands (d .args .plan .now) (d .args .request) (d .pre) _ (e .transaction-place .ensures),
-    parameters-passed (d .args .plan .now) (d .args .request) (d .pre) _ (e .transaction-place .ensures) _ (f .params .ensures))
+    let d = e .before .before .before in (
+      admitted-stands (d .args .plan .now) (d .args .request) (d .pre) _ (e .transaction-place .ensures),
+      parameters-passed (d .args .plan .now) (d .args .request) (d .pre) _ (e .transaction-place .ensures) _ (f .params .ensures),
+    )
 
 apply-requires : tie.Need-apply-requires
 apply-requires c κs = search needs
@@ -47,9 +48,10 @@ returns : tie.Need-returns
 returns c =
     let e = c .before .before .before in
     let g = e .before .before .before in
-    let d = g .before .before .before .before .before .before in
-    (ap (λ (o : Outcome). o .reply) (ran g),
-    e .apply .ensures ∙ ap (λ (o : Outcome). applyUpdate (o .update) (d .args .cells .now)) (ran g))
+    let d = g .before .before .before .before .before .before in (
+      ap (λ (o : Outcome). o .reply) (ran g),
+      e .apply .ensures ∙ ap (λ (o : Outcome). applyUpdate (o .update) (d .args .cells .now)) (ran g),
+    )
 
 pub run-operation-spec : {M : Type 1} → statement M
 run-operation-spec =

@@ -73,10 +73,13 @@ loop-less c = search needs
 loop-again : tie.Need-loop-again Inv-loop μ-loop
 loop-again c =
     let e = c .before .before .before .before .before in
-    let d = e .before .before .before in
-    (search needs, e .loop .inv .1, turned (c .before)
-    ∙ ap (λ (b : Bool). b && every (waitsHere (planOf (d .args .plan .now)) (d .args .desk))
-    (drop (e .loop .i + 1) (take (d .args .waiting) (d .args .t4)))) (not-false (c .before .waits-here .result) (c .if1 .left)))
+    let d = e .before .before .before in (
+      search needs,
+      e .loop .inv .1,
+      turned (c .before)
+          ∙ ap (λ (b : Bool). b && every (waitsHere (planOf (d .args .plan .now)) (d .args .desk))
+          (drop (e .loop .i + 1) (take (d .args .waiting) (d .args .t4)))) (not-false (c .before .waits-here .result) (c .if1 .left)),
+    )
 
 returns-2 : tie.Need-returns-2 Inv-loop μ-loop
 returns-2 c =

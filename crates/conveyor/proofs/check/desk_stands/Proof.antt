@@ -1,53 +1,68 @@
+-- Question 6: each answer is the branch of the definition that the tests before it chose.
+-- Assumes nothing.
+use mathlib.Core.Path.{_≡_, _∙_, sym}
+use Rattle.plan.specs.Decode.{planOf}
+use Rattle.plan.specs.Admission.{every}
+use Rattle.plan.proofs.Accepted.{accepted-gives}
+use Rattle.conveyor.specs.Queueing.{waitingIn}
+use Rattle.conveyor.specs.Admission.{waitsHere, deskStands}
+use Rattle.conveyor.proofs.Standing.{desk-out, too-many, other-visit, by-records, none-waits}
 use borrow.Author.Needs.{needs}
 use Rattle.conveyor.proofs.check.desk_stands.Statement.{statement}
 use Rattle.conveyor.proofs.check.desk_stands.Tie as tie
-use Rattle.conveyor.proofs.check.desk_stands.Reads as reads
-use Rattle.conveyor.proofs.check.desk_stands.Lts as lts
-use Rattle.conveyor.proofs.check.all_wait_here.Reads as all-wait-here-reads
 
--- src/check.rt:51:17
 shared-slice-read-desks : tie.Need-shared-slice-read-desks
-shared-slice-read-desks c = ?
+shared-slice-read-desks c = accepted-gives _ (c .before .before .pre) .words-low
 
--- src/check.rt:53:19
 cast-waiting : tie.Need-cast-waiting
 cast-waiting c = search needs
 
--- src/check.rt:55:9
 returns : tie.Need-returns
-returns c = ?
+returns c =
+    let d = c .before .before .before .before in
+    sym (desk-out (d .args .plan .now) (d .args .state) (d .args .records) (c .if1 .taken))
 
--- src/check.rt:58:9
 returns-2 : tie.Need-returns-2
-returns-2 c = ?
+returns-2 c =
+    let e = c .before in
+    let d = e .before .before .before .before in
+    sym (too-many (d .args .plan .now) (d .args .state) (d .args .records) (e .if1 .left) (c .if2 .taken))
 
--- src/check.rt:60:24
 cast-if3 : tie.Need-cast-if3
 cast-if3 c = search needs
 
--- src/check.rt:60:8
 rem-if3 : tie.Need-rem-if3
 rem-if3 c = search needs
 
--- src/check.rt:60:40
 cast-if3-2 : tie.Need-cast-if3-2
 cast-if3-2 c = search needs
 
--- src/check.rt:61:9
 returns-3 : tie.Need-returns-3
-returns-3 c = ?
+returns-3 c =
+    let f = c .before .before in
+    let e = f .before in
+    let d = e .before .before .before .before in
+    sym (other-visit (d .args .plan .now) (d .args .state) (d .args .records) (e .if1 .left) (f .if2 .left) (c .if3 .taken))
 
--- src/check.rt:64:9
+-- the rest of the answer is the records'
+asked : (c : tie.Else3) →
+    let d = c .before .before .before .before .before .before .before in
+    deskStands (planOf (d .args .plan .now)) (d .args .state) (d .args .records)
+    ≡ every (waitsHere (planOf (d .args .plan .now)) (d .args .state .desk)) (waitingIn (d .args .state .waiting) (d .args .records))
+asked c =
+    let f = c .before .before in
+    let e = f .before in
+    let d = e .before .before .before .before in
+    by-records (d .args .plan .now) (d .args .state) (d .args .records) (e .if1 .left) (f .if2 .left) (c .if3 .left)
+
 returns-4 : tie.Need-returns-4
-returns-4 c = ?
+returns-4 c = sym (asked (c .before) ∙ none-waits _ _ _ (c .if4 .taken))
 
--- src/check.rt:66:5
 all-wait-here-requires : tie.Need-all-wait-here-requires
 all-wait-here-requires c κs = search needs
 
--- src/check.rt:47:1
 returns-5 : tie.Need-returns-5
-returns-5 c = ?
+returns-5 c = c .all-wait-here .ensures ∙ sym (asked (c .before .before))
 
 pub desk-stands-spec : {M : Type 1} → statement M
 desk-stands-spec =

@@ -49,10 +49,11 @@ admitted c = record {
 is-global-requires : tie.Need-is-global-requires
 is-global-requires c κs =
     let e = c .before in
-    let d = e .before .before .before .before .before .before in
-    (admitted-stands (d .args .plan .now) (d .args .request) (admitted (e .before)) _ (e .transaction-place .ensures),
-    parameters-passed (d .args .plan .now) (d .args .request) (admitted (e .before)) _ (e .transaction-place .ensures) _ (c .params .ensures),
-    d .pre .1)
+    let d = e .before .before .before .before .before .before in (
+      admitted-stands (d .args .plan .now) (d .args .request) (admitted (e .before)) _ (e .transaction-place .ensures),
+      parameters-passed (d .args .plan .now) (d .args .request) (admitted (e .before)) _ (e .transaction-place .ensures) _ (c .params .ensures),
+      d .pre .1,
+    )
 
 found : (c : tie.After-is-global)
     → isGlobal (classOf (planOf (c .before .before .before .before .before .before .before .before .args .plan .now))
