@@ -8,7 +8,7 @@ use native.Mathlib.Omega.{arith}
 use lib.ListN.{length, getD}
 use borrow.Author.Tests.{ltb-true}
 use Rattle.word.specs.Field.{headDesks, headTransactions, partitioningField}
-use Rattle.plan.specs.Plan.{Transaction, transactionAt}
+use Rattle.plan.specs.Plan.{Transaction}
 use Rattle.plan.specs.Decode.{planOf, headOf, partBy}
 use Rattle.plan.specs.Admission.{planVerdict, accepted, refused}
 use Rattle.plan.specs.Place.{StandsAt, transactionPlace, transactionFrom}

@@ -1,7 +1,7 @@
 -- Questions 7 and 8 of a request: each answer is the branch of the definition that the question before it chose.
 -- Assumes nothing.
 use mathlib.Core.Path.{_≡_, _∙_, sym, ap}
-use mathlib.Core.Bool.{Bool, true, false, cond}
+use mathlib.Core.Bool.{Bool, true, cond}
 use borrow.Author.Tests.{not-true, not-false}
 use Rattle.plan.specs.Decode.{planOf}
 use Rattle.plan.specs.Admission.{Verdict, accepted, refused}
@@ -37,23 +37,26 @@ parameters-pass-requires c κs =
     stands (d .args .plan .now) (d .args .request) (d .pre) (there (e .before)) _ (e .transaction-place .ensures)
 
 -- by the answer to question 8
+abbrev eighth : Bool → Verdict
+eighth passes = cond passes accepted (refused 8)
+
 found : (c : tie.After-parameters-pass)
     → operationVerdict (planOf (c .before .before .before .before .before .before .args .plan .now))
     (operationOf (c .before .before .before .before .before .before .args .request))
-    ≡ cond (c .parameters-pass .result) accepted (refused 8)
+    ≡ eighth (c .parameters-pass .result)
 found c =
     let f = c .before in
     let e = f .before in
     let d = e .before .before .before .before in
     verdict-here (d .args .plan .now) (d .args .request) (d .pre) (there (e .before)) _ (e .transaction-place .ensures) _
     (f .params .ensures)
-    ∙ ap (λ (b : Bool). cond b accepted (refused 8)) (sym (c .parameters-pass .ensures))
+    ∙ ap eighth (sym (c .parameters-pass .ensures))
 
 returns-2 : tie.Need-returns-2
-returns-2 c = sym (found (c .before) ∙ ap (λ (b : Bool). cond b accepted (refused 8)) (not-true (c .before .parameters-pass .result) (c .if2 .taken)))
+returns-2 c = sym (found (c .before) ∙ ap eighth (not-true (c .before .parameters-pass .result) (c .if2 .taken)))
 
 returns-3 : tie.Need-returns-3
-returns-3 c = sym (found (c .before) ∙ ap (λ (b : Bool). cond b accepted (refused 8)) (not-false (c .before .parameters-pass .result) (c .if2 .left)))
+returns-3 c = sym (found (c .before) ∙ ap eighth (not-false (c .before .parameters-pass .result) (c .if2 .left)))
 
 pub operation-verdict-spec : {M : Type 1} → statement M
 operation-verdict-spec =

@@ -2,7 +2,7 @@
 -- Assumes nothing.
 use mathlib.Core.Path.{_≡_, _∙_, ap}
 use Rattle.plan.specs.Decode.{planOf}
-use Rattle.operation.specs.Run.{Outcome, Update, applyUpdate, run as runOf}
+use Rattle.operation.specs.Run.{Outcome, applyUpdate, run as runOf}
 use Rattle.operation.specs.Answer.{outcomeOf}
 use Rattle.conveyor.specs.Queueing.{operationOf}
 use Rattle.conveyor.proofs.Asked.{admitted-stands, parameters-passed, run-asked}
@@ -42,7 +42,8 @@ ran c =
     let e = f .before in
     let d = e .before .before .before in
     c .run .ensures
-    ∙ run-asked (d .args .plan .now) (d .args .request) (d .pre) _ (e .transaction-place .ensures) _ (f .params .ensures) (d .args .cells .now)
+    ∙ run-asked (d .args .plan .now) (d .args .request) (d .pre) _ (e .transaction-place .ensures) _ (f .params .ensures)
+    (d .args .cells .now)
 
 returns : tie.Need-returns
 returns c =

@@ -1,14 +1,12 @@
 -- Question 6 of one record: each answer is the branch of the definition that the tests before it chose.
 -- Assumes nothing.
 use mathlib.Core.Path.{_≡_, _∙_, sym, ap}
-use mathlib.Core.Bool.{Bool, true, false}
 use borrow.Author.Tests.{not-true, not-false}
 use lib.Dec.{eqb}
 use Prim.Native.Nat.{ℕ}
 use Rattle.plan.specs.Decode.{planOf}
-use Rattle.plan.specs.Admission.{accepted}
 use Rattle.plan.specs.Answer.{verdictOf}
-use Rattle.conflict.specs.Class.{Class, isGlobal, classOf}
+use Rattle.conflict.specs.Class.{isGlobal, classOf}
 use Rattle.conveyor.specs.Queueing.{operationOf}
 use Rattle.conveyor.specs.Admission.{Admitted}
 use Rattle.conveyor.proofs.Asked.{admitted-stands, parameters-passed, class-asked}
@@ -49,9 +47,10 @@ admitted c = record {
 is-global-requires : tie.Need-is-global-requires
 is-global-requires c κs =
     let e = c .before in
-    let d = e .before .before .before .before .before .before in (
-      admitted-stands (d .args .plan .now) (d .args .request) (admitted (e .before)) _ (e .transaction-place .ensures),
-      parameters-passed (d .args .plan .now) (d .args .request) (admitted (e .before)) _ (e .transaction-place .ensures) _ (c .params .ensures),
+    let d = e .before .before .before .before .before .before in
+    let a = admitted (e .before) in (
+      admitted-stands (d .args .plan .now) (d .args .request) a _ (e .transaction-place .ensures),
+      parameters-passed (d .args .plan .now) (d .args .request) a _ (e .transaction-place .ensures) _ (c .params .ensures),
       d .pre .1,
     )
 

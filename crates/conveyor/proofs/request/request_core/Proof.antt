@@ -1,9 +1,12 @@
 -- The request: refused with the verdict's number, or left as its route leaves it.
 -- Assumes nothing.
 use mathlib.Core.Path.{_≡_, _∙_, sym, ap}
-use Rattle.plan.specs.Admission.{accepted}
+use mathlib.Core.List.{List}
+use lib.ListN.{length}
 use Rattle.plan.specs.Answer.{verdictOf}
-use Rattle.conveyor.specs.Step.{stepVerdict}
+use Rattle.queue.specs.Queue.{recordsOf}
+use Rattle.queue.specs.declared.record.Request.{Request}
+use Rattle.conveyor.specs.Request.{requestVerdict}
 use Rattle.conveyor.proofs.Handed.{same-verdict, admitted-by}
 use Rattle.conveyor.proofs.Routes.{left-by-refusal, left-by-route}
 use borrow.Author.Needs.{needs}
@@ -22,26 +25,29 @@ unchanged-step-requires c κs = search needs
 same-length : tie.Need-same-length
 same-length c = search needs
 
+-- the queue that it is handed for has the verdict found
+found : (c : tie.After-request-verdict) →
+    let d = c .before .before .before .before in
+    (queue : List Request) → length queue ≡ d .args .size → recordsOf queue ≡ d .args .records
+    → requestVerdict (d .args .plan .now) (d .args .state) (d .args .cells .now) queue (d .args .request)
+    ≡ verdictOf (c .request-verdict .result)
+found c queue l q = same-verdict _ _ _ _ _ _ queue l q ∙ sym (c .request-verdict .ensures)
+
 returns : tie.Need-returns
 returns c = λ queue l q.
     let e = c .before .before .before .before in
     let d = e .before .before .before .before in
     c .unchanged-step .ensures (d .args .cells .now) queue l
     ∙ sym (left-by-refusal (d .args .plan .now) (d .args .state) (d .args .cells .now) queue (d .args .request) _
-    (same-verdict (d .args .plan .now) (d .args .state) (d .args .cells .now) (d .args .size) (d .args .records) (d .args .request) queue l q
-    ∙ sym (e .request-verdict .ensures) ∙ ap verdictOf (c .before .before .question .given .1)))
+    (found e queue l q ∙ ap verdictOf (c .before .before .question .given .1)))
 
 enum-told : tie.Need-enum-told
 enum-told c = search needs
 
--- questions 1 to 8 are answered with yes
-passes : (c : tie.After-enum-told) →
-    let d = c .before .before .before .before .before .before in
-    stepVerdict (d .args .plan .now) (d .args .state) (d .args .cells .now) (d .args .size) (d .args .records) (d .args .request) ≡ accepted
-passes c = sym (c .before .before .request-verdict .ensures) ∙ ap verdictOf (c .enum-told .given .1)
-
 routed-step-requires : tie.Need-routed-step-requires
-routed-step-requires c κs = admitted-by _ _ _ _ _ _ (passes (c .before))
+routed-step-requires c κs =
+    let e = c .before in
+    admitted-by _ _ _ _ _ _ (sym (e .before .before .request-verdict .ensures) ∙ ap verdictOf (e .enum-told .given .1))
 
 same-length-2 : tie.Need-same-length-2
 same-length-2 c = search needs
@@ -52,8 +58,7 @@ returns-2 c = λ queue l q.
     let d = e .before .before .before .before .before .before in
     c .before .before .routed-step .ensures queue l
     ∙ sym (left-by-route (d .args .plan .now) (d .args .state) (d .args .cells .now) queue (d .args .request)
-    (same-verdict (d .args .plan .now) (d .args .state) (d .args .cells .now) (d .args .size) (d .args .records) (d .args .request) queue l q
-    ∙ passes e))
+    (found (e .before .before) queue l q ∙ ap verdictOf (e .enum-told .given .1)))
 
 pub request-core-spec : {M : Type 1} → statement M
 request-core-spec =

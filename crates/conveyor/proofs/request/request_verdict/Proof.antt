@@ -1,7 +1,6 @@
 -- Questions 1 to 8: each answer is the branch of the definition that the questions before it chose.
 -- Assumes nothing.
 use mathlib.Core.Path.{_≡_, _∙_, sym, ap}
-use mathlib.Core.Bool.{true, false}
 use borrow.Author.Tests.{not-true, not-false}
 use Rattle.plan.specs.Admission.{planVerdict, accepted}
 use Rattle.plan.specs.Answer.{verdictOf}

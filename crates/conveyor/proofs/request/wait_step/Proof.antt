@@ -1,7 +1,5 @@
 -- Question 9, and the state and record of a request that waits.
 -- Assumes nothing.
-use mathlib.Core.Path.{_∙_, sym, ap}
-use mathlib.Core.Bool.{Bool, cond}
 use borrow.Author.Tests.{lt-ltb, le-ltb}
 use borrow.Author.Needs.{needs}
 use Rattle.conveyor.proofs.request.wait_step.Statement.{statement}
