@@ -5,7 +5,6 @@ use mathlib.Core.Bool.{Bool, true, false, cond}
 use mathlib.Core.List.{List}
 use Prim.Native.Nat.{ℕ}
 use lib.Dec.{ltb, eqb}
-use borrow.Author.Tests.{eq-eqb, ne-eqb}
 use Rattle.plan.specs.Plan.{Plan}
 use Rattle.plan.specs.Decode.{planOf}
 use Rattle.plan.specs.Admission.{Verdict, accepted, refused}
@@ -37,28 +36,23 @@ module _ (p : Plan) (d : Desk) (cells : List ℕ) (queue : List Request) (r : Re
   goes-free e = ap (λ (x : Class). routed d cells queue x (eqb (deskOf p (operationOf r)) (d .desk)) p r) e
 
   module _ (n : ℕ) (g : n ≡ deskOf p (operationOf r)) where
-    own : n ≡ d .desk → eqb (deskOf p (operationOf r)) (d .desk) ≡ true
-    own h = eq-eqb _ _ (sym g ∙ h)
-
-    other : (n ≡ d .desk → ⊥) → eqb (deskOf p (operationOf r)) (d .desk) ≡ false
-    other h = ne-eqb _ _ (λ e. h (g ∙ e))
-
-    by-both : (x : Class) (b : Bool) → k ≡ x → eqb (deskOf p (operationOf r)) (d .desk) ≡ b
+    routed-by : (x : Class) (b : Bool) → k ≡ x → eqb n (d .desk) ≡ b
         → routed d cells queue k (eqb (deskOf p (operationOf r)) (d .desk)) p r ≡ routed d cells queue x b p r
-    by-both x b e f = ap₂ (λ (y : Class) (c : Bool). routed d cells queue y c p r) e f
+    routed-by x b e h =
+        ap₂ (λ (y : Class) (own : Bool). routed d cells queue y own p r) e (ap (λ (m : ℕ). eqb m (d .desk)) (sym g) ∙ h)
 
-    pub goes-local : k ≡ local → n ≡ d .desk
+    pub goes-local : k ≡ local → eqb n (d .desk) ≡ true
         → routed d cells queue k (eqb (deskOf p (operationOf r)) (d .desk)) p r ≡ ranNow d cells queue p (operationOf r)
-    goes-local e h = by-both local true e (own h)
+    goes-local e h = routed-by local true e h
 
-    pub goes-waiting : k ≡ global → n ≡ d .desk → routed d cells queue k (eqb (deskOf p (operationOf r)) (d .desk)) p r
+    pub goes-waiting : k ≡ global → eqb n (d .desk) ≡ true → routed d cells queue k (eqb (deskOf p (operationOf r)) (d .desk)) p r
         ≡ cond (ltb (d .waiting) 32) (enqueued d cells queue r) (unchanged d cells queue (isRefused 9))
-    goes-waiting e h = by-both global true e (own h)
+    goes-waiting e h = routed-by global true e h
 
-    pub local-elsewhere : k ≡ local → (n ≡ d .desk → ⊥)
+    pub local-elsewhere : k ≡ local → eqb n (d .desk) ≡ false
         → routed d cells queue k (eqb (deskOf p (operationOf r)) (d .desk)) p r ≡ unchanged d cells queue (redirected n)
-    local-elsewhere e h = by-both local false e (other h) ∙ ap (λ (m : ℕ). unchanged d cells queue (redirected m)) (sym g)
+    local-elsewhere e h = routed-by local false e h ∙ ap (λ (m : ℕ). unchanged d cells queue (redirected m)) (sym g)
 
-    pub global-elsewhere : k ≡ global → (n ≡ d .desk → ⊥)
+    pub global-elsewhere : k ≡ global → eqb n (d .desk) ≡ false
         → routed d cells queue k (eqb (deskOf p (operationOf r)) (d .desk)) p r ≡ unchanged d cells queue (redirected n)
-    global-elsewhere e h = by-both global false e (other h) ∙ ap (λ (m : ℕ). unchanged d cells queue (redirected m)) (sym g)
+    global-elsewhere e h = routed-by global false e h ∙ ap (λ (m : ℕ). unchanged d cells queue (redirected m)) (sym g)

@@ -117,19 +117,21 @@ fn routed_step(
 {
     let here = state.desk;
     let desk = admitted::operation_desk(plan, request);
+    let own = desk == here;
+    let elsewhere = RequestAnswer::Elsewhere(desk);
     match admitted::operation_class(plan, request) {
         Class::Free => run_step(plan, state, cells, size, request),
         Class::Local => {
-            if desk == here {
+            if own {
                 return run_step(plan, state, cells, size, request);
             }
-            unchanged_step(RequestAnswer::Elsewhere(desk), state, size, request)
+            unchanged_step(elsewhere, state, size, request)
         }
         Class::Global => {
-            if desk == here {
+            if own {
                 return wait_step(state, size, request);
             }
-            unchanged_step(RequestAnswer::Elsewhere(desk), state, size, request)
+            unchanged_step(elsewhere, state, size, request)
         }
     }
 }
