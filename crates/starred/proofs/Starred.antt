@@ -14,10 +14,14 @@ use Rattle.conflict.specs.Mask.{maskOf, some}
 use Rattle.conflict.specs.Touch.{rowTouched, cellTouched, stepTouches, deskMask}
 use Rattle.conflict.specs.Class.{classBy}
 use Rattle.conflict.specs.Answer.{classifyResult}
-use Rattle.token.specs.Frame.{sumsFrom, frameAround}
+use Rattle.operation.specs.Run.{act, runFrom, applyUpdate}
+use Rattle.token.specs.Frame.{sumsFrom, frameAround, writeWords, updateWords, updatesWords}
 use Rattle.token.specs.Admission as frames
 use Rattle.token.specs.Admission.{writesFrom, updatesFrom, deskCount, frameHeaded, sumsRight, updateFormed, cellFormed, fewPerDesk}
 use Rattle.token.specs.Admission.{updatesRight, frameVerdict, readVerdict}
+use Rattle.conveyor.specs.Admission.{deskBuffersFit, visitBuffersFit, waitsHere, deskStands, turnVerdict}
+use Rattle.conveyor.specs.Waiting.{runAll, updatesOf, repliesOf, repliesWords}
+use Rattle.conveyor.specs.Visit.{foreign, applyAll, visitVerdict, visitResult}
 use Rattle.starred.specs.Table.{Row, resultOf, table}
 
 pub starred : map (λ (r : Row). resultOf (r .input)) table ≡ map (λ (r : Row). r .result) table
@@ -26,5 +30,6 @@ unfolding ones sourceField reservedZero accessBy actionBy stepOf partBy transact
     cellsNamed transactionExists unusedZero rowInRange parametersPass operationVerdict maskOf some rowTouched cellTouched
     stepTouches deskMask classBy classifyResult
     readVerdict frameVerdict frameHeaded sumsRight updatesRight frames.wellFormed updateFormed cellFormed fewPerDesk deskCount writesFrom
-    updatesFrom sumsFrom frameAround
+    updatesFrom sumsFrom frameAround writeWords updateWords updatesWords act runFrom applyUpdate deskBuffersFit visitBuffersFit waitsHere
+    deskStands turnVerdict runAll updatesOf repliesOf repliesWords foreign applyAll visitVerdict visitResult
 starred = refl
