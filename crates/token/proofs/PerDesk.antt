@@ -1,7 +1,7 @@
 -- "At most 32 updates per desk": the test of the whole list, and counting one update after another.
 -- Assumes nothing.
 use mathlib.Core.Path.{_≡_, refl, _∙_, sym, ap, ap₂, subst}
-use mathlib.Core.Bool.{Bool, true, false, _&&_, cond}
+use mathlib.Core.Bool.{Bool, true, false, _&&_, cond, and-false}
 use mathlib.Core.List.{List, [], _∷_}
 use mathlib.Core.Logic.{_⊎_, inl, inr, ⊎-elim}
 use Prim.Native.Nat.{ℕ, _+_, _≤_, _<_}
@@ -40,10 +40,6 @@ unfolding fewPerDesk
 counts-few us h = member-every (λ u. leb (deskCount (u .desk) us) 32) us (λ u m. le-leb (deskCount (u .desk) us) 32 (h (u .desk)))
 
 -- ---- one update more
-
-and-false : (a : Bool) → (a && false) ≡ false
-and-false true = refl
-and-false false = refl
 
 -- counting an update before the rest, or with it
 moved : (s : List ℕ) (u : SentUpdate) (us : List SentUpdate) (d : ℕ) → u .desk < length s

@@ -13,13 +13,8 @@ use Rattle.word.specs.Reserved.{reservedZero}
 use Rattle.plan.specs.Decode.{headOf, planOf}
 use Rattle.plan.specs.Admission.{Verdict, accepted, refused, planVerdict}
 use Rattle.plan.proofs.Bool.{and-fst, and-snd}
-use Rattle.plan.proofs.Accepted.{accepted-gives}
+use Rattle.plan.proofs.Accepted.{accepted-gives, yes-of}
 use Rattle.token.specs.Admission.{frameHeaded, sumsRight, updatesRight, frameVerdict, andThen, readVerdict}
-
--- a question's answer that a verdict other than its refusal shows
-yes-of : (b : Bool) (v : Verdict) (k : ℕ) → cond b v (refused k) ≡ accepted → (b ≡ true) × (v ≡ accepted)
-yes-of true v k e = (refl, e)
-yes-of false v k e = let z : _≡_ {A = ℕ} 0 1 = cc in absurd (omega arith)
 
 -- 10
 pub record Headed (ws : List ℕ) : Type 0 where

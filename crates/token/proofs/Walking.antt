@@ -1,7 +1,7 @@
 -- Question 12 as a walk over the words: what is still to come gives the whole answer, with a count for each desk of what has passed.
 -- Assumes nothing.
 use mathlib.Core.Path.{_≡_, refl, _∙_, sym, ap}
-use mathlib.Core.Bool.{Bool, true, false, _&&_}
+use mathlib.Core.Bool.{Bool, true, false, _&&_, and-assoc}
 use mathlib.Core.List.{List, [], _∷_}
 use Prim.Native.Nat.{ℕ, zero, suc, _+_, _-_, _≤_, _<_}
 use native.Mathlib.Omega.{arith}
@@ -103,10 +103,6 @@ swap true false true e = refl
 swap true false false e = refl
 swap true true w e = refl
 
-and-assoc : (a b c : Bool) → (a && (b && c)) ≡ ((a && b) && c)
-and-assoc true b c = refl
-and-assoc false b c = refl
-
 -- after a formed update's word
 one-update : (n w : ℕ) (s : List ℕ) (r W : Bool) (u : SentUpdate) (us : List SentUpdate) → u .desk ≡ updateDesk w → n ≤ length s
     → r ≡ (W && fewOn (counted s (updateDesk w)) us)
@@ -129,7 +125,7 @@ whole n s zero (w ∷ ws) l =
 whole n s (suc left) [] l = refl
 whole n s (suc left) (w ∷ []) l = refl
 whole n s (suc left) (w ∷ v ∷ ws) l =
-    ap (λ (b : Bool). cellFormed w && b) (whole n s left ws l) ∙ and-assoc (cellFormed w) (wellFormed n left ws) _
+    ap (λ (b : Bool). cellFormed w && b) (whole n s left ws l) ∙ sym (and-assoc (cellFormed w) (wellFormed n left ws) _)
 
 -- with no update counted, the counts of the list alone
 abbrev pub noCounts : ℕ → List ℕ
