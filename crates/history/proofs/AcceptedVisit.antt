@@ -128,7 +128,8 @@ module _ (plan : List ℕ) (d : Desk) (cells : List ℕ) (queue : List Request) 
         ap (λ (l : List ℕ). r .client ∷ l) (replies-clients q (applyUpdate (run (planOf plan) (operationOf r) s .update) s))
 
     replies-each : (q : List Request) (s : Store) (r : Request) → List·Memᴰ r q →
-        (t : Store) × List·Memᴰ (record { client = r .client; reply = run (planOf plan) (operationOf r) t .reply }) (repliesOf (planOf plan) q s)
+        (t : Store)
+        × List·Memᴰ (record { client = r .client; reply = run (planOf plan) (operationOf r) t .reply }) (repliesOf (planOf plan) q s)
     unfolding repliesOf
     replies-each [] s r m = absurd (List·Memᴰ·not-nil m)
     replies-each (t ∷ q) s r (List·Memᴰ·head e) =
@@ -178,7 +179,8 @@ module _ (plan : List ℕ) (d : Desk) (cells : List ℕ) (queue : List Request) 
           runs = mem-All (Runs (planOf plan)) waiting (waits-runs fit);
         } in
         let sends = outgoingFrame (planOf plan) d cells queue frame out replies in
-        let r = sends-reads plan plan-of (λ q. length queue) h ok frame out replies (turn-of plan d cells queue frame out replies verdict-of) in
+        let r = sends-reads plan plan-of (λ q. length queue) h ok frame out replies
+        (turn-of plan d cells queue frame out replies verdict-of) in
         let whole : take words (left .out) ≡ sends =
         rw (given-is .2, same-words (sym answered ∙ given-is .0)) (take-append-seam sends (drop (length sends) out)) in
         rw whole

@@ -90,7 +90,8 @@ module _ (ws : List ℕ) (accept : planVerdict ws ≡ accepted) (class : Operati
 
   store-is : run.storeAfter S (run.order S (serialSeen s)) cells ≡ storeAfter p ordered cells
   store-is =
-      ap (λ (es : List (protocolOrder.Finished Operation)). run.storeAfter S es cells) order-is ∙ store-seen ws class records ordered cells runs
+      ap (λ (es : List (protocolOrder.Finished Operation)). run.storeAfter S es cells) order-is
+      ∙ store-seen ws class records ordered cells runs
 
   due-is : (i : ℕ) → run.due S i (run.order S (serialSeen s)) cells
       ≡ map answeredSeen (due p i ordered cells)

@@ -93,7 +93,8 @@ module _ (ws : List ℕ) where
         (b : Bool) → isRefused (outcomeAt ws w c) ≡ b → Noted (planOf ws) (note (planOf ws) class b s c)
     note-noted w c s l f n true e = nothing-noted (planOf ws) s n
     note-noted w (request d client k ps) s l f n false e =
-        request-noted (planOf ws) (class (operationOf (recordOf client k ps))) (eqb (deskOf (planOf ws) (operationOf (recordOf client k ps))) d)
+        request-noted (planOf ws) (class (operationOf (recordOf client k ps)))
+        (eqb (deskOf (planOf ws) (operationOf (recordOf client k ps))) d)
         s d (recordOf client k ps) l n (accepted-runs (w d) client k ps f e)
     note-noted w (visit d ft out replies) s l f n false e = visit-noted (planOf ws) s d n
 
@@ -101,5 +102,6 @@ module _ (ws : List ℕ) where
         Noted (planOf ws) (noteAll (planOf ws) class s cs (map isRefused (outcomes ws w cs)))
     notes-noted [] w fs s pr n = n
     notes-noted (c ∷ cs) w fs s pr n =
-        notes-noted cs (stepAt ws w c) (fs ++ written (outcomeAt ws w c)) (note (planOf ws) class (isRefused (outcomeAt ws w c)) s c) (pr .3)
+        notes-noted cs (stepAt ws w c) (fs ++ written (outcomeAt ws w c)) (note (planOf ws) class (isRefused (outcomeAt ws w c)) s c)
+        (pr .3)
         (note-noted w c s (pr .0) (pr .1) n (isRefused (outcomeAt ws w c)) refl)

@@ -112,7 +112,8 @@ module _ (ws : List ℕ) (accept : planVerdict ws ≡ accepted) where
         let fits : AllFit (transactionOf (planOf ws) o .steps) =
         subst (λ (t : Transaction). AllFit (t .steps)) stands (transaction-fits ws (transactionPlace ws (o .transaction))) in
         member-every cellFits (run (planOf ws) o s .update)
-        (λ w m. lt-ltb (w .0) 1024 (cells-low writes (o .params) (transactionOf (planOf ws) o .steps) fits (rows-passed (planOf ws) o i) (w .0)
+        (λ w m. lt-ltb (w .0) 1024
+        (cells-low writes (o .params) (transactionOf (planOf ws) o .steps) fits (rows-passed (planOf ws) o i) (w .0)
         (writes-within (transactionOf (planOf ws) o) (o .params) s w m)))
 
   updates-count : (q : List Request) (s : Store) → length (updatesOf (planOf ws) q s) ≡ length q
@@ -121,7 +122,8 @@ module _ (ws : List ℕ) (accept : planVerdict ws ≡ accepted) where
   updates-count (r ∷ q) s = ap suc (updates-count q (applyUpdate (run (planOf ws) (operationOf r) s .update) s))
 
   module _ (p : ℕ) (h : p < planOf ws .desks) where
-    own-fits : (q : List Request) (s : Store) → All (Runs (planOf ws)) q → every (updateFits (planOf ws .desks)) (map (sent p) (updatesOf (planOf ws) q s)) ≡ true
+    own-fits : (q : List Request) (s : Store) → All (Runs (planOf ws)) q →
+        every (updateFits (planOf ws .desks)) (map (sent p) (updatesOf (planOf ws) q s)) ≡ true
     unfolding updatesOf every
     own-fits [] s k = refl
     own-fits (r ∷ q) s k =
@@ -130,7 +132,8 @@ module _ (ws : List ℕ) (accept : planVerdict ws ≡ accepted) where
         (and-true _ _ (le-leb _ 12 (update-short (operationOf r) (k .0) s)) (update-cells (operationOf r) (k .0) s)))
         (own-fits q (applyUpdate (run (planOf ws) (operationOf r) s .update) s) (k .1))
 
-    pub outgoing-formed : (us : List SentUpdate) (q : List Request) (s : Store) → WellFormed (planOf ws .desks) us → All (Runs (planOf ws)) q → length q ≤ 32 →
+    pub outgoing-formed : (us : List SentUpdate) (q : List Request) (s : Store) → WellFormed (planOf ws .desks) us →
+        All (Runs (planOf ws)) q → length q ≤ 32 →
         WellFormed (planOf ws .desks) (foreign p us ++ map (sent p) (updatesOf (planOf ws) q s))
     outgoing-formed us q s f k few =
         record {
@@ -139,6 +142,8 @@ module _ (ws : List ℕ) (accept : planVerdict ws ≡ accepted) where
           perDesk = λ d.
               let own : List Update = updatesOf (planOf ws) q s in
               by-same p d
-              (λ e. rw (← e) (omega (arith, count-append p (foreign p us) (map (sent p) own), count-own p us, count-sent p own, updates-count q s)))
-              (λ e. omega (arith, count-append d (foreign p us) (map (sent p) own), count-foreign d p us, f .perDesk d, count-other d p own e));
+              (λ e. rw (← e)
+              (omega (arith, count-append p (foreign p us) (map (sent p) own), count-own p us, count-sent p own, updates-count q s)))
+              (λ e.
+              omega (arith, count-append d (foreign p us) (map (sent p) own), count-foreign d p us, f .perDesk d, count-other d p own e));
         }

@@ -50,7 +50,8 @@ module _ (ws : List ℕ) (accept : planVerdict ws ≡ accepted) (class : Operati
   ran-reads : (o : Operation) (a b : Store) → Same (Reads o) a b → ran ws class records o a ≡ ran ws class records o b
   ran-reads o a b s = go (isOperation (planOf ws) o) refl
     where
-      go : (t : Bool) → isOperation (planOf ws) o ≡ t → cond t (run (planOf ws) o a) (declined 0) ≡ cond t (run (planOf ws) o b) (declined 0)
+      go : (t : Bool) → isOperation (planOf ws) o ≡ t →
+          cond t (run (planOf ws) o a) (declined 0) ≡ cond t (run (planOf ws) o b) (declined 0)
       go true e =
           reads-decide (transactionOf (planOf ws) o) (o .params) a b (s .0) (λ c m. s .1 c (is-of-decided (planOf ws) o e, m))
       go false e = refl
@@ -78,8 +79,8 @@ module _ (ws : List ℕ) (accept : planVerdict ws ≡ accepted) (class : Operati
   means : (o : Operation) (k : Class) → IsOperation (planOf ws) o → class o ≡ k → Is (planOf ws) o k
   means o k i e = subst (Is (planOf ws) o) e (right o i)
 
-  alone : (o : Operation) → class o ≡ local → (c : ℕ) → Writes o c → (o′ : Operation) → IsOperation (planOf ws) o′ × MayTouch (planOf ws) o′ c
-      → deskOf (planOf ws) o′ ≡ deskOf (planOf ws) o
+  alone : (o : Operation) → class o ≡ local → (c : ℕ) → Writes o c → (o′ : Operation)
+      → IsOperation (planOf ws) o′ × MayTouch (planOf ws) o′ c → deskOf (planOf ws) o′ ≡ deskOf (planOf ws) o
   alone o e c w o′ t =
       by-same (deskOf (planOf ws) o′) (deskOf (planOf ws) o) (λ q. q)
       (λ q. absurd (means o local (w .0) e .1 c (w .1) o′ (t .0) q (t .1)))

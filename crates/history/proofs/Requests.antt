@@ -116,7 +116,8 @@ module _ (ws : List ℕ) (accept : planVerdict ws ≡ accepted) (class : Operati
 
     now-seen : seen (ranNow d (h .cells) (h .queue) (planOf ws) o) ≡ step.requestStep S step.immediate (view h) (requestSeen r)
     now-seen =
-        ap₂ (λ (s : Store) (m : Outcome). (record { store = s; queue = view h .queue; awaited = d .awaited }, desk.replied (client, m .reply)))
+        ap₂ (λ (s : Store) (m : Outcome).
+        (record { store = s; queue = view h .queue; awaited = d .awaited }, desk.replied (client, m .reply)))
         (sym (one-seen ws class records o (h .cells) (p .runs))) (sym (ran-is ws class records o (h .cells) (p .runs)))
 
     join-seen : (b : Bool) → ltb (d .waiting) 32 ≡ b →
@@ -142,7 +143,8 @@ module _ (ws : List ℕ) (accept : planVerdict ws ≡ accepted) (class : Operati
   served-seen (refused q) f = refl
   served-seen accepted f =
       let p : Passes = f refl in
-      ap (λ (c : Class). seen (routed d (h .cells) (h .queue) c own (planOf ws) r)) (class-same ws accept o (p .runs) (class o) (right o (p .runs)))
+      ap (λ (c : Class). seen (routed d (h .cells) (h .queue) c own (planOf ws) r))
+      (class-same ws accept o (p .runs) (class o) (right o (p .runs)))
       ∙ routed-seen p (class o) own
 
   -- the state and the answer are the protocol's
@@ -186,7 +188,8 @@ module _ (ws : List ℕ) (accept : planVerdict ws ≡ accepted) (class : Operati
   join-stands p c b true e = joins-stands p (ltb-true (d .waiting) 32 e) c b
   join-stands p c b false e = kept (h .cells)
 
-  routed-stands : Passes → (c : Class) (b : Bool) → classOf (planOf ws) o ≡ c → own ≡ b → After (routed d (h .cells) (h .queue) c b (planOf ws) r)
+  routed-stands : Passes → (c : Class) (b : Bool) → classOf (planOf ws) o ≡ c → own ≡ b →
+      After (routed d (h .cells) (h .queue) c b (planOf ws) r)
   routed-stands p free b c e = kept _
   routed-stands p local true c e = kept _
   routed-stands p local false c e = kept _

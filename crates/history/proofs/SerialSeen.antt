@@ -56,14 +56,16 @@ module _ (ws : List ℕ) (class : Operation → Class) (records : ℕ → ℕ) w
   run-noted : (s : Serial) (p : ℕ) (r : Request) → serialSeen (noteRun s p r)
       ≡ run.noteRequest S step.immediate (serialSeen s) p (requestSeen r)
   run-noted s p r =
-      ap (λ (fs : List (order.Finished Operation)). made (λ (p : ℕ). map requestSeen (s .queues p)) (s .heard) (map requestSeen (s .globals)) (s .latest) fs
+      ap (λ (fs : List (order.Finished Operation)).
+      made (λ (p : ℕ). map requestSeen (s .queues p)) (s .heard) (map requestSeen (s .globals)) (s .latest) fs
       (suc (s .calls)))
       (map-append finishedSeen (s .finished) (record { slot = immediateRun (s .heard p) p; by = s .calls; request = r } ∷ []))
 
   join-noted : (s : Serial) (p : ℕ) (r : Request) → serialSeen (noteJoin s p r)
       ≡ run.noteRequest S step.enqueue (serialSeen s) p (requestSeen r)
   join-noted s p r =
-      ap (λ (qs : ℕ → List (desk.Request Operation)). made qs (s .heard) (map requestSeen (s .globals)) (s .latest) (map finishedSeen (s .finished))
+      ap (λ (qs : ℕ → List (desk.Request Operation)).
+      made qs (s .heard) (map requestSeen (s .globals)) (s .latest) (map finishedSeen (s .finished))
       (suc (s .calls)))
       (assign-map (map requestSeen) p (s .queues p ++ (r ∷ [])) (s .queues)
       ∙ ap (λ (q : List (desk.Request Operation)). history.assign p q (λ (p : ℕ). map requestSeen (s .queues p)))
