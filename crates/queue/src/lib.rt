@@ -1,6 +1,11 @@
 // The queue of waiting requests: a lent slice of records. These functions alone touch the slice; all else is reckoned on plain data.
+mod lent;
 mod record;
 
+pub use lent::copied;
+pub use lent::len;
+pub use lent::load;
+pub use lent::store;
 pub use record::Request;
 pub use record::blank;
 pub use record::blanks;

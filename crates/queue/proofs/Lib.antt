@@ -1,0 +1,8 @@
+pub mod Answers
+pub mod Calls
+pub mod Copying
+pub mod LetGo
+pub mod LocalArray
+pub mod Parts
+pub mod Records
+pub mod SharedSlice
