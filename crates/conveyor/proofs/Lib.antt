@@ -1,2 +1,4 @@
 pub mod Asked
 pub mod Standing
+pub mod Handed
+pub mod Routes

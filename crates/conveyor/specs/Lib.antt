@@ -4,3 +4,4 @@ pub mod Waiting
 pub mod Request
 pub mod Visit
 pub mod Answer
+pub mod Step
