@@ -4,8 +4,8 @@ use mathlib.Core.Path.{_∙_, sym, ap}
 use mathlib.Core.Bool.{Bool, cond}
 use borrow.Author.Tests.{lt-ltb, le-ltb}
 use borrow.Author.Needs.{needs}
-use Rattle.conveyor.proofs.request.wait_step.Statement.{statement}
-use Rattle.conveyor.proofs.request.wait_step.Tie as tie
+use Rattle.conveyor.proofs.asking.wait_step.Statement.{statement}
+use Rattle.conveyor.proofs.asking.wait_step.Tie as tie
 
 unchanged-step-requires : tie.Need-unchanged-step-requires
 unchanged-step-requires c κs = search needs
