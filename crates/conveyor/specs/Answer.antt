@@ -11,12 +11,12 @@ use Rattle.queue.specs.declared.record.Request.{Request}
 use Rattle.conveyor.specs.declared.desk.Desk.{Desk}
 use Rattle.conveyor.specs.declared.desk.DeskAnswer.{DeskAnswer}
 use Rattle.conveyor.specs.declared.desk.DeskAnswer.the-variants as desk
-use Rattle.conveyor.specs.declared.request.RequestAnswer.{RequestAnswer}
-use Rattle.conveyor.specs.declared.request.RequestAnswer.the-variants as request
-use Rattle.conveyor.specs.declared.request.RequestResult.{RequestResult}
-use Rattle.conveyor.specs.declared.visit.VisitAnswer.{VisitAnswer}
-use Rattle.conveyor.specs.declared.visit.VisitAnswer.the-variants as visit
-use Rattle.conveyor.specs.declared.visit.VisitResult.{VisitResult}
+use Rattle.conveyor.specs.declared.asking.RequestAnswer.{RequestAnswer}
+use Rattle.conveyor.specs.declared.asking.RequestAnswer.the-variants as request
+use Rattle.conveyor.specs.declared.asking.RequestResult.{RequestResult}
+use Rattle.conveyor.specs.declared.passing.VisitAnswer.{VisitAnswer}
+use Rattle.conveyor.specs.declared.passing.VisitAnswer.the-variants as visit
+use Rattle.conveyor.specs.declared.passing.VisitResult.{VisitResult}
 use Rattle.conveyor.specs.Request as asked
 use Rattle.conveyor.specs.Visit as passing
 

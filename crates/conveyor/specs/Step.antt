@@ -11,7 +11,7 @@ use Rattle.operation.specs.Admission.{operationVerdict}
 use Rattle.token.specs.Admission.{andThen}
 use Rattle.queue.specs.declared.record.Request.{Request}
 use Rattle.conveyor.specs.declared.desk.Desk.{Desk}
-use Rattle.conveyor.specs.declared.request.RequestStep.{RequestStep}
+use Rattle.conveyor.specs.declared.asking.RequestStep.{RequestStep}
 use Rattle.conveyor.specs.Queueing.{operationOf}
 use Rattle.conveyor.specs.Admission.{deskStands}
 use Rattle.conveyor.specs.Request.{Requested}

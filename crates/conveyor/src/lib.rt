@@ -1,14 +1,16 @@
 // The engine: new desk, request and visit.
 mod admitted;
+mod asking;
 mod check;
 mod desk;
-mod request;
-mod visit;
+mod engine;
+mod passing;
 
+pub use asking::RequestAnswer;
+pub use asking::RequestResult;
 pub use desk::Desk;
 pub use desk::DeskAnswer;
 pub use desk::new_desk;
-pub use request::RequestAnswer;
-pub use request::RequestResult;
-pub use visit::VisitAnswer;
-pub use visit::VisitResult;
+pub use engine::request;
+pub use passing::VisitAnswer;
+pub use passing::VisitResult;

@@ -7,8 +7,8 @@ use lib.Seq.{set-out}
 use Rattle.queue.specs.declared.record.Request.{Request}
 use Rattle.conveyor.specs.Request.{unchanged}
 use Rattle.conveyor.specs.Answer.{responseOf}
-use Rattle.conveyor.proofs.request.unchanged_step.Statement.{statement}
-use Rattle.conveyor.proofs.request.unchanged_step.Tie as tie
+use Rattle.conveyor.proofs.asking.unchanged_step.Statement.{statement}
+use Rattle.conveyor.proofs.asking.unchanged_step.Tie as tie
 
 returns : tie.Need-returns
 returns c = λ cells queue l.

@@ -6,8 +6,8 @@ use Prim.Native.Nat.{ℕ}
 use Rattle.operation.specs.Run.{Reply}
 use Rattle.conveyor.specs.Request.{replied, unchanged}
 use borrow.Author.Needs.{needs}
-use Rattle.conveyor.proofs.request.run_step.Statement.{statement}
-use Rattle.conveyor.proofs.request.run_step.Tie as tie
+use Rattle.conveyor.proofs.asking.run_step.Statement.{statement}
+use Rattle.conveyor.proofs.asking.run_step.Tie as tie
 
 run-operation-requires : tie.Need-run-operation-requires
 run-operation-requires c κs = search needs

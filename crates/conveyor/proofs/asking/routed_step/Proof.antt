@@ -7,8 +7,8 @@ use Rattle.conflict.specs.Answer.{classOfCode}
 use Rattle.conveyor.specs.Queueing.{operationOf}
 use Rattle.conveyor.proofs.Routes.{goes-free, goes-local, goes-waiting, local-elsewhere, global-elsewhere}
 use borrow.Author.Needs.{needs}
-use Rattle.conveyor.proofs.request.routed_step.Statement.{statement}
-use Rattle.conveyor.proofs.request.routed_step.Tie as tie
+use Rattle.conveyor.proofs.asking.routed_step.Statement.{statement}
+use Rattle.conveyor.proofs.asking.routed_step.Tie as tie
 
 operation-desk-requires : tie.Need-operation-desk-requires
 operation-desk-requires c κs = search needs

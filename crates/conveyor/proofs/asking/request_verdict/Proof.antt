@@ -6,8 +6,8 @@ use Rattle.plan.specs.Admission.{planVerdict, accepted}
 use Rattle.plan.specs.Answer.{verdictOf}
 use Rattle.conveyor.proofs.Handed.{plan-refused, store-unfit, queue-unfit, desk-unfit, by-operation}
 use borrow.Author.Needs.{needs}
-use Rattle.conveyor.proofs.request.request_verdict.Statement.{statement}
-use Rattle.conveyor.proofs.request.request_verdict.Tie as tie
+use Rattle.conveyor.proofs.asking.request_verdict.Statement.{statement}
+use Rattle.conveyor.proofs.asking.request_verdict.Tie as tie
 
 read-plan-requires : tie.Need-read-plan-requires
 read-plan-requires c κs = search needs

@@ -2,8 +2,8 @@
 -- Assumes nothing.
 use borrow.Author.Tests.{lt-ltb, le-ltb}
 use borrow.Author.Needs.{needs}
-use Rattle.conveyor.proofs.request.wait_step.Statement.{statement}
-use Rattle.conveyor.proofs.request.wait_step.Tie as tie
+use Rattle.conveyor.proofs.asking.wait_step.Statement.{statement}
+use Rattle.conveyor.proofs.asking.wait_step.Tie as tie
 
 unchanged-step-requires : tie.Need-unchanged-step-requires
 unchanged-step-requires c κs = search needs

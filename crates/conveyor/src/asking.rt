@@ -13,7 +13,7 @@ ghost use Rattle.queue.specs.Queue.{recordsOf};
 ghost use Rattle.queue.specs.declared.record.Request.{Request as Queued};
 ghost use Rattle.conveyor.specs.Queueing.{operationOf};
 ghost use Rattle.conveyor.specs.Admission.{Admitted};
-ghost use Rattle.conveyor.specs.Request.{isRefused, unchanged, ranNow, enqueued, routed, requestResult};
+ghost use Rattle.conveyor.specs.Request.{isRefused, unchanged, ranNow, enqueued, routed, recordOf, requestResult};
 ghost use Rattle.conveyor.specs.Answer.{responseOf};
 ghost use Rattle.conveyor.specs.Step.{steppedOf, stepVerdict};
 use crate::admitted;
@@ -185,4 +185,30 @@ pub(crate) fn request_core(
         return unchanged_step(RequestAnswer::Refused(question), state, size, request);
     }
     routed_step(plan, state, cells, size, request)
+}
+
+// The same of a client's word, a transaction and four parameters, of which it makes the record.
+pub(crate) fn request_step(
+    plan: &[u32],
+    state: Desk,
+    cells: &mut [u32],
+    size: usize,
+    records: [Request; 32],
+    client: u32,
+    transaction: u32,
+    params: [u32; 4],
+) -> RequestStep
+    ensures { λ r. ⌜ ((queue : List Queued) → length queue ≡ size → recordsOf queue ≡ records
+        → steppedOf r (now (cells .exit)) queue
+        ≡ requestResult (now (plan .entry)) state (now (cells .entry)) queue (recordOf client transaction params)) ⌝ }
+{
+    let request = Request {
+        client: client,
+        transaction: transaction,
+        p0: params[0],
+        p1: params[1],
+        p2: params[2],
+        p3: params[3],
+    };
+    request_core(plan, state, cells, size, records, request)
 }

@@ -10,8 +10,8 @@ use Rattle.conveyor.specs.Request.{requestVerdict}
 use Rattle.conveyor.proofs.Handed.{same-verdict, admitted-by}
 use Rattle.conveyor.proofs.Routes.{left-by-refusal, left-by-route}
 use borrow.Author.Needs.{needs}
-use Rattle.conveyor.proofs.request.request_core.Statement.{statement}
-use Rattle.conveyor.proofs.request.request_core.Tie as tie
+use Rattle.conveyor.proofs.asking.request_core.Statement.{statement}
+use Rattle.conveyor.proofs.asking.request_core.Tie as tie
 
 request-verdict-requires : tie.Need-request-verdict-requires
 request-verdict-requires c κs = search needs

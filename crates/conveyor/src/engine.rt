@@ -1,0 +1,38 @@
+// The two calls that take the lent queue. Its length and its first 32 records are read; all else is reckoned on those, and a request then
+// stores at most one record.
+ghost use mathlib.Core.Path.{_≡_};
+ghost use Rattle.conveyor.specs.Request.{recordOf, requestResult};
+ghost use Rattle.conveyor.specs.Answer.{requestedOf};
+use crate::asking::RequestResult;
+use crate::asking::request_step;
+use crate::desk::Desk;
+use queue::Request;
+
+// A request at a desk.
+pub fn request(
+    plan: &[u32],
+    state: Desk,
+    cells: &mut [u32],
+    queue: &mut [Request],
+    client: u32,
+    transaction: u32,
+    params: [u32; 4],
+) -> RequestResult
+    ensures { λ r. ⌜ requestedOf r (now (cells .exit)) (now (queue .exit))
+        ≡ requestResult (now (plan .entry)) state (now (cells .entry)) (now (queue .entry)) (recordOf client transaction params) ⌝ }
+{
+    let size = queue.len();
+    let records = queue::copied(queue);
+    let step = request_step(
+        plan,
+        state,
+        cells,
+        size,
+        records,
+        client,
+        transaction,
+        params,
+    );
+    queue::store(queue, step.place, step.request);
+    step.result
+}
