@@ -18,7 +18,8 @@ transaction-exists-requires c κs = search needs
 returns : tie.Need-returns
 returns c =
     let d = c .before .before .before in
-    sym (no-transaction (d .args .plan .now) (d .args .request) (sym (c .before .transaction-exists .ensures) ∙ not-true _ (c .if1 .taken)))
+    sym (no-transaction (d .args .plan .now) (d .args .request)
+        (sym (c .before .transaction-exists .ensures) ∙ not-true _ (c .if1 .taken)))
 
 transaction-place-requires : tie.Need-transaction-place-requires
 transaction-place-requires c κs = search needs
@@ -27,7 +28,8 @@ params-requires : tie.Need-params-requires
 params-requires c κs = search needs
 
 there : (c : tie.Else1)
-    → transactionExists (planOf (c .before .before .before .args .plan .now)) (c .before .before .before .args .request .transaction) ≡ true
+    → transactionExists (planOf (c .before .before .before .args .plan .now)) (c .before .before .before .args .request .transaction)
+        ≡ true
 there c = sym (c .before .transaction-exists .ensures) ∙ not-false _ (c .if1 .left)
 
 parameters-pass-requires : tie.Need-parameters-pass-requires
