@@ -16,3 +16,5 @@ pub mod Given
 pub mod Claim
 pub mod Start
 pub mod AcceptedVisit
+pub mod Joining
+pub mod Answered
