@@ -18,3 +18,4 @@ pub mod Start
 pub mod AcceptedVisit
 pub mod Joining
 pub mod Answered
+pub mod Course
