@@ -16,3 +16,6 @@ pub mod Given
 pub mod Claim
 pub mod Start
 pub mod AcceptedVisit
+pub mod Joining
+pub mod Answered
+pub mod Course

@@ -65,13 +65,13 @@ module _ (ws : List ℕ) (accept : planVerdict ws ≡ accepted) (class : Operati
   abbrev pub S : System
   S = system ws class records
 
-  abbrev r : Request
+  abbrev pub r : Request
   r = recordOf client k ps
 
-  abbrev o : Operation
+  abbrev pub o : Operation
   o = operationOf r
 
-  abbrev d : Desk
+  abbrev pub d : Desk
   d = h .state
 
   abbrev own : Bool
@@ -79,18 +79,18 @@ module _ (ws : List ℕ) (accept : planVerdict ws ≡ accepted) (class : Operati
 
   -- ---- the verdict
 
-  abbrev asking : Verdict
+  abbrev pub asking : Verdict
   asking = requestVerdict ws d (h .cells) (h .queue) r
 
   asking-is : asking ≡ requestAsked ws class records (h .cells) (d .desk) o
   unfolding requestVerdict deskBuffersFit
   asking-is = rw (accept, ok .stands, ok .size) refl
 
-  record Passes : Type 0 where
+  pub record Passes : Type 0 where
     pub runs : IsOperation (planOf ws) o
     pub whole : length (h .queue) ≡ 32
 
-  passes : asking ≡ accepted → Passes
+  pub passes : asking ≡ accepted → Passes
   passes e =
       let b = then-both (cond (sizesFit ws class records (h .cells) (d .desk)) accepted (refused 5)) _ (sym asking-is ∙ e) in
       let s = yes-of (sizesFit ws class records (h .cells) (d .desk)) accepted 5 (b .0) .0 in
@@ -111,7 +111,7 @@ module _ (ws : List ℕ) (accept : planVerdict ws ≡ accepted) (class : Operati
   waiting-count = length-map (waitingIn (d .waiting) (h .queue)) requestSeen ∙ length-take-le (d .waiting) (h .queue) (ok .room)
 
   module _ (p : Passes) where
-    joined : d .waiting < 32 → take (d .waiting + 1) (set (h .queue) (d .waiting) r) ≡ take (d .waiting) (h .queue) ++ (r ∷ [])
+    pub joined : d .waiting < 32 → take (d .waiting + 1) (set (h .queue) (d .waiting) r) ≡ take (d .waiting) (h .queue) ++ (r ∷ [])
     joined l = rw add-one (take-suc-set (h .queue) (d .waiting) r (omega (arith, p .whole)))
 
     now-seen : seen (ranNow d (h .cells) (h .queue) (planOf ws) o) ≡ step.requestStep S step.immediate (view h) (requestSeen r)
