@@ -14,9 +14,9 @@ use Rattle.conveyor.specs.declared.desk.DeskAnswer.the-variants as desk
 use Rattle.conveyor.specs.declared.asking.RequestAnswer.{RequestAnswer}
 use Rattle.conveyor.specs.declared.asking.RequestAnswer.the-variants as request
 use Rattle.conveyor.specs.declared.asking.RequestResult.{RequestResult}
-use Rattle.conveyor.specs.declared.passing.VisitAnswer.{VisitAnswer}
-use Rattle.conveyor.specs.declared.passing.VisitAnswer.the-variants as visit
-use Rattle.conveyor.specs.declared.passing.VisitResult.{VisitResult}
+use Rattle.conveyor.specs.declared.visiting.VisitAnswer.{VisitAnswer}
+use Rattle.conveyor.specs.declared.visiting.VisitAnswer.the-variants as visit
+use Rattle.conveyor.specs.declared.visiting.VisitResult.{VisitResult}
 use Rattle.conveyor.specs.Request as asked
 use Rattle.conveyor.specs.Visit as passing
 

@@ -4,7 +4,7 @@ mod asking;
 mod check;
 mod desk;
 mod engine;
-mod passing;
+mod visiting;
 
 pub use asking::RequestAnswer;
 pub use asking::RequestResult;
@@ -12,5 +12,5 @@ pub use desk::Desk;
 pub use desk::DeskAnswer;
 pub use desk::new_desk;
 pub use engine::request;
-pub use passing::VisitAnswer;
-pub use passing::VisitResult;
+pub use visiting::VisitAnswer;
+pub use visiting::VisitResult;
