@@ -13,3 +13,5 @@ pub mod OneWord
 pub mod Readers
 pub mod Course
 pub mod Relaying
+pub mod Filling
+pub mod Forwarding
