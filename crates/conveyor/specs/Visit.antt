@@ -1,30 +1,20 @@
 -- A visit of the token at a desk: everything that the call leaves, for good and bad input alike.
 use Prim.Native.Nat.{ℕ, _+_}
 use mathlib.Core.Bool.{_&&_, cond}
-use mathlib.Core.List.{List, [], _∷_, _++_, map}
-use lib.Dec.{eqb}
+use mathlib.Core.List.{List, _++_, map}
 use lib.ListN.{length}
 use Rattle.plan.specs.Plan.{Plan}
 use Rattle.plan.specs.Decode.{planOf}
 use Rattle.plan.specs.Admission.{Verdict, accepted, refused, planVerdict}
-use Rattle.operation.specs.Run.{Store, Update, applyUpdate}
+use Rattle.operation.specs.Run.{Store}
 use Rattle.token.specs.Frame.{SentUpdate, sent, frameWords, overwritten}
 use Rattle.token.specs.Admission.{andThen, frameVerdict, frameVisit, frameUpdates}
+use Rattle.token.specs.Forward.{foreign, applyAll}
 use Rattle.queue.specs.declared.record.Request.{Request}
 use Rattle.conveyor.specs.declared.desk.Desk.{Desk}
 use Rattle.conveyor.specs.Queueing.{waitingIn}
 use Rattle.conveyor.specs.Admission.{deskBuffersFit, visitBuffersFit, deskStands, turnVerdict}
 use Rattle.conveyor.specs.Waiting.{runAll, updatesOf, repliesOf, repliesWords}
-
--- "A visit drops this desk's own updates": those of the others, in order
-unfoldable pub foreign : ℕ → List SentUpdate → List SentUpdate
-foreign desk [] = []
-foreign desk (u ∷ us) = cond (eqb (u .desk) desk) (foreign desk us) (u ∷ foreign desk us)
-
--- "applies the others in order"
-unfoldable pub applyAll : List SentUpdate → Store → Store
-applyAll [] s = s
-applyAll (u ∷ us) s = applyAll us (applyUpdate (u .writes) s)
 
 -- refused, or "the words of the outgoing frame and the count of replies"
 pub data Passage : Type 0 where

@@ -1,6 +1,7 @@
 // The engine: new desk, request and visit.
 mod desk;
 mod request;
+mod running;
 mod visit;
 
 pub use desk::Desk;
