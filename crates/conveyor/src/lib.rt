@@ -1,5 +1,6 @@
 // The engine: new desk, request and visit.
 mod desk;
+mod passing;
 mod request;
 mod running;
 mod visit;

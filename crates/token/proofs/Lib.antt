@@ -15,3 +15,4 @@ pub mod Course
 pub mod Relaying
 pub mod Filling
 pub mod Forwarding
+pub mod Foreign
