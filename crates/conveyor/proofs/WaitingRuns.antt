@@ -80,8 +80,12 @@ module _ (p : Plan) (desk : ℕ) (rs : List Request) (s₀ o₀ q₀ : List ℕ)
     -- what is left is enough for the next
     pub room-here : length (allMade p desk rs s₀) ≤ length o₀ → end + length (madeWords p desk r s) ≤ length o
     room-here l =
-        omega (arith, fill-size words-here, length-append (madeWords p desk r s) (allMade p desk (drop (at + 1) rs) (after p r s)),
-        fill-length words-here l)
+        omega (
+          arith,
+          fill-size words-here,
+          length-append (madeWords p desk r s) (allMade p desk (drop (at + 1) rs) (after p r s)),
+          fill-length words-here l,
+        )
 
     pub reply-room-here : 3 * length rs ≤ length q₀ → at * 3 + 3 ≤ length q
     reply-room-here l = omega (arith, fill-length replies-here (omega (arith, replies-length p rs s₀)))
@@ -93,7 +97,7 @@ module _ (p : Plan) (desk : ℕ) (rs : List Request) (s₀ o₀ q₀ : List ℕ)
     running-next words s′ o′ q′ x =
         let wrote : o′ ≡ overwritten (madeWords p desk r s) (drop end o) = x .update ∙ ap (overwritten (madeWords p desk r s)) (lent o end) in
         let replied : q′ ≡ overwritten (replyWords (replyTo p r s)) (drop (at * 3) q) =
-            x .reply ∙ ap (overwritten (replyWords (replyTo p r s))) (lent q (at * 3)) in
+        x .reply ∙ ap (overwritten (replyWords (replyTo p r s))) (lent q (at * 3)) in
         let three : (at + 1) * 3 ≡ at * 3 + 3 = omega arith in
         record {
           store = ap (runAll p (drop (at + 1) rs)) (x .store) ∙ sym (store-first p desk r (drop (at + 1) rs) s)

@@ -12,8 +12,15 @@ use queue::Request;
 use word::fields;
 
 // Drops the desk's own updates, applies the others and sends them on, runs the waiting requests, and seals the frame for the next visit.
-pub(crate) fn visit_passed(plan: &[u32], state: Desk, cells: &mut [u32], records: [Request; 32], frame: &[u32], out: &mut [u32],
-    replies: &mut [u32]) -> VisitResult
+pub(crate) fn visit_passed(
+    plan: &[u32],
+    state: Desk,
+    cells: &mut [u32],
+    records: [Request; 32],
+    frame: &[u32],
+    out: &mut [u32],
+    replies: &mut [u32],
+) -> VisitResult
     requires { ⌜ visitVerdict (now plan) state (now cells) records (now frame) (now out) (now replies) ≡ accepted ⌝ }
     ensures { λ r. ⌜ visitedOf r (now (cells .exit)) (now (out .exit)) (now (replies .exit)) ≡ passed (planOf (now (plan .entry))) state
         (now (cells .entry)) records (now (frame .entry)) (now (out .entry)) (now (replies .entry)) ⌝ }
@@ -24,7 +31,16 @@ pub(crate) fn visit_passed(plan: &[u32], state: Desk, cells: &mut [u32], records
     let body = &frame[2..sums];
     token::apply_foreign(body, desk, cells);
     let copied = 2 + token::copy_foreign(body, desk, &mut out[2..]);
-    let end = copied + running::run_waiting(plan, waiting, records, desk, cells, &mut out[copied..], replies);
+    let end = copied
+        + running::run_waiting(
+            plan,
+            waiting,
+            records,
+            desk,
+            cells,
+            &mut out[copied..],
+            replies,
+        );
     let desks = plan[0] / fields::DESKS % 16;
     let visit = frame[1];
     token::seal(out, (visit + 1) % desks, visit + 1, end);

@@ -29,7 +29,14 @@ fn write_reply(replies: &mut [u32], client: u32, done: bool, number: u32)
 
 // Runs one request: its update goes to the front of what is left of the outgoing words, its reply to the front of what is left of the
 // reply words. Answers how many outgoing words it wrote.
-fn run_one(plan: &[u32], request: Request, desk: u32, cells: &mut [u32], out: &mut [u32], replies: &mut [u32]) -> usize
+fn run_one(
+    plan: &[u32],
+    request: Request,
+    desk: u32,
+    cells: &mut [u32],
+    out: &mut [u32],
+    replies: &mut [u32],
+) -> usize
     requires { ⌜ Runs (now plan) request desk (now cells) (now out) (now replies) ⌝ }
     ensures { λ r. ⌜ Ran (planOf (now (plan .entry))) request desk (now (cells .entry)) (now (out .entry)) (now (replies .entry))
         r (now (cells .exit)) (now (out .exit)) (now (replies .exit)) ⌝ }
@@ -45,8 +52,15 @@ fn run_one(plan: &[u32], request: Request, desk: u32, cells: &mut [u32], out: &m
 }
 
 // Runs the first `waiting` requests in order, and answers how many outgoing words their updates have.
-pub(crate) fn run_waiting(plan: &[u32], waiting: usize, records: [Request; 32], desk: u32, cells: &mut [u32], out: &mut [u32],
-    replies: &mut [u32]) -> usize
+pub(crate) fn run_waiting(
+    plan: &[u32],
+    waiting: usize,
+    records: [Request; 32],
+    desk: u32,
+    cells: &mut [u32],
+    out: &mut [u32],
+    replies: &mut [u32],
+) -> usize
     requires { ⌜ (waiting ≤ 32) × AllRun (now plan) (take waiting records) desk (now cells) (now out) (now replies) ⌝ }
     ensures { λ r. ⌜ AllRan (planOf (now (plan .entry))) (take waiting records) desk (now (cells .entry)) (now (out .entry))
         (now (replies .entry)) r (now (cells .exit)) (now (out .exit)) (now (replies .exit)) ⌝ }
@@ -56,7 +70,15 @@ pub(crate) fn run_waiting(plan: &[u32], waiting: usize, records: [Request; 32], 
     while at < waiting {
         let request = records[at];
         let answered = at * 3;
-        end = end + run_one(plan, request, desk, cells, &mut out[end..], &mut replies[answered..]);
+        end = end
+            + run_one(
+                plan,
+                request,
+                desk,
+                cells,
+                &mut out[end..],
+                &mut replies[answered..],
+            );
         at = at + 1;
     }
     end

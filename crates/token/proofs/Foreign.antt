@@ -43,7 +43,7 @@ every-foreign f desk (u ∷ us) e = go (eqb (u .desk) desk) (every-foreign f des
 
 count-append : (d : ℕ) (us ts : List SentUpdate) → deskCount d (us ++ ts) ≡ deskCount d us + deskCount d ts
 unfolding deskCount
-count-append d [] ts = refl
+count-append d [] ts = omega arith
 count-append d (u ∷ us) ts = omega (arith, count-append d us ts)
 
 none-own : (desk : ℕ) (us : List SentUpdate) → deskCount desk (foreign desk us) ≡ 0
@@ -54,7 +54,7 @@ none-own desk (u ∷ us) = go (eqb (u .desk) desk) refl (none-own desk us)
     go : (own : Bool) → eqb (u .desk) desk ≡ own → deskCount desk (foreign desk us) ≡ 0
         → deskCount desk (cond own (foreign desk us) (u ∷ foreign desk us)) ≡ 0
     go true q r = r
-    go false q r = rw q r
+    go false q r = rw q (omega (arith, r))
 
 fewer : (d desk : ℕ) (us : List SentUpdate) → deskCount d (foreign desk us) ≤ deskCount d us
 unfolding deskCount foreign
@@ -70,7 +70,7 @@ own-count : (d desk : ℕ) (ws : List Update) → deskCount d (map (sent desk) w
 unfolding deskCount
 own-count d desk [] = go (eqb desk d)
   where
-    go : (b : Bool) → 0 ≡ cond b 0 0
+    go : (b : Bool) → _≡_ {A = ℕ} 0 (cond b 0 0)
     go true = refl
     go false = refl
 own-count d desk (w ∷ ws) = go (eqb desk d) (own-count d desk ws)
@@ -78,7 +78,7 @@ own-count d desk (w ∷ ws) = go (eqb desk d) (own-count d desk ws)
     go : (b : Bool) → deskCount d (map (sent desk) ws) ≡ cond b (length ws) 0
         → cond b 1 0 + deskCount d (map (sent desk) ws) ≡ cond b (length (w ∷ ws)) 0
     go true r = omega (arith, r)
-    go false r = r
+    go false r = omega (arith, r)
 
 -- at most 32 of its own behind the others' keep a frame well formed
 pub forwarded-fits : (n desk : ℕ) (us : List SentUpdate) (ws : List Update) → WellFormed n us → length ws ≤ 32

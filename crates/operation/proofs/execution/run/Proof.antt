@@ -150,8 +150,7 @@ returns : tie.Need-returns Inv-loop μ-loop
 returns c =
     let a = c .before .before .before in
     let e = a .before .before in
-    let d = e .before .before .before .before in
-    (
+    let d = e .before .before .before .before in (
       c .declined .ensures .0
           ∙ running-stop _ _ _ _ _ _ _ _ _ (d .loop .inv .1) (omega arith) (e .before .if1 .left) (e .if2 .left) _
           (a .before .operand-named .ensures) (sym (a .act .ensures) ∙ ap nextOf (c .before .enum-told .given .1)),
