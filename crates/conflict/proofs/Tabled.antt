@@ -1,7 +1,7 @@
 -- A transaction's cells, looked up in the mask table, have the masks of the definition.
 -- Assumes nothing.
-use mathlib.Core.Path.{_≡_, _∙_, ap}
-use mathlib.Core.Bool.{Bool, true, false, cond}
+use mathlib.Core.Path.{_≡_, refl, _∙_, ap}
+use mathlib.Core.Bool.{Bool, true, false, not, cond}
 use mathlib.Core.List.{List}
 use Prim.Native.Nat.{ℕ}
 use lib.Count.{ones}
@@ -16,7 +16,7 @@ use Rattle.operation.specs.Admission.{parametersPass, unusedZero}
 use Rattle.operation.proofs.Bounds.{transaction-fits, cells-low}
 use Rattle.conflict.specs.Touch.{deskMask, maskTable}
 use Rattle.conflict.specs.Mask.{some}
-use Rattle.conflict.specs.Class.{onesAre, isWrite, free, local, global, classBy}
+use Rattle.conflict.specs.Class.{onesAre, isWrite, free, local, global, classBy, isGlobal}
 use Rattle.conflict.proofs.Tables.{getD-tabulate}
 
 pub ones-tabled : (least : ℕ) (p : Plan) (k : ℕ) (a : Access) (ws : List ℕ) (at : ℕ) (ps : List ℕ)
@@ -51,3 +51,22 @@ module _ (ws : List ℕ) (at : ℕ) (ps : List ℕ) (e : parametersPass (transac
       rw w (ap (λ (x : Bool). cond x free local)
       (h ∙ ap (λ (m : List ℕ). onesAre 0 (λ c. getD m c 0) (cellsNamed reads ps (transactionFrom ws at .steps))) t
       ∙ ones-tabled 4 p 0 reads ws at ps e))
+
+  -- global, by the same two tests: an operation that writes nothing is not
+
+  pub reading-not-global : some isWrite (transactionFrom ws at .steps) ≡ false → isGlobal (classBy p (transactionFrom ws at) ps) ≡ false
+  unfolding classBy
+  reading-not-global w = rw w (neither (onesAre 0 (deskMask 4 p) (cellsNamed reads ps (transactionFrom ws at .steps))))
+    where
+      neither : (b : Bool) → isGlobal (cond b free local) ≡ false
+      neither true = refl
+      neither false = refl
+
+  pub writing-global : (b : Bool) (l : List ℕ) → l ≡ maskTable 3 p → some isWrite (transactionFrom ws at .steps) ≡ true
+      → b ≡ onesAre 1 (λ c. getD l c 0) (cellsNamed writes ps (transactionFrom ws at .steps))
+      → not b ≡ isGlobal (classBy p (transactionFrom ws at) ps)
+  writing-global b l t w h = other b ∙ ap isGlobal (class-writing b l t w h)
+    where
+      other : (b : Bool) → not b ≡ isGlobal (cond b local global)
+      other true = refl
+      other false = refl

@@ -56,6 +56,11 @@ ReadsFrom p o o′ = (c : ℕ) × MayRead p o c × MayWrite p o′ c
 pub data Class : Type 0 where
   free local global : Class
 
+abbrev pub isGlobal : Class → Bool
+isGlobal free = false
+isGlobal local = false
+isGlobal global = true
+
 abbrev pub isWrite : Step → Bool
 isWrite (cell reads table column row) = false
 isWrite (cell writes table column row) = true

@@ -10,7 +10,8 @@ ghost use Rattle.plan.specs.Place.{StandsAt, transactionFrom};
 ghost use Rattle.operation.specs.Operation.{cellsNamed};
 ghost use Rattle.operation.specs.Admission.{parametersPass};
 ghost use Rattle.conflict.specs.Mask.{some};
-ghost use Rattle.conflict.specs.Class.{classBy, isWrite, onesAre};
+ghost use Rattle.conflict.specs.Touch.{maskTable};
+ghost use Rattle.conflict.specs.Class.{classBy, isWrite, onesAre, isGlobal};
 ghost use Rattle.conflict.specs.Answer.{classOfCode, classifiedOf, classifyResult};
 use crate::mask;
 use plan::PlanAnswer;
@@ -93,6 +94,18 @@ pub fn class_of(plan: &[u32], at: usize, params: [u32; 4]) -> Class
         return Class::Free;
     }
     Class::Local
+}
+
+// Whether an operation of the transaction at this place is global, by the table of the desks that may touch each cell.
+pub fn is_global(plan: &[u32], at: usize, params: [u32; 4], touchers: &[u8]) -> bool
+    requires { ⌜ StandsAt (now plan) at × (parametersPass (transactionFrom (now plan) at) params ≡ true)
+        × (now touchers ≡ maskTable 3 (planOf (now plan))) ⌝ }
+    ensures { λ r. ⌜ r ≡ isGlobal (classBy (planOf (now (plan .entry))) (transactionFrom (now (plan .entry)) at) params) ⌝ }
+{
+    if !has_write(plan, at) {
+        return false;
+    }
+    !ones_are(plan, at, params, 4, touchers, 1)
 }
 
 // The classifier: questions 1 to 4, 7 and 8, then the class and the desk.

@@ -7,4 +7,5 @@ pub use class::Class;
 pub use class::ClassAnswer;
 pub use class::class_of;
 pub use class::classify;
+pub use class::is_global;
 pub use mask::desk_masks;

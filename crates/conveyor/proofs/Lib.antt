@@ -1,7 +1,12 @@
+pub mod Asked
+pub mod Standing
+pub mod Handed
+pub mod Routes
 pub mod Remainders
 pub mod Operations
 pub mod WaitingRuns
 pub mod OwnUpdates
 pub mod Assembled
-pub mod Admitted
+pub mod Questions
 pub mod Outgoing
+pub mod Visited

@@ -24,7 +24,7 @@ use Rattle.conveyor.specs.Queueing.{waitingIn}
 use Rattle.conveyor.specs.Waiting.{runAll, updatesOf}
 use Rattle.conveyor.specs.Running.{allMade, allReplies, AllRun}
 use Rattle.conveyor.specs.Visit.{Passage, forwarded, Visited, passed}
-use Rattle.conveyor.proofs.Admitted.{Admitted}
+use Rattle.conveyor.proofs.Questions.{Passable}
 use Rattle.conveyor.proofs.OwnUpdates.{updates-count, replies-count, all-fit}
 use Rattle.conveyor.proofs.Assembled.{frame-length}
 
@@ -44,7 +44,7 @@ part-is f = ap (λ (i : ℕ). take i (drop 2 f)) (twice (length f))
     twice k = omega arith
 
 module _ (ws : List ℕ) (d : Desk) (cells : List ℕ) (queue : List Request) (f out replies : List ℕ)
-    (a : Admitted ws d cells queue f out replies) (body : List ℕ) (b : body ≡ updatesPart f) where
+    (a : Passable ws d cells queue f out replies) (body : List ℕ) (b : body ≡ updatesPart f) where
   pub written : body ≡ updatesWords (updatesFrom 0 body)
   written = rw b (part-written (planOf ws .desks) f (a .frame))
 

@@ -1,16 +1,17 @@
 -- Questions 5 and 6, and 13 to 15: buffers, the desk's state, and whose turn it is.
 use Prim.Native.Nat.{ℕ, _%_}
+use mathlib.Core.Path.{_≡_}
 use mathlib.Core.Bool.{Bool, true, false, _&&_, cond}
 use mathlib.Core.List.{List}
 use lib.Dec.{ltb, leb, eqb}
 use lib.ListN.{length}
 use Rattle.word.specs.Field.{addressedDesk}
 use Rattle.plan.specs.Plan.{Plan}
-use Rattle.plan.specs.Decode.{headOf}
-use Rattle.plan.specs.Admission.{every, Verdict, accepted, refused}
+use Rattle.plan.specs.Decode.{headOf, planOf}
+use Rattle.plan.specs.Admission.{every, Verdict, accepted, refused, planVerdict}
 use Rattle.operation.specs.Operation.{deskOf}
 use Rattle.operation.specs.Admission.{operationVerdict}
-use Rattle.conflict.specs.Class.{Class, free, local, global, classOf}
+use Rattle.conflict.specs.Class.{isGlobal, classOf}
 use Rattle.token.specs.Admission.{frameVisit}
 use Rattle.queue.specs.declared.record.Request.{Request}
 use Rattle.conveyor.specs.declared.desk.Desk.{Desk}
@@ -20,10 +21,10 @@ abbrev pub isAccepted : Verdict → Bool
 isAccepted accepted = true
 isAccepted (refused question) = false
 
-abbrev pub isGlobal : Class → Bool
-isGlobal free = false
-isGlobal local = false
-isGlobal global = true
+-- the plan passes questions 1 to 4, and the request's operation 7 and 8
+pub record Admitted (ws : List ℕ) (r : Request) : Type 0 where
+  pub planned : planVerdict ws ≡ accepted
+  pub passed : operationVerdict (planOf ws) (operationOf r) ≡ accepted
 
 -- 5: "book exactly 1,024, row exactly 32"
 unfoldable pub deskBuffersFit : List ℕ → List Request → Bool

@@ -5,3 +5,4 @@ pub mod Running
 pub mod Request
 pub mod Visit
 pub mod Answer
+pub mod Step

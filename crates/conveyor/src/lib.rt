@@ -1,4 +1,6 @@
 // The engine: new desk, request and visit.
+mod admitted;
+mod check;
 mod desk;
 mod passing;
 mod request;

@@ -1,6 +1,28 @@
 // A request at a desk.
+ghost use mathlib.Core.Path.{_≡_};
+ghost use mathlib.Core.Bool.{cond};
+ghost use mathlib.Core.List.{List};
+ghost use Prim.Native.Nat.{ℕ};
+ghost use lib.Dec.{ltb, eqb};
+ghost use lib.ListN.{length};
+ghost use Rattle.plan.specs.Decode.{planOf};
+ghost use Rattle.plan.specs.Answer.{verdictOf};
+ghost use Rattle.operation.specs.Operation.{deskOf};
+ghost use Rattle.conflict.specs.Class.{classOf};
+ghost use Rattle.queue.specs.Queue.{recordsOf};
+ghost use Rattle.queue.specs.declared.record.Request.{Request as Queued};
+ghost use Rattle.conveyor.specs.Queueing.{operationOf};
+ghost use Rattle.conveyor.specs.Admission.{Admitted};
+ghost use Rattle.conveyor.specs.Request.{isRefused, unchanged, ranNow, enqueued, routed, requestResult};
+ghost use Rattle.conveyor.specs.Answer.{responseOf};
+ghost use Rattle.conveyor.specs.Step.{steppedOf, stepVerdict};
+use crate::admitted;
+use crate::check;
 use crate::desk::Desk;
+use conflict::Class;
 use operation::Reply;
+use plan::PlanAnswer;
+use queue::Request;
 
 // Replied (done or declined, with the number), waiting, elsewhere with the operation's desk, or refused with the question's number.
 pub enum RequestAnswer {
@@ -14,4 +36,153 @@ pub enum RequestAnswer {
 pub struct RequestResult {
     pub answer: RequestAnswer,
     pub state: Desk,
+}
+
+// The result, and the record that is to be stored in the queue, with its place: at the queue's end it is not stored.
+pub struct RequestStep {
+    pub result: RequestResult,
+    pub place: usize,
+    pub request: Request,
+}
+
+// An answer with which nothing is stored and the state stays.
+fn unchanged_step(answer: RequestAnswer, state: Desk, size: usize, request: Request) -> RequestStep
+    ensures { λ r. ⌜ ((cells : List ℕ) (queue : List Queued) → length queue ≡ size
+        → steppedOf r cells queue ≡ unchanged state cells queue (responseOf answer)) ⌝ }
+{
+    let result = RequestResult {
+        answer: answer,
+        state: state,
+    };
+    RequestStep {
+        result: result,
+        place: size,
+        request: request,
+    }
+}
+
+// The operation runs at once.
+fn run_step(
+    plan: &[u32],
+    state: Desk,
+    cells: &mut [u32],
+    size: usize,
+    request: Request,
+) -> RequestStep
+    requires { ⌜ Admitted (now plan) request ⌝ }
+    ensures { λ r. ⌜ ((queue : List Queued) → length queue ≡ size → steppedOf r (now (cells .exit)) queue
+        ≡ ranNow state (now (cells .entry)) queue (planOf (now (plan .entry))) (operationOf request)) ⌝ }
+{
+    let reply = admitted::run_operation(plan, request, cells);
+    unchanged_step(RequestAnswer::Replied(reply), state, size, request)
+}
+
+// Question 9; then the request waits, behind those that wait.
+fn wait_step(state: Desk, size: usize, request: Request) -> RequestStep
+    ensures { λ r. ⌜ ((cells : List ℕ) (queue : List Queued) → length queue ≡ size → steppedOf r cells queue
+        ≡ cond (ltb (state .waiting) 32) (enqueued state cells queue request) (unchanged state cells queue (isRefused 9))) ⌝ }
+{
+    let waiting = state.waiting;
+    if 32 <= waiting {
+        return unchanged_step(RequestAnswer::Refused(9), state, size, request);
+    }
+    let after = Desk {
+        desk: state.desk,
+        waiting: waiting + 1,
+        awaited: state.awaited,
+    };
+    let result = RequestResult {
+        answer: RequestAnswer::Waits,
+        state: after,
+    };
+    RequestStep {
+        result: result,
+        place: waiting as usize,
+        request: request,
+    }
+}
+
+// By its class and its desk the operation runs, waits, or is another desk's.
+fn routed_step(
+    plan: &[u32],
+    state: Desk,
+    cells: &mut [u32],
+    size: usize,
+    request: Request,
+) -> RequestStep
+    requires { ⌜ Admitted (now plan) request ⌝ }
+    ensures { λ r. ⌜ ((queue : List Queued) → length queue ≡ size → steppedOf r (now (cells .exit)) queue
+        ≡ routed state (now (cells .entry)) queue (classOf (planOf (now (plan .entry))) (operationOf request))
+        (eqb (deskOf (planOf (now (plan .entry))) (operationOf request)) (state .desk)) (planOf (now (plan .entry))) request) ⌝ }
+{
+    let here = state.desk;
+    let desk = admitted::operation_desk(plan, request);
+    let own = desk == here;
+    let elsewhere = RequestAnswer::Elsewhere(desk);
+    match admitted::operation_class(plan, request) {
+        Class::Free => run_step(plan, state, cells, size, request),
+        Class::Local => {
+            if own {
+                return run_step(plan, state, cells, size, request);
+            }
+            unchanged_step(elsewhere, state, size, request)
+        }
+        Class::Global => {
+            if own {
+                return wait_step(state, size, request);
+            }
+            unchanged_step(elsewhere, state, size, request)
+        }
+    }
+}
+
+// Questions 1 to 8.
+fn request_verdict(
+    plan: &[u32],
+    state: Desk,
+    cells: &[u32],
+    size: usize,
+    records: [Request; 32],
+    request: Request,
+) -> PlanAnswer
+    ensures { λ r. ⌜ verdictOf r ≡ stepVerdict (now (plan .entry)) state (now (cells .entry)) size records request ⌝ }
+{
+    if let PlanAnswer::Refused(question) = plan::read_plan(plan) {
+        return PlanAnswer::Refused(question);
+    }
+    if cells.len() != 1024 {
+        return PlanAnswer::Refused(5);
+    }
+    if size != 32 {
+        return PlanAnswer::Refused(5);
+    }
+    if !check::desk_stands(plan, state, records) {
+        return PlanAnswer::Refused(6);
+    }
+    admitted::operation_verdict(plan, request)
+}
+
+// The request, of a queue with this length and these first records. Nothing is written before the last question.
+pub(crate) fn request_core(
+    plan: &[u32],
+    state: Desk,
+    cells: &mut [u32],
+    size: usize,
+    records: [Request; 32],
+    request: Request,
+) -> RequestStep
+    ensures { λ r. ⌜ ((queue : List Queued) → length queue ≡ size → recordsOf queue ≡ records
+        → steppedOf r (now (cells .exit)) queue ≡ requestResult (now (plan .entry)) state (now (cells .entry)) queue request) ⌝ }
+{
+    if let PlanAnswer::Refused(question) = request_verdict(
+        plan,
+        state,
+        cells,
+        size,
+        records,
+        request,
+    ) {
+        return unchanged_step(RequestAnswer::Refused(question), state, size, request);
+    }
+    routed_step(plan, state, cells, size, request)
 }

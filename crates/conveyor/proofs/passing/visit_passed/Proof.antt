@@ -10,7 +10,7 @@ use Rattle.plan.proofs.Accepted.{accepted-gives, desk-count}
 use Rattle.token.specs.Forward.{foreignWords}
 use Rattle.conveyor.specs.Queueing.{waitingIn}
 use Rattle.conveyor.specs.Running.{allMade}
-use Rattle.conveyor.proofs.Admitted.{Admitted, admitted-gives}
+use Rattle.conveyor.proofs.Questions.{Passable, questions-give}
 use Rattle.conveyor.proofs.Remainders.{lent}
 use Rattle.conveyor.proofs.Assembled.{Copied, Joined, copied-length, copied-room, end-is, all-length, sealed-over}
 use Rattle.conveyor.proofs.Outgoing.{frame-size, part-is, written, body-room, words-fit, all-run, passed-is}
@@ -23,8 +23,8 @@ cast-waiting c = search needs
 
 adm : (c : tie.Start)
     → let a = c .args in
-    Admitted (a .plan .now) (a .state) (a .cells .now) (a .records) (a .frame .now) (a .out .now) (a .replies .now)
-adm c = admitted-gives _ _ _ _ _ _ _ (c .pre)
+    Passable (a .plan .now) (a .state) (a .cells .now) (a .records) (a .frame .now) (a .out .now) (a .replies .now)
+adm c = questions-give _ _ _ _ _ _ _ (c .pre)
 
 low : (c : tie.Start) → 4 ≤ length (c .args .frame .now)
 low c = frame-size _ _ (adm c .frame) .0

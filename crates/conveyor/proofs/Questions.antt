@@ -23,11 +23,12 @@ use Rattle.conveyor.specs.Admission.{deskBuffersFit, visitBuffersFit, wa
 use Rattle.conveyor.specs.Visit.{visitVerdict}
 use Rattle.conveyor.specs.Running.{isOperation}
 
-both : (v w : Verdict) → andThen v w ≡ accepted → (v ≡ accepted) × (w ≡ accepted)
+-- both of two questions are answered with yes
+pub both : (v w : Verdict) → andThen v w ≡ accepted → (v ≡ accepted) × (w ≡ accepted)
 both accepted w e = (refl, e)
 both (refused q) w e = let z : _≡_ {A = ℕ} 0 1 = cc in absurd (omega arith)
 
-pub record Admitted (ws : List ℕ) (d : Desk) (cells : List ℕ) (queue : List Request) (f out replies : List ℕ) : Type 0 where
+pub record Passable (ws : List ℕ) (d : Desk) (cells : List ℕ) (queue : List Request) (f out replies : List ℕ) : Type 0 where
   pub plan : planVerdict ws ≡ accepted
   pub cellsLong : length cells ≡ 1024
   pub queueLong : length queue ≡ 32
@@ -45,10 +46,10 @@ unfolding waitsHere
 operations-here p desk rs e =
     member-every (isOperation p) rs (λ r m. and-fst (isOperation p r) _ (every-member (waitsHere p desk) rs r e m))
 
-pub admitted-gives : (ws : List ℕ) (d : Desk) (cells : List ℕ) (queue : List Request) (frame out replies : List ℕ)
-    → visitVerdict ws d cells queue frame out replies ≡ accepted → Admitted ws d cells queue frame out replies
+pub questions-give : (ws : List ℕ) (d : Desk) (cells : List ℕ) (queue : List Request) (frame out replies : List ℕ)
+    → visitVerdict ws d cells queue frame out replies ≡ accepted → Passable ws d cells queue frame out replies
 unfolding visitVerdict deskBuffersFit visitBuffersFit deskStands turnVerdict
-admitted-gives ws d cells queue frame out replies e =
+questions-give ws d cells queue frame out replies e =
     let q4 = both (planVerdict ws) _ e in
     let b5 = both (cond (deskBuffersFit cells queue && visitBuffersFit out replies) accepted (refused 5)) _ (q4 .1) in
     let q5 = yes-of (deskBuffersFit cells queue && visitBuffersFit out replies) _ 5 (b5 .0) .0 in

@@ -1,0 +1,85 @@
+-- Questions 1 to 8: each answer is the branch of the definition that the questions before it chose.
+-- Assumes nothing.
+use mathlib.Core.Path.{_≡_, _∙_, sym, ap}
+use borrow.Author.Tests.{not-true, not-false}
+use Rattle.plan.specs.Admission.{planVerdict, accepted}
+use Rattle.plan.specs.Answer.{verdictOf}
+use Rattle.conveyor.proofs.Handed.{plan-refused, store-unfit, queue-unfit, desk-unfit, by-operation}
+use borrow.Author.Needs.{needs}
+use Rattle.conveyor.proofs.request.request_verdict.Statement.{statement}
+use Rattle.conveyor.proofs.request.request_verdict.Tie as tie
+
+read-plan-requires : tie.Need-read-plan-requires
+read-plan-requires c κs = search needs
+
+enum-known-question : tie.Need-enum-known-question
+enum-known-question c = search needs
+
+returns : tie.Need-returns
+returns c =
+    let d = c .before .before .before .before .before .before in
+    sym (plan-refused (d .args .plan .now) (d .args .state) (d .args .cells .now) (d .args .size) (d .args .records) (d .args .request) _
+    (sym (c .before .before .before .read-plan .ensures) ∙ ap verdictOf (c .before .question .given .1)))
+
+enum-told : tie.Need-enum-told
+enum-told c = search needs
+
+-- questions 1 to 4 are answered with yes
+plan-passes : (c : tie.After-enum-told) → planVerdict (c .before .before .before .before .before .args .plan .now) ≡ accepted
+plan-passes c = sym (c .before .before .read-plan .ensures) ∙ ap verdictOf (c .enum-told .given .1)
+
+returns-2 : tie.Need-returns-2
+returns-2 c =
+    let e = c .before in
+    let d = e .before .before .before .before .before in
+    sym (store-unfit (d .args .plan .now) (d .args .state) (d .args .cells .now) (d .args .size) (d .args .records) (d .args .request)
+    (plan-passes e) (c .if1 .taken))
+
+returns-3 : tie.Need-returns-3
+returns-3 c =
+    let f = c .before in
+    let e = f .before in
+    let d = e .before .before .before .before .before in
+    sym (queue-unfit (d .args .plan .now) (d .args .state) (d .args .cells .now) (d .args .size) (d .args .records) (d .args .request)
+    (plan-passes e) (f .if1 .left) (c .if2 .taken))
+
+desk-stands-requires : tie.Need-desk-stands-requires
+desk-stands-requires c κs = plan-passes (c .before .before)
+
+returns-4 : tie.Need-returns-4
+returns-4 c =
+    let g = c .before .before in
+    let f = g .before in
+    let e = f .before in
+    let d = e .before .before .before .before .before in
+    sym (desk-unfit (d .args .plan .now) (d .args .state) (d .args .cells .now) (d .args .size) (d .args .records) (d .args .request)
+    (plan-passes e) (f .if1 .left) (g .if2 .left) (sym (c .before .desk-stands .ensures) ∙ not-true _ (c .if3 .taken)))
+
+operation-verdict-requires : tie.Need-operation-verdict-requires
+operation-verdict-requires c κs = plan-passes (c .before .before .before .before)
+
+returns-5 : tie.Need-returns-5
+returns-5 c =
+    let h = c .before in
+    let g = h .before .before in
+    let f = g .before in
+    let e = f .before in
+    let d = e .before .before .before .before .before in
+    c .operation-verdict .ensures
+    ∙ sym (by-operation (d .args .plan .now) (d .args .state) (d .args .cells .now) (d .args .size) (d .args .records) (d .args .request)
+    (plan-passes e) (f .if1 .left) (g .if2 .left) (sym (h .before .desk-stands .ensures) ∙ not-false _ (h .if3 .left)))
+
+pub request-verdict-spec : {M : Type 1} → statement M
+request-verdict-spec =
+    tie.close
+    (tie.spec
+    read-plan-requires
+    enum-known-question
+    returns
+    enum-told
+    returns-2
+    returns-3
+    desk-stands-requires
+    returns-4
+    operation-verdict-requires
+    returns-5)
