@@ -1,6 +1,7 @@
 pub mod Queueing
 pub mod Admission
 pub mod Waiting
+pub mod Running
 pub mod Request
 pub mod Visit
 pub mod Answer

@@ -1,30 +1,21 @@
 -- A visit of the token at a desk: everything that the call leaves, for good and bad input alike.
 use Prim.Native.Nat.{ℕ, _+_}
 use mathlib.Core.Bool.{_&&_, cond}
-use mathlib.Core.List.{List, [], _∷_, _++_, map}
+use mathlib.Core.List.{List, _++_, map}
 use lib.Dec.{eqb}
 use lib.ListN.{length}
 use Rattle.plan.specs.Plan.{Plan}
 use Rattle.plan.specs.Decode.{planOf}
 use Rattle.plan.specs.Admission.{Verdict, accepted, refused, planVerdict}
-use Rattle.operation.specs.Run.{Store, Update, applyUpdate}
+use Rattle.operation.specs.Run.{Store}
 use Rattle.token.specs.Frame.{SentUpdate, sent, frameWords, overwritten}
 use Rattle.token.specs.Admission.{andThen, frameVerdict, frameVisit, frameUpdates}
+use Rattle.token.specs.Forward.{foreign, applyAll}
 use Rattle.queue.specs.declared.record.Request.{Request}
 use Rattle.conveyor.specs.declared.desk.Desk.{Desk}
 use Rattle.conveyor.specs.Queueing.{waitingIn}
 use Rattle.conveyor.specs.Admission.{deskBuffersFit, visitBuffersFit, deskStands, turnVerdict}
 use Rattle.conveyor.specs.Waiting.{runAll, updatesOf, repliesOf, repliesWords}
-
--- "A visit drops this desk's own updates": those of the others, in order
-unfoldable pub foreign : ℕ → List SentUpdate → List SentUpdate
-foreign desk [] = []
-foreign desk (u ∷ us) = cond (eqb (u .desk) desk) (foreign desk us) (u ∷ foreign desk us)
-
--- "applies the others in order"
-unfoldable pub applyAll : List SentUpdate → Store → Store
-applyAll [] s = s
-applyAll (u ∷ us) s = applyAll us (applyUpdate (u .writes) s)
 
 -- refused, or "the words of the outgoing frame and the count of replies"
 pub data Passage : Type 0 where
@@ -75,6 +66,14 @@ visitVerdict ws d cells queue frame out replies =
     andThen (planVerdict ws)
     (andThen (cond (deskBuffersFit cells queue && visitBuffersFit out replies) accepted (refused 5))
     (andThen (cond (deskStands (planOf ws) d queue) accepted (refused 6))
+    (andThen (frameVerdict (planOf ws .desks) frame) (turnVerdict d frame))))
+
+-- the same questions of what the core is handed: the queue's length and its first 32 records in place of the queue
+unfoldable pub passVerdict : List ℕ → Desk → List ℕ → ℕ → List Request → List ℕ → List ℕ → List ℕ → Verdict
+passVerdict ws d cells size records frame out replies =
+    andThen (planVerdict ws)
+    (andThen (cond ((eqb (length cells) 1024 && eqb size 32) && visitBuffersFit out replies) accepted (refused 5))
+    (andThen (cond (deskStands (planOf ws) d records) accepted (refused 6))
     (andThen (frameVerdict (planOf ws .desks) frame) (turnVerdict d frame))))
 
 unfoldable pub visitResult : List ℕ → Desk → List ℕ → List Request → List ℕ → List ℕ → List ℕ → Visited

@@ -29,8 +29,11 @@ repliesOf p (r ∷ rs) s =
     (applyUpdate (run p (operationOf r) s .update) s)
 
 -- "three words each: kind 12 with bit 0 set if done, the client's word, the number"
+abbrev pub replyHead : Bool → ℕ
+replyHead done = 12 * 2 ^ 28 + cond done 1 0
+
 abbrev pub replyWords : Answered → List ℕ
-replyWords a = (12 * 2 ^ 28 + cond (a .reply .done) 1 0) ∷ a .client ∷ a .reply .number ∷ []
+replyWords a = replyHead (a .reply .done) ∷ a .client ∷ a .reply .number ∷ []
 
 unfoldable pub repliesWords : List Answered → List ℕ
 repliesWords [] = []

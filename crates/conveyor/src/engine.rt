@@ -2,10 +2,13 @@
 // stores at most one record.
 ghost use mathlib.Core.Path.{_≡_};
 ghost use Rattle.conveyor.specs.Request.{recordOf, requestResult};
-ghost use Rattle.conveyor.specs.Answer.{requestedOf};
+ghost use Rattle.conveyor.specs.Visit.{visitResult};
+ghost use Rattle.conveyor.specs.Answer.{requestedOf, visitedOf};
 use crate::asking::RequestResult;
 use crate::asking::request_step;
 use crate::desk::Desk;
+use crate::visiting::VisitResult;
+use crate::visiting::visit_core;
 use queue::Request;
 
 // A request at a desk.
@@ -35,4 +38,23 @@ pub fn request(
     );
     queue::store(queue, step.place, step.request);
     step.result
+}
+
+// A visit of the token at a desk. The queue is only read.
+pub fn visit(
+    plan: &[u32],
+    state: Desk,
+    cells: &mut [u32],
+    queue: &[Request],
+    frame: &[u32],
+    out: &mut [u32],
+    replies: &mut [u32],
+) -> VisitResult
+    ensures { λ r. ⌜ visitedOf r (now (cells .exit)) (now (out .exit)) (now (replies .exit))
+        ≡ visitResult (now (plan .entry)) state (now (cells .entry)) (now (queue .entry)) (now (frame .entry)) (now (out .entry))
+        (now (replies .entry)) ⌝ }
+{
+    let size = queue.len();
+    let records = queue::copied(queue);
+    visit_core(plan, state, cells, size, records, frame, out, replies)
 }

@@ -4,6 +4,8 @@ mod asking;
 mod check;
 mod desk;
 mod engine;
+mod passing;
+mod running;
 mod visiting;
 
 pub use asking::RequestAnswer;
@@ -12,5 +14,6 @@ pub use desk::Desk;
 pub use desk::DeskAnswer;
 pub use desk::new_desk;
 pub use engine::request;
+pub use engine::visit;
 pub use visiting::VisitAnswer;
 pub use visiting::VisitResult;

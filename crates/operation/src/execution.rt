@@ -105,7 +105,8 @@ pub fn apply(store: &mut [u32], update: Update)
 // Runs the transaction that stands at this place. The writes are kept until the run is done.
 pub fn run(plan: &[u32], at: usize, params: [u32; 4], store: &[u32]) -> Outcome
     requires { ⌜ StandsAt (now plan) at × (parametersPass (transactionFrom (now plan) at) params ≡ true) ⌝ }
-    ensures { λ r. ⌜ outcomeOf r ≡ runTransaction (transactionFrom (now (plan .entry)) at) params (now (store .entry)) ⌝ }
+    ensures outcome { λ r. ⌜ outcomeOf r ≡ runTransaction (transactionFrom (now (plan .entry)) at) params (now (store .entry)) ⌝ }
+    ensures few { λ r. ⌜ r .update .count ≤ 12 ⌝ }
 {
     let mut cells: [u32; 12] = [0; 12];
     let mut values: [u32; 12] = [0; 12];
@@ -140,7 +141,8 @@ pub fn run(plan: &[u32], at: usize, params: [u32; 4], store: &[u32]) -> Outcome
 
 // The outcome of a run that is done.
 fn finished(number: u32, count: usize, cells: [u32; 12], values: [u32; 12]) -> Outcome
-    ensures { λ r. ⌜ outcomeOf r ≡ finishedWith number (pairs count cells values) ⌝ }
+    ensures outcome { λ r. ⌜ outcomeOf r ≡ finishedWith number (pairs count cells values) ⌝ }
+    ensures count { λ r. ⌜ r .update .count ≡ count ⌝ }
 {
     let reply = Reply {
         done: true,
@@ -159,7 +161,8 @@ fn finished(number: u32, count: usize, cells: [u32; 12], values: [u32; 12]) -> O
 
 // The outcome of a declined run, which writes nothing.
 fn declined(number: u32) -> Outcome
-    ensures { λ r. ⌜ outcomeOf r ≡ declinedAt number ⌝ }
+    ensures outcome { λ r. ⌜ outcomeOf r ≡ declinedAt number ⌝ }
+    ensures count { λ r. ⌜ r .update .count ≡ 0 ⌝ }
 {
     let none: [u32; 12] = [0; 12];
     let reply = Reply {

@@ -13,3 +13,6 @@ pub mod OneWord
 pub mod Readers
 pub mod Relaying
 pub mod Stepping
+pub mod Filling
+pub mod Forwarding
+pub mod Foreign

@@ -45,7 +45,7 @@ formed-desk n w e =
 
 -- ---- one word or two at a time
 
-here : (ws : List ℕ) (i : ℕ) → i < length ws → drop i ws ≡ getD ws i 0 ∷ drop (i + 1) ws
+pub here : (ws : List ℕ) (i : ℕ) → i < length ws → drop i ws ≡ getD ws i 0 ∷ drop (i + 1) ws
 here ws i h = rw (add-one, drop-cons ws i 0 h)
 
 cell-fault : (n : ℕ) (s : List ℕ) (left w : ℕ) (ws : List ℕ) → cellFormed w ≡ false → rest n s (suc left) (w ∷ ws) ≡ false

@@ -1,4 +1,5 @@
 pub mod Frame
 pub mod Admission
+pub mod Forward
 pub mod WellFormed
 pub mod Answer

@@ -1,10 +1,13 @@
 // Frames of the token: the two sums, reading (questions 10 to 12), writing, and the starting frame.
+mod forward;
 mod reader;
 mod relay;
 mod sums;
 mod updates;
 mod writer;
 
+pub use forward::apply_foreign;
+pub use forward::copy_foreign;
 pub use reader::FrameCheck;
 pub use reader::VisitAnswer;
 pub use reader::check_frame;

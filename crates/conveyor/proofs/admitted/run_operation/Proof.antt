@@ -41,7 +41,7 @@ ran c =
     let f = c .before .before in
     let e = f .before in
     let d = e .before .before .before in
-    c .run .ensures
+    c .run .ensures .0
     ∙ run-asked (d .args .plan .now) (d .args .request) (d .pre) _ (e .transaction-place .ensures) _ (f .params .ensures)
     (d .args .cells .now)
 

@@ -7,7 +7,7 @@ use Rattle.operation.proofs.execution.declined.Tie as tie
 
 returns : tie.Need-returns
 unfolding pairs
-returns c = refl
+returns c = (refl, refl)
 
 pub declined-spec : {M : Type 1} → statement M
 declined-spec = tie.close (tie.spec returns)

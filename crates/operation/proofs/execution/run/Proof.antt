@@ -1,11 +1,12 @@
 -- A run along the steps: what is still to run gives the whole outcome.
 -- Assumes nothing.
 use mathlib.Core.Path.{_≡_, refl, _∙_, sym, ap}
-use Prim.Native.Nat.{_+_, _-_, _<_}
+use Prim.Native.Nat.{_+_, _-_, _≤_, _<_}
 use native.Mathlib.Omega.{arith}
 use lib.ListN.{length, getD}
 use Rattle.word.specs.Field.{stepCount}
 use Rattle.plan.proofs.Steps.{step-here}
+use Rattle.plan.proofs.Words.{transaction-steps}
 use Rattle.operation.specs.Answer.{nextOf}
 use Rattle.operation.proofs.Running.{Running, running-start, running-done, running-few, running-row}
 use Rattle.operation.proofs.Running.{running-read, running-write, running-act, running-stop}
@@ -15,7 +16,7 @@ use Rattle.operation.proofs.execution.run.Tie as tie
 
 abbrev Inv-loop : tie.InvT-loop
 Inv-loop plan at params store cells₀ values₀ count₀ number₀ steps s₀ cells values count number s =
-    (steps ≡ stepCount (getD plan at 0)) × Running plan at params store s cells values count number
+    (steps ≡ stepCount (getD plan at 0)) × Running plan at params store s cells values count number × (s ≤ steps)
 
 abbrev μ-loop : tie.MeasureT-loop
 μ-loop plan at params store cells₀ values₀ count₀ number₀ steps s₀ cells values count number s = steps - s
@@ -36,7 +37,7 @@ cast-steps c = search needs
 loop-holds : tie.Need-loop-holds Inv-loop μ-loop
 loop-holds c =
     let d = c .before .before .before in
-    (refl, running-start _ _ _ _ _ _ (d .pre .0) (d .pre .1) refl refl)
+    (refl, running-start _ _ _ _ _ _ (d .pre .0) (d .pre .1) refl refl, omega arith)
 
 -- the step's word stands within the plan
 here : (c : tie.In-loop Inv-loop μ-loop)
@@ -78,6 +79,7 @@ loop-again c =
       d .loop .inv .0,
       running-read _ _ _ _ _ _ _ _ _ (d .loop .inv .1) (omega arith) (c .before .before .before .before .if1 .taken) _ _
           (c .before .before .before .cell-named .ensures) (c .seen .ensures),
+      omega arith,
     )
 
 cell-named-requires-2 : tie.Need-cell-named-requires-2 Inv-loop μ-loop
@@ -112,6 +114,7 @@ loop-again-2 c =
     let d = c .before .before .before .before .before in (
       d .loop .inv .0,
       running-write _ _ _ _ _ _ _ _ _ (d .loop .inv .1) (omega arith) (c .before .if2 .taken) _ (c .cell-named2 .ensures),
+      omega arith,
     )
 
 operand-named-requires : tie.Need-operand-named-requires Inv-loop μ-loop
@@ -134,6 +137,7 @@ loop-again-3 c =
       d .loop .inv .0,
       running-act _ _ _ _ _ _ _ _ _ (d .loop .inv .1) (omega arith) (e .before .if1 .left) (e .if2 .left) _ _
           (a .before .operand-named .ensures) (sym (a .act .ensures) ∙ ap nextOf (c .before .after .given .1)),
+      omega arith,
     )
 
 enum-told : tie.Need-enum-told Inv-loop μ-loop
@@ -146,16 +150,22 @@ returns : tie.Need-returns Inv-loop μ-loop
 returns c =
     let a = c .before .before .before in
     let e = a .before .before in
-    let d = e .before .before .before .before in
-    c .declined .ensures
-    ∙ running-stop _ _ _ _ _ _ _ _ _ (d .loop .inv .1) (omega arith) (e .before .if1 .left) (e .if2 .left) _
-    (a .before .operand-named .ensures) (sym (a .act .ensures) ∙ ap nextOf (c .before .enum-told .given .1))
+    let d = e .before .before .before .before in (
+      c .declined .ensures .0
+          ∙ running-stop _ _ _ _ _ _ _ _ _ (d .loop .inv .1) (omega arith) (e .before .if1 .left) (e .if2 .left) _
+          (a .before .operand-named .ensures) (sym (a .act .ensures) ∙ ap nextOf (c .before .enum-told .given .1)),
+      omega (arith, c .declined .ensures .1),
+    )
 
 finished-requires : tie.Need-finished-requires Inv-loop μ-loop
 finished-requires c κs = search needs
 
 returns-2 : tie.Need-returns-2 Inv-loop μ-loop
-returns-2 c = c .finished .ensures ∙ running-done _ _ _ _ _ _ _ _ _ (c .before .before .loop .inv .1) (omega arith)
+returns-2 c =
+    let r = c .before .before .loop .inv .1 in (
+      c .finished .ensures .0 ∙ running-done _ _ _ _ _ _ _ _ _ r (omega arith),
+      omega (arith, c .finished .ensures .1, r .few, transaction-steps _ (r .whole .form)),
+    )
 
 pub run-spec : {M : Type 1} → statement M
 run-spec =
