@@ -22,17 +22,24 @@ use Rattle.conflict.specs.Class.{classBy, classOf}
 use Rattle.token.specs.Frame.{writeWords, updateWords, updatesWords, sumsFrom, frameAround}
 use Rattle.token.specs.Admission.{writesFrom, updatesFrom, deskCount, frameHeaded, sumsRight, updateFormed, cellFormed}
 use Rattle.token.specs.Admission.{wellFormed, fewPerDesk, updatesRight, frameVerdict}
-use Rattle.token.proofs.Course.{planP, starting, sending}
+use Rattle.starred.specs.Table.{planP, sentFrame}
 use Rattle.queue.specs.Queue.{noRequest}
 use Rattle.queue.specs.declared.record.Request.{Request}
 use Rattle.conveyor.specs.Admission.{deskBuffersFit, visitBuffersFit, waitsHere, deskStands, turnVerdict}
 use Rattle.conveyor.specs.Request.{requestVerdict, requestResult}
 use Rattle.conveyor.specs.Request as asked
-use Rattle.conveyor.specs.Visit.{foreign, applyAll, visitVerdict, visitResult}
+use Rattle.token.specs.Forward.{foreign, applyAll}
+use Rattle.conveyor.specs.Visit.{visitVerdict, visitResult}
 use Rattle.conveyor.specs.Visit as passing
 use Rattle.conveyor.specs.Waiting.{Answered, runAll, updatesOf, repliesOf, repliesWords}
 use Rattle.history.specs.History.{Call, request, visit, Outcome, requested, visited, isRefused, outcomes, start, ProperFromStart}
 use Rattle.history.specs.SerialRun.{Serial, serial, order, storeAfter, due}
+
+abbrev starting : List ℕ
+starting = 0x90000004 ∷ 0x00000000 ∷ 0x90000004 ∷ 0x20000008 ∷ []
+
+abbrev sending : List ℕ
+sending = sentFrame 0xA0100000
 
 abbrev done : ℕ → asked.Response
 done x = asked.replied (record { done = true; number = x })

@@ -28,7 +28,7 @@ use Rattle.token.specs.Admission.{deskCount}
 use Rattle.token.specs.WellFormed.{cellFits, updateFits, WellFormed}
 use Rattle.queue.specs.declared.record.Request.{Request}
 use Rattle.conveyor.specs.Queueing.{operationOf}
-use Rattle.conveyor.specs.Visit.{foreign}
+use Rattle.token.specs.Forward.{foreign}
 use Rattle.conveyor.specs.Waiting.{updatesOf}
 use Rattle.serial.proofs.Tests.{by-same, eqb-yes, eqb-no, eqb-self}
 use Rattle.serial.proofs.Lists.{All}

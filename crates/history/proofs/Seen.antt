@@ -14,7 +14,7 @@ use Rattle.token.specs.Frame.{SentUpdate, sent}
 use Rattle.token.specs.Admission.{frameVisit, frameUpdates}
 use Rattle.queue.specs.declared.record.Request.{Request}
 use Rattle.conveyor.specs.Queueing.{operationOf}
-use Rattle.conveyor.specs.Visit.{foreign, applyAll}
+use Rattle.token.specs.Forward.{foreign, applyAll}
 use Rattle.conveyor.specs.Waiting.{Answered, runAll, updatesOf, repliesOf}
 use Rattle.serial.specs.System.{System}
 use Rattle.serial.specs.Store as store

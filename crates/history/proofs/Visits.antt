@@ -26,7 +26,8 @@ use Rattle.queue.specs.declared.record.Request.{Request}
 use Rattle.conveyor.specs.declared.desk.Desk.{Desk}
 use Rattle.conveyor.specs.Queueing.{waitingIn}
 use Rattle.conveyor.specs.Admission.{isAccepted, deskBuffersFit, visitBuffersFit, deskStands, turnVerdict}
-use Rattle.conveyor.specs.Visit.{Visited, foreign, applyAll, caughtUp, outgoingUpdates, outgoingFrame, passed, visitedBy, visitVerdict}
+use Rattle.token.specs.Forward.{foreign, applyAll}
+use Rattle.conveyor.specs.Visit.{Visited, caughtUp, outgoingUpdates, outgoingFrame, passed, visitedBy, visitVerdict}
 use Rattle.conveyor.specs.Visit.{visitResult}
 use Rattle.conveyor.specs.Waiting.{runAll, updatesOf, repliesOf}
 use Rattle.serial.specs.System.{System}

@@ -21,7 +21,8 @@ use Rattle.token.specs.Admission.{writesFrom, updatesFrom, deskCount, frameHead
 use Rattle.token.specs.Admission.{updatesRight, frameVerdict, readVerdict}
 use Rattle.conveyor.specs.Admission.{deskBuffersFit, visitBuffersFit, waitsHere, deskStands, turnVerdict}
 use Rattle.conveyor.specs.Waiting.{runAll, updatesOf, repliesOf, repliesWords}
-use Rattle.conveyor.specs.Visit.{foreign, applyAll, visitVerdict, visitResult}
+use Rattle.token.specs.Forward.{foreign, applyAll}
+use Rattle.conveyor.specs.Visit.{visitVerdict, visitResult}
 use Rattle.starred.specs.Table.{Row, resultOf, table}
 
 pub starred : map (λ (r : Row). resultOf (r .input)) table ≡ map (λ (r : Row). r .result) table
