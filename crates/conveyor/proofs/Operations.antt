@@ -32,7 +32,8 @@ module _ (ws : List ℕ) (r : Request) (e : planVerdict ws ≡ accepted) (h : is
       × (parametersPass (transactionOf (planOf ws) (operationOf r)) (paramsOf r) ≡ true)
   unfolding operationVerdict
   answers =
-      let q7 = yes-of (transactionExists (planOf ws) (r .transaction)) _ 7 (accepted-is (operationVerdict (planOf ws) (operationOf r)) h) in
+      let q7 = yes-of (transactionExists (planOf ws) (r .transaction)) _ 7
+      (accepted-is (operationVerdict (planOf ws) (operationOf r)) h) in
       (q7 .0, yes-of (parametersPass (transactionOf (planOf ws) (operationOf r)) (paramsOf r)) _ 8 (q7 .1) .0)
 
   below : r .transaction < headTransactions (headOf ws)

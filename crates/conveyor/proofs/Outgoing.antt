@@ -51,11 +51,18 @@ module _ (ws : List ℕ) (d : Desk) (cells : List ℕ) (queue : List Request) (f
   pub body-room : length body ≤ length (take (length out - 2) (drop 2 out))
   body-room =
       let l : length body ≤ length f - 4 = omega (arith, ap length b, length-take (length f - 4) (drop 2 f)) in
-      omega (arith, frame-size (planOf ws .desks) f (a .frame) .1, a .room, length-take-le (length out - 2) (drop 2 out) (omega (arith, length-drop 2 out)))
+      omega (
+        arith,
+        frame-size (planOf ws .desks) f (a .frame) .1,
+        a .room,
+        length-take-le (length out - 2) (drop 2 out)
+            (omega (arith, length-drop 2 out)),
+      )
 
   module _ (s : Store) (e : s ≡ applyAll (foreign (d .desk) (updatesFrom 0 body)) cells) where
     -- the outgoing frame carries them
-    well-formed : WellFormed (planOf ws .desks) (foreign (d .desk) (frameUpdates f) ++ map (sent (d .desk)) (updatesOf (planOf ws) (waitingIn (d .waiting) queue) s))
+    well-formed : WellFormed (planOf ws .desks) (foreign (d .desk) (frameUpdates f) ++ map (sent (d .desk))
+        (updatesOf (planOf ws) (waitingIn (d .waiting) queue) s))
     well-formed =
         let own = updatesOf (planOf ws) (waitingIn (d .waiting) queue) s in
         let n = planOf ws .desks in
@@ -65,14 +72,23 @@ module _ (ws : List ℕ) (d : Desk) (cells : List ℕ) (queue : List Request) (f
         (all-fit ws (a .plan) (d .desk) (a .desk) (waitingIn (d .waiting) queue) s (a .operations))
 
     words-are : foreignWords (d .desk) body ++ allMade (planOf ws) (d .desk) (waitingIn (d .waiting) queue) s
-        ≡ updatesWords (foreign (d .desk) (frameUpdates f) ++ map (sent (d .desk)) (updatesOf (planOf ws) (waitingIn (d .waiting) queue) s))
+        ≡ updatesWords (foreign (d .desk) (frameUpdates f) ++ map (sent (d .desk))
+        (updatesOf (planOf ws) (waitingIn (d .waiting) queue) s))
     unfolding allMade
-    words-are = rw b (sym (words-append (foreign (d .desk) (frameUpdates f)) (map (sent (d .desk)) (updatesOf (planOf ws) (waitingIn (d .waiting) queue) s))))
+    words-are = rw b (sym (words-append (foreign (d .desk) (frameUpdates f))
+        (map (sent (d .desk)) (updatesOf (planOf ws) (waitingIn (d .waiting) queue) s))))
 
-    pub words-fit : 2 + length (foreignWords (d .desk) body ++ allMade (planOf ws) (d .desk) (waitingIn (d .waiting) queue) s) + 2 ≤ length out
+    pub words-fit : 2 + length (foreignWords (d .desk) body ++ allMade (planOf ws) (d .desk) (waitingIn (d .waiting) queue) s) + 2 ≤
+        length out
     words-fit =
         let g = accepted-gives ws (a .plan) in
-        omega (arith, ap length words-are, a .room, updates-length (planOf ws .desks) _ (omega (arith, g .desks-high, desk-count ws)) well-formed)
+        omega (
+          arith,
+          ap length words-are,
+          a .room,
+          updates-length (planOf ws .desks) _
+              (omega (arith, g .desks-high, desk-count ws)) well-formed,
+        )
 
     pub all-run : (o : List ℕ) → length (allMade (planOf ws) (d .desk) (waitingIn (d .waiting) queue) s) ≤ length o
         → AllRun ws (take (d .waiting) queue) (d .desk) s o replies

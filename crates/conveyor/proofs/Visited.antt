@@ -64,11 +64,13 @@ module _ (ws : List ℕ) (d : Desk) (cells : List ℕ) (size : ℕ) (records : L
     left-passed e =
         let v = same-questions queue l q ∙ e in
         let a = questions-give ws d cells queue frame out replies v in
-        rw v (ap (λ (rs : List Request). passed (planOf ws) d cells rs frame out replies) (sym (sym (records-whole queue (a .queueLong)) ∙ q)))
+        rw v (ap (λ (rs : List Request). passed (planOf ws) d cells rs frame out replies)
+        (sym (sym (records-whole queue (a .queueLong)) ∙ q)))
 
   -- ---- the verdict, question by question
 
-  pub plan-refused : (question : ℕ) → planVerdict ws ≡ refused question → passVerdict ws d cells size records frame out replies ≡ refused question
+  pub plan-refused : (question : ℕ) → planVerdict ws ≡ refused question → passVerdict ws d cells size records frame out replies
+      ≡ refused question
   unfolding passVerdict
   plan-refused question e = rw e
 

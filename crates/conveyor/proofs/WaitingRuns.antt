@@ -95,7 +95,8 @@ module _ (p : Plan) (desk : ℕ) (rs : List Request) (s₀ o₀ q₀ : List ℕ)
         → Ran p r desk s (take (length o - end) (drop end o)) (take (length q - at * 3) (drop (at * 3) q)) words s′ o′ q′
         → Running s′ (putMid end (length o - end) o o′) (putMid (at * 3) (length q - at * 3) q q′) (end + words) (at + 1)
     running-next words s′ o′ q′ x =
-        let wrote : o′ ≡ overwritten (madeWords p desk r s) (drop end o) = x .update ∙ ap (overwritten (madeWords p desk r s)) (lent o end) in
+        let wrote : o′ ≡ overwritten (madeWords p desk r s) (drop end o) = x .update
+        ∙ ap (overwritten (madeWords p desk r s)) (lent o end) in
         let replied : q′ ≡ overwritten (replyWords (replyTo p r s)) (drop (at * 3) q) =
         x .reply ∙ ap (overwritten (replyWords (replyTo p r s))) (lent q (at * 3)) in
         let three : (at + 1) * 3 ≡ at * 3 + 3 = omega arith in

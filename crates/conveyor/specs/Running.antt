@@ -55,7 +55,8 @@ pub record AllRun (ws : List ℕ) (rs : List Request) (desk : ℕ) (cells out re
   pub room : length (allMade (planOf ws) desk rs cells) ≤ length out
   pub replyRoom : 3 * length rs ≤ length replies
 
-pub record AllRan (p : Plan) (rs : List Request) (desk : ℕ) (cells out replies : List ℕ) (words : ℕ) (cells′ out′ replies′ : List ℕ) : Type 0 where
+pub record AllRan (p : Plan) (rs : List Request) (desk : ℕ) (cells out replies : List ℕ) (words : ℕ)
+    (cells′ out′ replies′ : List ℕ) : Type 0 where
   pub count : words ≡ length (allMade p desk rs cells)
   pub store : cells′ ≡ runAll p rs cells
   pub updates : out′ ≡ overwritten (allMade p desk rs cells) out

@@ -33,7 +33,8 @@ pub struct VisitResult {
 
 // Question 5.
 fn buffers_fit(cells: &[u32], size: usize, out: &[u32], replies: &[u32]) -> bool
-    ensures { λ r. ⌜ r ≡ ((eqb (length (now (cells .entry))) 1024 && eqb size 32) && visitBuffersFit (now (out .entry)) (now (replies .entry))) ⌝ }
+    ensures { λ r. ⌜ r ≡ ((eqb (length (now (cells .entry))) 1024 && eqb size 32)
+        && visitBuffersFit (now (out .entry)) (now (replies .entry))) ⌝ }
 {
     if cells.len() != 1024 {
         return false;

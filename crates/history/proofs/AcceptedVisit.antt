@@ -205,7 +205,7 @@ module _ (plan : List ℕ) (d : Desk) (cells : List ℕ) (queue : List Request) 
   pub changed-word-refused : planVerdict plan ≡ accepted → deskBuffersFit cells queue && visitBuffersFit out replies ≡ true →
       deskStands (planOf plan) d queue ≡ true → AllWords frame → frameVerdict (planOf plan .desks) frame ≡ accepted →
       (i x : ℕ) → i < length frame → x < 2 ^ 32 → (x ≡ getD frame i 0 → ⊥)
-          → RefusedWith 10 (set frame i x) ⊎ RefusedWith 11 (set frame i x)
+      → RefusedWith 10 (set frame i x) ⊎ RefusedWith 11 (set frame i x)
   unfolding visitResult visitVerdict
   changed-word-refused a b c words reads i x l hx ne =
       ⊎-elim (λ (e : frameVerdict (planOf plan .desks) (set frame i x) ≡ refused 10). inl (rw (a, b, c, e) refl))

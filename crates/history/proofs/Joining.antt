@@ -112,6 +112,7 @@ module _ (plan : List ℕ) (accept : planVerdict plan ≡ accepted) (records : �
     by-keeps (refused q) e t m = m
 
     pub visit-keeps : passageRefused (visitResult plan (h .state) (h .cells) (h .queue) frame out replies .answer) ≡ true →
-        (t : Request) → Waits t h → Waits t (holdingAfter h (visited (visitResult plan (h .state) (h .cells) (h .queue) frame out replies)))
+        (t : Request) → Waits t h → Waits t (holdingAfter h
+        (visited (visitResult plan (h .state) (h .cells) (h .queue) frame out replies)))
     unfolding visitResult
     visit-keeps = by-keeps (visitVerdict plan (h .state) (h .cells) (h .queue) frame out replies)

@@ -64,4 +64,4 @@ module _ (n : ℕ) (a b : Slot) (ra : Ranged n (slotSeen a)) (rb : Ranged n (slo
       go true e = ltb-yes (before-low (before-means a b e))
       go false e =
           ltb-no (by-less x y (λ l. absurd (false≢true (sym e ∙ of-means a b (place-before n (slotSeen a) (slotSeen b) ra rb l))))
-              (λ l. l))
+          (λ l. l))

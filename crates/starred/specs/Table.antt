@@ -68,10 +68,9 @@ resultOf (admit k ps) = verdict (operationVerdict (planOf planP) (operation k ps
 resultOf (cellsWritten k ps) = cells (writeSet (planOf planP) (operation k ps))
 resultOf startFrame = words startingFrame
 resultOf (readFrame ws) = frame (visitRead (readVerdict planP ws) ws) (updatesFrom 0 (partRead (readVerdict planP ws) ws))
-
 resultOf (visit d waiting ws) =
     shown (visitResult planP d (replicate 1024 0) (waiting ++ replicate (32 - length waiting) noRequest) ws (replicate 6404 0)
-        (replicate 96 0))
+    (replicate 96 0))
 
 pub record Row : Type 0 where
   pub input : Input

@@ -45,7 +45,8 @@ unfolding applies updatesFrom writesFrom applyUpdate foreign applyAll
 half-left desk s true left w = refl
 half-left desk s false left w = refl
 
-pub applies-end : (desk : ℕ) (s : Store) (kept : Bool) (left : ℕ) (ws : List ℕ) (i : ℕ) → length ws ≤ i → appliesAt desk s kept left ws i ≡ s
+pub applies-end : (desk : ℕ) (s : Store) (kept : Bool) (left : ℕ) (ws : List ℕ) (i : ℕ) → length ws ≤ i
+    → appliesAt desk s kept left ws i ≡ s
 unfolding appliesAt
 applies-end desk s kept left ws i h = rw (drop-of-length-le ws h) (nothing-left desk s kept left)
 

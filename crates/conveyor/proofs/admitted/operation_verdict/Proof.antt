@@ -19,7 +19,7 @@ returns : tie.Need-returns
 returns c =
     let d = c .before .before .before in
     sym (no-transaction (d .args .plan .now) (d .args .request)
-        (sym (c .before .transaction-exists .ensures) ∙ not-true _ (c .if1 .taken)))
+    (sym (c .before .transaction-exists .ensures) ∙ not-true _ (c .if1 .taken)))
 
 transaction-place-requires : tie.Need-transaction-place-requires
 transaction-place-requires c κs = search needs
@@ -29,7 +29,7 @@ params-requires c κs = search needs
 
 there : (c : tie.Else1)
     → transactionExists (planOf (c .before .before .before .args .plan .now)) (c .before .before .before .args .request .transaction)
-        ≡ true
+    ≡ true
 there c = sym (c .before .transaction-exists .ensures) ∙ not-false _ (c .if1 .left)
 
 parameters-pass-requires : tie.Need-parameters-pass-requires

@@ -48,10 +48,18 @@ sub-copy-foreign : tie.Need-sub-copy-foreign
 sub-copy-foreign c = omega (arith, adm (c .before .before .before .before .before .before .before .before .before .before .before) .room)
 
 part-copy-foreign-start : tie.Need-part-copy-foreign-start
-part-copy-foreign-start c = omega (arith, adm (c .before .before .before .before .before .before .before .before .before .before .before) .room)
+part-copy-foreign-start c = omega (
+  arith,
+  adm (c .before .before .before .before .before .before .before .before .before .before
+      .before) .room,
+)
 
 part-copy-foreign-end : tie.Need-part-copy-foreign-end
-part-copy-foreign-end c = omega (arith, adm (c .before .before .before .before .before .before .before .before .before .before .before) .room)
+part-copy-foreign-end c = omega (
+  arith,
+  adm (c .before .before .before .before .before .before .before .before .before .before
+      .before) .room,
+)
 
 copy-foreign-requires : tie.Need-copy-foreign-requires
 copy-foreign-requires c κs =
@@ -63,13 +71,15 @@ copied : (c : tie.After-copy-foreign)
     → let a = c .before .before .before .before .before .before .before .before .before .before .before .before .before .args in
     let o = a .out .now in
     Copied o (foreignWords (a .state .desk) (take (length (a .frame .now) - 2 - 2) (drop 2 (a .frame .now))))
-    (allMade (planOf (a .plan .now)) (a .state .desk) (waitingIn (a .state .waiting) (a .records)) (c .before .before .before .before .apply-foreign .last .1 .1 .0))
+    (allMade (planOf (a .plan .now)) (a .state .desk) (waitingIn (a .state .waiting) (a .records))
+    (c .before .before .before .before .apply-foreign .last .1 .1 .0))
     (putMid 2 (length o - 2) o (c .copy-foreign .last .1 .1 .0)) (2 + c .copy-foreign .result)
 copied c =
     let s = c .before .before .before .before .before .before .before .before .before .before .before .before .before in
     let o = s .args .out .now in
     record {
-      room = words-fit _ _ _ _ _ _ _ (adm s) _ (part-is (s .args .frame .now)) _ (c .before .before .before .before .apply-foreign .ensures);
+      room = words-fit _ _ _ _ _ _ _ (adm s) _ (part-is (s .args .frame .now)) _
+          (c .before .before .before .before .apply-foreign .ensures);
       count = ap (λ (k : ℕ). 2 + k) (c .copy-foreign .ensures .0);
       words = ap (putMid 2 (length o - 2) o) (c .copy-foreign .ensures .1);
     }
@@ -78,7 +88,12 @@ add-copied : tie.Need-add-copied
 add-copied c = omega (arith, copied-room (copied (c .before .before)))
 
 mul-run-waiting : tie.Need-mul-run-waiting
-mul-run-waiting c = omega (arith, copied-room (copied (c .before .before .before)), c .before .before .before .before .before .before .before .before .before .before .before .before .before .before .before .before .good .1 .1 .1 .1 .1 .0 .1)
+mul-run-waiting c = omega (
+  arith,
+  copied-room (copied (c .before .before .before)),
+  c .before .before .before .before .before .before .before .before .before .before .before .before .before .before .before
+      .before .good .1 .1 .1 .1 .1 .0 .1,
+)
 
 sub-run-waiting : tie.Need-sub-run-waiting
 sub-run-waiting c = let k = copied (c .before .before .before) in omega (arith, copied-room k, copied-length k)
@@ -92,7 +107,8 @@ part-run-waiting-end c = search needs
 run-waiting-requires : tie.Need-run-waiting-requires
 run-waiting-requires c κs =
     let k = c .before .before .before .before .before in
-    let s = c .before .before .before .before .before .before .before .before .before .before .before .before .before .before .before .before .before .before in
+    let s = c .before .before .before .before .before .before .before .before .before .before .before .before .before .before .before
+    .before .before .before in
     let o = s .args .out .now in
     let o1 = putMid 2 (length o - 2) o (k .copy-foreign .last .1 .1 .0) in
     let n = 2 + k .copy-foreign .result in (
@@ -104,16 +120,19 @@ run-waiting-requires c κs =
 -- the desk's own words behind the others'
 joined : (c : tie.After-run-waiting)
     → let k = c .before .before .before .before .before .before in
-    let a = c .before .before .before .before .before .before .before .before .before .before .before .before .before .before .before .before .before .before .before .args in
+    let a = c .before .before .before .before .before .before .before .before .before .before .before .before .before .before .before
+    .before .before .before .before .args in
     let o = a .out .now in
     let o1 = putMid 2 (length o - 2) o (k .copy-foreign .last .1 .1 .0) in
     let n = 2 + k .copy-foreign .result in
     Joined o (foreignWords (a .state .desk) (take (length (a .frame .now) - 2 - 2) (drop 2 (a .frame .now))))
-    (allMade (planOf (a .plan .now)) (a .state .desk) (waitingIn (a .state .waiting) (a .records)) (k .before .before .before .before .apply-foreign .last .1 .1 .0))
+    (allMade (planOf (a .plan .now)) (a .state .desk) (waitingIn (a .state .waiting) (a .records))
+    (k .before .before .before .before .apply-foreign .last .1 .1 .0))
     o1 n (putMid n (length o1 - n) o1 (c .run-waiting .last .1 .1 .1 .1 .1 .0)) (n + c .run-waiting .result)
 joined c =
     let k = c .before .before .before .before .before .before in
-    let o = c .before .before .before .before .before .before .before .before .before .before .before .before .before .before .before .before .before .before .before .args .out .now in
+    let o = c .before .before .before .before .before .before .before .before .before .before .before .before .before .before .before
+    .before .before .before .before .args .out .now in
     let o1 = putMid 2 (length o - 2) o (k .copy-foreign .last .1 .1 .0) in
     let n = 2 + k .copy-foreign .result in
     record {
@@ -124,41 +143,97 @@ joined c =
 
 -- how far both come
 ended : (c : tie.After-run-waiting)
-    → 2 + c .before .before .before .before .before .before .copy-foreign .result + c .run-waiting .result + 2 ≤ length (c .before .before .before .before .before .before .before .before .before .before .before .before .before .before .before .before .before .before .before .args .out .now)
+    → 2 + c .before .before .before .before .before .before .copy-foreign .result + c .run-waiting .result + 2 ≤ length
+    (c .before .before .before .before .before .before .before .before .before .before .before .before .before .before .before .before
+    .before .before .before .args .out .now)
 ended c = omega (arith, copied-room (copied (c .before .before .before .before .before .before)), c .run-waiting .ensures .count)
 
 add-end : tie.Need-add-end
-add-end c = omega (arith, ended (c .before .before .before .before .before .before), c .before .before .before .before .before .before .before .before .before .before .before .before .before .before .before .before .before .before .before .before .before .before .before .before .before .good .1 .1 .1 .1 .1 .0 .1)
+add-end c = omega (
+  arith,
+  ended (c .before .before .before .before .before .before),
+  c .before .before .before .before .before .before .before .before .before .before .before .before .before .before .before .before
+      .before .before .before .before .before .before .before .before .before .good .1 .1 .1 .1 .1 .0 .1,
+)
 
 shared-slice-read-desks : tie.Need-shared-slice-read-desks
-shared-slice-read-desks c = omega (arith, accepted-gives _ (adm (c .before .before .before .before .before .before .before .before .before .before .before .before .before .before .before .before .before .before .before .before .before .before .before .before .before .before) .plan) .words-low)
+shared-slice-read-desks c = omega (
+  arith,
+  accepted-gives _
+      (adm (c .before .before .before .before .before .before .before .before .before .before .before .before .before .before .before
+      .before .before .before .before .before .before .before .before .before .before .before) .plan) .words-low,
+)
 
 shared-slice-read-visit : tie.Need-shared-slice-read-visit
-shared-slice-read-visit c = omega (arith, low (c .before .before .before .before .before .before .before .before .before .before .before .before .before .before .before .before .before .before .before .before .before .before .before .before .before .before .before))
+shared-slice-read-visit c = omega (
+  arith,
+  low (c .before .before .before .before .before .before .before .before .before .before .before
+      .before .before .before .before .before .before .before .before .before .before .before .before .before .before .before .before),
+)
 
 add-seal : tie.Need-add-seal
-add-seal c = omega (arith, adm (c .before .before .before .before .before .before .before .before .before .before .before .before .before .before .before .before .before .before .before .before .before .before .before .before .before .before .before .before) .visit)
+add-seal c = omega (
+  arith,
+  adm (c .before .before .before .before .before .before .before .before .before .before .before .before
+      .before .before .before .before .before .before .before .before .before .before .before .before .before .before .before
+      .before) .visit,
+)
 
 rem-seal : tie.Need-rem-seal
-rem-seal c = omega (arith, accepted-gives _ (adm (c .before .before .before .before .before .before .before .before .before .before .before .before .before .before .before .before .before .before .before .before .before .before .before .before .before .before .before .before) .plan) .desks-low)
+rem-seal c = omega (
+  arith,
+  accepted-gives _ (adm (c .before .before .before .before .before .before .before .before .before .before
+      .before .before .before .before .before .before .before .before .before .before .before .before .before .before .before .before
+      .before .before) .plan) .desks-low,
+)
 
 add-seal-2 : tie.Need-add-seal-2
-add-seal-2 c = omega (arith, adm (c .before .before .before .before .before .before .before .before .before .before .before .before .before .before .before .before .before .before .before .before .before .before .before .before .before .before .before .before) .visit)
+add-seal-2 c = omega (
+  arith,
+  adm (c .before .before .before .before .before .before .before .before .before .before .before .before
+      .before .before .before .before .before .before .before .before .before .before .before .before .before .before .before
+      .before) .visit,
+)
 
 seal-requires : tie.Need-seal-requires
-seal-requires c κs = (omega arith, omega (arith, ended (c .before .before .before .before .before .before .before .before .before), all-length (joined (c .before .before .before .before .before .before .before .before .before))))
+seal-requires c κs = (
+  omega arith,
+  omega (
+    arith,
+    ended
+        (c .before .before .before .before .before .before .before .before .before),
+    all-length
+        (joined (c .before .before .before .before .before .before .before .before .before)),
+  ),
+)
 
 cast-t42 : tie.Need-cast-t42
-cast-t42 c = omega (arith, adm (c .before .before .before .before .before .before .before .before .before .before .before .before .before .before .before .before .before .before .before .before .before .before .before .before .before .before .before .before .before .before .before) .visit)
+cast-t42 c = omega (
+  arith,
+  adm (c .before .before .before .before .before .before .before .before .before .before .before .before
+      .before .before .before .before .before .before .before .before .before .before .before .before .before .before .before .before
+      .before .before .before) .visit,
+)
 
 cast-t43 : tie.Need-cast-t43
 cast-t43 c = search needs
 
 add-t44 : tie.Need-add-t44
-add-t44 c = omega (arith, adm (c .before .before .before .before .before .before .before .before .before .before .before .before .before .before .before .before .before .before .before .before .before .before .before .before .before .before .before .before .before .before .before) .visit)
+add-t44 c = omega (
+  arith,
+  adm (c .before .before .before .before .before .before .before .before .before .before .before .before .before
+      .before .before .before .before .before .before .before .before .before .before .before .before .before .before .before .before
+      .before .before) .visit,
+)
 
 add-t30 : tie.Need-add-t30
-add-t30 c = omega (arith, ended (c .before .before .before .before .before .before .before .before .before .before .before .before), c .before .before .before .before .before .before .before .before .before .before .before .before .before .before .before .before .before .before .before .before .before .before .before .before .before .before .before .before .before .before .before .good .1 .1 .1 .1 .1 .0 .1)
+add-t30 c = omega (
+  arith,
+  ended (c .before .before .before .before .before .before .before .before .before .before .before .before),
+  c .before .before .before .before .before .before .before .before .before .before .before .before .before .before .before .before
+      .before .before .before .before .before .before .before .before .before .before .before .before .before .before
+      .before .good .1 .1 .1 .1 .1 .0 .1,
+)
 
 same-length : tie.Need-same-length
 same-length c = search needs
@@ -171,9 +246,11 @@ same-length-3 c = search needs
 
 returns : tie.Need-returns
 returns c =
-    let s = c .before .before .before .before .before .before .before .before .before .before .before .before .before .before .before .before .before .before .before .before .before .before .before .before .before .before .before .before .before .before .before in
+    let s = c .before .before .before .before .before .before .before .before .before .before .before .before .before .before .before
+    .before .before .before .before .before .before .before .before .before .before .before .before .before .before .before .before in
     let w = c .before .before .before .before .before .before .before .before .before .before .before .before in
-    passed-is _ _ _ _ _ _ _ (adm s) _ (part-is (s .args .frame .now)) _ (w .before .before .before .before .before .before .before .before .before .before .apply-foreign .ensures) _ _ _ _ _
+    passed-is _ _ _ _ _ _ _ (adm s) _ (part-is (s .args .frame .now)) _
+    (w .before .before .before .before .before .before .before .before .before .before .apply-foreign .ensures) _ _ _ _ _
     (sym (desk-count (s .args .plan .now))) (end-is (joined w)) (w .run-waiting .ensures .store)
     (c .before .before .seal .ensures ∙ sealed-over (joined w) _ _) (w .run-waiting .ensures .answers)
 

@@ -24,8 +24,11 @@ run-requires : tie.Need-run-requires
 run-requires c κs =
     let s = c .before .before .before .before .before .before .before in
     let i = c .before .before .transaction-place .ensures in
-    let j = c .before .params .ensures in
-    (stands (s .args .plan .now) (s .args .request) (s .pre .plan) (s .pre .operation) _ _ i j, passes (s .args .plan .now) (s .args .request) (s .pre .plan) (s .pre .operation) _ _ i j)
+    let j = c .before .params .ensures in (
+      stands (s .args .plan .now) (s .args .request) (s .pre .plan) (s .pre .operation) _ _ i j,
+      passes (s .args .plan .now)
+          (s .args .request) (s .pre .plan) (s .pre .operation) _ _ i j,
+    )
 
 write-reply-requires : tie.Need-write-reply-requires
 write-reply-requires c κs = search needs
@@ -39,7 +42,8 @@ ran : (c : tie.After-run)
 ran c =
     let s = c .before .before .before .before .before .before .before .before in
     c .run .ensures .0
-    ∙ run-is (s .args .plan .now) (s .args .request) (s .pre .plan) (s .pre .operation) _ _ (c .before .before .before .transaction-place .ensures) (c .before .before .params .ensures)
+    ∙ run-is (s .args .plan .now) (s .args .request) (s .pre .plan) (s .pre .operation) _ _
+    (c .before .before .before .transaction-place .ensures) (c .before .before .params .ensures)
     (s .args .cells .now)
 
 write-update-requires : tie.Need-write-update-requires

@@ -12,7 +12,8 @@ use Rattle.queue.specs.Queue.{noRequest}
 use Rattle.queue.specs.declared.record.Request.{Request}
 use Rattle.conveyor.specs.Running.{AllRun, isOperation, madeWords}
 use Rattle.conveyor.proofs.Remainders.{lent}
-use Rattle.conveyor.proofs.WaitingRuns.{Running, running-start, running-next, running-done, room-here, reply-room-here, replies-length}
+use Rattle.conveyor.proofs.WaitingRuns.{Running, running-start, running-next, running-done, room-here, reply-room-here}
+use Rattle.conveyor.proofs.WaitingRuns.{replies-length}
 use borrow.Author.Needs.{needs}
 use Rattle.conveyor.proofs.running.run_waiting.Statement.{statement}
 use Rattle.conveyor.proofs.running.run_waiting.Tie as tie
@@ -49,7 +50,8 @@ next c = getD-take _ _ _ _ (c .loop-test .taken)
 
 room : (c : tie.In-loop Inv-loop μ-loop)
     → let a = c .before .before .before .before .before .before .args in
-    c .before .loop .end + length (madeWords (planOf (a .plan .now)) (a .desk) (getD (a .t3) (c .before .loop .at) noRequest) (c .before .loop .cells))
+    c .before .loop .end + length (madeWords (planOf (a .plan .now)) (a .desk) (getD (a .t3) (c .before .loop .at) noRequest)
+    (c .before .loop .cells))
     ≤ length (c .before .loop .out)
 room c = let v = c .before .loop .inv in room-here _ _ _ _ _ _ _ _ _ _ _ (v .4) (omega arith) _ (next c) (v .3 .room)
 
@@ -60,7 +62,13 @@ mul-run-one : tie.Need-mul-run-one Inv-loop μ-loop
 mul-run-one c =
     let d = c .before .before in
     let v = d .before .loop .inv in
-    omega (arith, room d, fill-length (v .4 .words) (v .3 .room), d .before .before .before .before .before .before .good .1 .1 .1 .1 .1 .0 .1)
+    omega (
+      arith,
+      room d,
+      fill-length (v .4 .words)
+          (v .3 .room),
+      d .before .before .before .before .before .before .good .1 .1 .1 .1 .1 .0 .1,
+    )
 
 sub-run-one : tie.Need-sub-run-one Inv-loop μ-loop
 sub-run-one c = let h = room (c .before .before) in omega arith
@@ -100,7 +108,13 @@ add-end : tie.Need-add-end Inv-loop μ-loop
 add-end c =
     let d = c .before .before .before .before .before .before .before .before .before .before .before in
     let v = d .before .loop .inv in
-    omega (arith, room d, c .before .before .before .before .before .before .run-one .ensures .count, fill-length (v .4 .words) (v .3 .room))
+    omega (
+      arith,
+      room d,
+      c .before .before .before .before .before .before .run-one .ensures .count,
+      fill-length (v .4 .words)
+          (v .3 .room),
+    )
 
 add-at : tie.Need-add-at Inv-loop μ-loop
 add-at c = search needs

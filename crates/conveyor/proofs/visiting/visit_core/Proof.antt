@@ -62,9 +62,12 @@ same-length-6 c = search needs
 
 returns-2 : tie.Need-returns-2
 returns-2 c = λ queue l q.
-    let d = c .before .before .before .before .before .before .before .before .before .before .before .before .before .before .before .before .before .before .before .before .before in
-    c .before .before .before .before .before .before .visit-passed .ensures ∙ left-passed (d .args .plan .now) (d .args .state) (d .args .cells .now) (d .args .size) (d .args .records) (d .args .frame .now)
-    (d .args .out .now) (d .args .replies .now) queue l q (passes (c .before .before .before .before .before .before .before .before .before .before))
+    let d = c .before .before .before .before .before .before .before .before .before .before .before .before .before .before .before
+    .before .before .before .before .before .before in
+    c .before .before .before .before .before .before .visit-passed .ensures
+    ∙ left-passed (d .args .plan .now) (d .args .state) (d .args .cells .now) (d .args .size) (d .args .records) (d .args .frame .now)
+    (d .args .out .now) (d .args .replies .now) queue l q
+    (passes (c .before .before .before .before .before .before .before .before .before .before))
 
 pub visit-core-spec : {M : Type 1} → statement M
 visit-core-spec =

@@ -39,7 +39,8 @@ buffers-fit-requires : tie.Need-buffers-fit-requires
 buffers-fit-requires c κs = search needs
 
 -- questions 1 to 4 are answered with yes
-plan-passes : (c : tie.After-enum-told) → planVerdict (c .before .before .before .before .before .before .before .before .args .plan .now) ≡ accepted
+plan-passes : (c : tie.After-enum-told) → planVerdict
+    (c .before .before .before .before .before .before .before .before .args .plan .now) ≡ accepted
 plan-passes c = sym (c .before .before .read-plan .ensures) ∙ ap verdictOf (c .enum-told .given .1)
 
 returns-2 : tie.Need-returns-2
@@ -63,27 +64,35 @@ returns-3 c =
     let d = c .before .before .before .before .before .before .before .before .before .before .before .before in
     sym (desk-unfit (d .args .plan .now) (d .args .state) (d .args .cells .now) (d .args .size) (d .args .records) (d .args .frame .now)
     (d .args .out .now) (d .args .replies .now)
-    (plan-passes (c .before .before .before .before)) (buffers-pass (c .before .before)) (sym (c .before .desk-stands .ensures) ∙ not-true _ (c .if2 .taken)))
+    (plan-passes (c .before .before .before .before)) (buffers-pass (c .before .before))
+    (sym (c .before .desk-stands .ensures) ∙ not-true _ (c .if2 .taken)))
 
 -- 6
-desk-passes : (c : tie.Else2) → deskStands (planOf (c .before .before .before .before .before .before .before .before .before .before .before .before .args .plan .now)) (c .before .before .before .before .before .before .before .before .before .before .before .before .args .state) (c .before .before .before .before .before .before .before .before .before .before .before .before .args .records) ≡ true
+desk-passes : (c : tie.Else2) → deskStands (planOf
+    (c .before .before .before .before .before .before .before .before .before .before .before .before .args .plan .now))
+    (c .before .before .before .before .before .before .before .before .before .before .before .before .args .state)
+    (c .before .before .before .before .before .before .before .before .before .before .before .before .args .records) ≡ true
 desk-passes c = sym (c .before .desk-stands .ensures) ∙ not-false _ (c .if2 .left)
 
 shared-slice-read-check-frame : tie.Need-shared-slice-read-check-frame
 shared-slice-read-check-frame c = accepted-gives _ (plan-passes (c .before .before .before .before .before)) .words-low
 
 check-frame-requires : tie.Need-check-frame-requires
-check-frame-requires c κs = let a = accepted-gives _ (plan-passes (c .before .before .before .before .before)) in (a .desks-low, a .desks-high)
+check-frame-requires c κs = let a = accepted-gives _ (plan-passes (c .before .before .before .before .before)) in
+    (a .desks-low, a .desks-high)
 
 enum-known-question-2 : tie.Need-enum-known-question-2
 enum-known-question-2 c = search needs
 
 returns-4 : tie.Need-returns-4
 returns-4 c =
-    let d = c .before .before .before .before .before .before .before .before .before .before .before .before .before .before .before .before .before in
+    let d = c .before .before .before .before .before .before .before .before .before .before .before .before .before .before .before
+    .before .before in
     sym (frame-refused (d .args .plan .now) (d .args .state) (d .args .cells .now) (d .args .size) (d .args .records) (d .args .frame .now)
     (d .args .out .now) (d .args .replies .now)
-    (plan-passes (c .before .before .before .before .before .before .before .before .before)) (buffers-pass (c .before .before .before .before .before .before .before)) (desk-passes (c .before .before .before .before .before)) _
+    (plan-passes (c .before .before .before .before .before .before .before .before .before))
+    (buffers-pass (c .before .before .before .before .before .before .before))
+    (desk-passes (c .before .before .before .before .before)) _
     (ap (λ (n : ℕ). frameVerdict n (d .args .frame .now)) (desk-count (d .args .plan .now))
     ∙ sym (c .before .before .before .check-frame .ensures) ∙ ap token.verdictOf (c .before .question2 .given .1)))
 
@@ -92,10 +101,12 @@ enum-told-2 c = search needs
 
 -- 10 to 12
 frame-passes : (c : tie.After-enum-told2)
-    → let a = c .before .before .before .before .before .before .before .before .before .before .before .before .before .before .before .before .args in
+    → let a = c .before .before .before .before .before .before .before .before .before .before .before .before .before .before .before
+    .before .args in
     frameVerdict (planOf (a .plan .now) .desks) (a .frame .now) ≡ accepted
 frame-passes c =
-    let a = c .before .before .before .before .before .before .before .before .before .before .before .before .before .before .before .before .args in
+    let a = c .before .before .before .before .before .before .before .before .before .before .before .before .before .before .before
+    .before .args in
     ap (λ (n : ℕ). frameVerdict n (a .frame .now)) (desk-count (a .plan .now))
     ∙ sym (c .before .before .check-frame .ensures) ∙ ap token.verdictOf (c .enum-told2 .given .1)
 
@@ -104,11 +115,14 @@ turn-requires c κs = frame-size _ _ (frame-passes c) .0
 
 returns-5 : tie.Need-returns-5
 returns-5 c =
-    let d = c .before .before .before .before .before .before .before .before .before .before .before .before .before .before .before .before .before in
+    let d = c .before .before .before .before .before .before .before .before .before .before .before .before .before .before .before
+    .before .before in
     c .turn .ensures
     ∙ sym (by-turn (d .args .plan .now) (d .args .state) (d .args .cells .now) (d .args .size) (d .args .records) (d .args .frame .now)
     (d .args .out .now) (d .args .replies .now)
-    (plan-passes (c .before .before .before .before .before .before .before .before .before)) (buffers-pass (c .before .before .before .before .before .before .before)) (desk-passes (c .before .before .before .before .before)) (frame-passes (c .before)))
+    (plan-passes (c .before .before .before .before .before .before .before .before .before))
+    (buffers-pass (c .before .before .before .before .before .before .before))
+    (desk-passes (c .before .before .before .before .before)) (frame-passes (c .before)))
 
 pub visit-verdict-spec : {M : Type 1} → statement M
 visit-verdict-spec =

@@ -6,7 +6,8 @@ use native.Mathlib.Omega.{arith}
 use lib.ListN.{length, length-set}
 use Rattle.token.specs.Admission.{updatesFrom}
 use Rattle.token.specs.Forward.{foreign, applyAll}
-use Rattle.token.proofs.Forwarding.{appliesAt, applies-start, applies-update, applies-last, applies-cell, applies-past, applies-own, applies-end}
+use Rattle.token.proofs.Forwarding.{appliesAt, applies-start, applies-update, applies-last, applies-cell, applies-past}
+use Rattle.token.proofs.Forwarding.{applies-own, applies-end}
 use borrow.Author.Needs.{needs}
 use Rattle.token.proofs.forward.apply_foreign.Statement.{statement}
 use Rattle.token.proofs.forward.apply_foreign.Tie as tie
@@ -72,7 +73,8 @@ slice-write-cells c = c .if4 .taken
 loop-less-2 : tie.Need-loop-less-2 Inv-loop μ-loop
 loop-less-2 c = search needs
 
-more : (c : tie.Else2 Inv-loop μ-loop) → c .before .before .before .before .loop .at + 1 < length (c .before .before .before .before .before .args .body .now)
+more : (c : tie.Else2 Inv-loop μ-loop) → c .before .before .before .before .loop .at + 1 < length
+    (c .before .before .before .before .before .args .body .now)
 more c = omega arith
 
 loop-again-2 : tie.Need-loop-again-2 Inv-loop μ-loop
@@ -105,8 +107,12 @@ loop-again-4 : tie.Need-loop-again-4 Inv-loop μ-loop
 loop-again-4 c =
     let e = c .before .before in
     let d = e .before .before .before in
-    let v = d .before .loop .inv in
-    (omega (arith, more e), v .1, sym (applies-own _ _ _ _ (d .loop-test .taken) _ (e .before .if1 .left) (more e) _ (c .if3 .left)) ∙ v .2)
+    let v = d .before .loop .inv in (
+      omega (arith, more e),
+      v .1,
+      sym (applies-own _ _ _ _ (d .loop-test .taken) _ (e .before .if1 .left) (more e) _ (c .if3 .left))
+          ∙ v .2,
+    )
 
 same-length-2 : tie.Need-same-length-2 Inv-loop μ-loop
 same-length-2 c = search needs

@@ -51,7 +51,8 @@ loop-less : tie.Need-loop-less Inv-loop μ-loop
 loop-less c = search needs
 
 joined : (c : tie.Joined1 Inv-loop μ-loop)
-    → keepsAt (c .before .before .before .before .args .desk) (c .before .before .before .loop .kept) (c .before .before .before .loop .left)
+    → keepsAt (c .before .before .before .before .args .desk) (c .before .before .before .loop .kept)
+    (c .before .before .before .loop .left)
     (c .before .before .before .before .args .body .now) (c .before .before .before .loop .at)
     ≡ withWord (c .if1 .kept) (getD (c .before .before .before .before .args .body .now) (c .before .before .before .loop .at) 0)
     (keepsAt (c .before .before .before .before .args .desk) (c .if1 .kept) (c .if1 .left)
