@@ -17,7 +17,7 @@ use Rattle.conveyor.specs.declared.desk.Desk.{Desk}
 use Rattle.conveyor.specs.Queueing.{operationOf}
 use Rattle.conveyor.specs.Admission.{deskBuffersFit, deskStands}
 
--- "answers replied (done or declined, number), waits, elsewhere with the desk, or refused"
+-- replied (done or declined, with the number), waiting, elsewhere with the operation's desk, or refused with the question's number
 pub data Response : Type 0 where
   replied : Reply → Response
   waits : Response

@@ -29,7 +29,8 @@ planP =
 abbrev pub sentFrame : ℕ → List ℕ
 sentFrame word2 = 0x91000007 ∷ 0x00000001 ∷ word2 ∷ 0xB0000080 ∷ 0x00000003 ∷ 0xE110008B ∷ 0x1530012A ∷ []
 
--- what desk 1 sends on by visit 1, with none waiting: visit 2 to desk 0 with the same update; its sums were reckoned by hand
+-- what desk 1 sends on by visit 1, with none waiting: visit 2 to desk 0 with the same update; its sums were reckoned apart from
+-- these definitions, by a few lines that add as the paper says
 abbrev pub passedOn : List ℕ
 passedOn = 0x90000007 ∷ 0x00000002 ∷ 0xA0100000 ∷ 0xB0000080 ∷ 0x00000003 ∷ 0xE010008C ∷ 0x1030012E ∷ []
 
