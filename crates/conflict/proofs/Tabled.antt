@@ -1,13 +1,14 @@
 -- A transaction's cells, looked up in the mask table, have the masks of the definition.
 -- Assumes nothing.
-use mathlib.Core.Path.{_≡_, refl, _∙_, ap}
-use mathlib.Core.Bool.{Bool, true, false, not, cond}
-use mathlib.Core.List.{List}
+use mathlib.Core.Path.{_≡_, refl, _∙_, sym, ap}
+use mathlib.Core.Bool.{Bool, true, false, not, cond, false≢true}
+use mathlib.Core.List.{List, _∷_, []}
 use Prim.Native.Nat.{ℕ}
 use lib.Count.{ones}
 use lib.Dec.{eqb}
 use lib.ListN.{getD}
-use Rattle.plan.specs.Plan.{Access, reads, writes, Plan}
+use Rattle.plan.specs.Plan.{Access, reads, writes, Step, cell, operand, Plan}
+use Rattle.plan.specs.Admission.{every}
 use Rattle.plan.specs.Place.{transactionFrom}
 use Rattle.plan.proofs.Bool.{and-snd}
 use Rattle.plan.proofs.Every.{every-same}
@@ -16,7 +17,7 @@ use Rattle.operation.specs.Admission.{parametersPass, unusedZero}
 use Rattle.operation.proofs.Bounds.{transaction-fits, cells-low}
 use Rattle.conflict.specs.Touch.{deskMask, maskTable}
 use Rattle.conflict.specs.Mask.{some}
-use Rattle.conflict.specs.Class.{onesAre, isWrite, free, local, global, classBy, isGlobal}
+use Rattle.conflict.specs.Class.{onesAre, isWrite, free, local, global, classBy, isFree, isGlobal}
 use Rattle.conflict.proofs.Tables.{getD-tabulate}
 
 pub ones-tabled : (least : ℕ) (p : Plan) (k : ℕ) (a : Access) (ws : List ℕ) (at : ℕ) (ps : List ℕ)
@@ -30,6 +31,13 @@ ones-tabled least p k a ws at ps e =
     (getD-tabulate 1024 (deskMask least p) c
     (cells-low a ps (transactionFrom ws at .steps) (transaction-fits ws at)
     (and-snd (unusedZero (transactionFrom ws at .params) ps) _ e) c m)))
+
+no-cells : (ps : List ℕ) (ss : List Step) → some isWrite ss ≡ false → cellsNamed writes ps ss ≡ []
+unfolding some cellsNamed
+no-cells ps [] e = refl
+no-cells ps (cell reads t k r ∷ ss) e = no-cells ps ss e
+no-cells ps (cell writes t k r ∷ ss) e = absurd (false≢true (sym e))
+no-cells ps (operand f v ∷ ss) e = no-cells ps ss e
 
 -- ---- the class, by what the two tests found
 
@@ -52,7 +60,24 @@ module _ (ws : List ℕ) (at : ℕ) (ps : List ℕ) (e : parametersPass (transac
       (h ∙ ap (λ (m : List ℕ). onesAre 0 (λ c. getD m c 0) (cellsNamed reads ps (transactionFrom ws at .steps))) t
       ∙ ones-tabled 4 p 0 reads ws at ps e))
 
-  -- global, by the same two tests: an operation that writes nothing is not
+  -- ---- free and global, by one test each
+
+  pub writing-not-free : some isWrite (transactionFrom ws at .steps) ≡ true → isFree (classBy p (transactionFrom ws at) ps) ≡ false
+  unfolding classBy
+  writing-not-free w = rw w (neither (onesAre 1 (deskMask 3 p) (cellsNamed writes ps (transactionFrom ws at .steps))))
+    where
+      neither : (b : Bool) → isFree (cond b local global) ≡ false
+      neither true = refl
+      neither false = refl
+
+  pub reading-free : (b : Bool) (l : List ℕ) → l ≡ maskTable 4 p → some isWrite (transactionFrom ws at .steps) ≡ false
+      → b ≡ onesAre 0 (λ c. getD l c 0) (cellsNamed reads ps (transactionFrom ws at .steps))
+      → b ≡ isFree (classBy p (transactionFrom ws at) ps)
+  reading-free b l t w h = same b ∙ ap isFree (class-reading b l t w h)
+    where
+      same : (b : Bool) → b ≡ isFree (cond b free local)
+      same true = refl
+      same false = refl
 
   pub reading-not-global : some isWrite (transactionFrom ws at .steps) ≡ false → isGlobal (classBy p (transactionFrom ws at) ps) ≡ false
   unfolding classBy
@@ -62,7 +87,15 @@ module _ (ws : List ℕ) (at : ℕ) (ps : List ℕ) (e : parametersPass (transac
       neither true = refl
       neither false = refl
 
-  pub writing-global : (b : Bool) (l : List ℕ) → l ≡ maskTable 3 p → some isWrite (transactionFrom ws at .steps) ≡ true
+  -- an operation that writes nothing has no cell to be tested
+  reading-global : (b : Bool) (l : List ℕ) → some isWrite (transactionFrom ws at .steps) ≡ false
+      → b ≡ onesAre 1 (λ c. getD l c 0) (cellsNamed writes ps (transactionFrom ws at .steps))
+      → not b ≡ isGlobal (classBy p (transactionFrom ws at) ps)
+  unfolding every
+  reading-global b l w h =
+      ap not (h ∙ ap (onesAre 1 (λ c. getD l c 0)) (no-cells ps (transactionFrom ws at .steps) w)) ∙ sym (reading-not-global w)
+
+  writing-global : (b : Bool) (l : List ℕ) → l ≡ maskTable 3 p → some isWrite (transactionFrom ws at .steps) ≡ true
       → b ≡ onesAre 1 (λ c. getD l c 0) (cellsNamed writes ps (transactionFrom ws at .steps))
       → not b ≡ isGlobal (classBy p (transactionFrom ws at) ps)
   writing-global b l t w h = other b ∙ ap isGlobal (class-writing b l t w h)
@@ -70,3 +103,12 @@ module _ (ws : List ℕ) (at : ℕ) (ps : List ℕ) (e : parametersPass (transac
       other : (b : Bool) → not b ≡ isGlobal (cond b local global)
       other true = refl
       other false = refl
+
+  pub global-tabled : (b : Bool) (l : List ℕ) → l ≡ maskTable 3 p
+      → b ≡ onesAre 1 (λ c. getD l c 0) (cellsNamed writes ps (transactionFrom ws at .steps))
+      → not b ≡ isGlobal (classBy p (transactionFrom ws at) ps)
+  global-tabled b l t h = go (some isWrite (transactionFrom ws at .steps)) refl
+    where
+      go : (w : Bool) → some isWrite (transactionFrom ws at .steps) ≡ w → not b ≡ isGlobal (classBy p (transactionFrom ws at) ps)
+      go true w = writing-global b l t w h
+      go false w = reading-global b l w h

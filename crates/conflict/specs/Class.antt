@@ -56,6 +56,11 @@ ReadsFrom p o o′ = (c : ℕ) × MayRead p o c × MayWrite p o′ c
 pub data Class : Type 0 where
   free local global : Class
 
+abbrev pub isFree : Class → Bool
+isFree free = true
+isFree local = false
+isFree global = false
+
 abbrev pub isGlobal : Class → Bool
 isGlobal free = false
 isGlobal local = false

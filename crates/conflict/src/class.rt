@@ -11,7 +11,7 @@ ghost use Rattle.operation.specs.Operation.{cellsNamed};
 ghost use Rattle.operation.specs.Admission.{parametersPass};
 ghost use Rattle.conflict.specs.Mask.{some};
 ghost use Rattle.conflict.specs.Touch.{maskTable};
-ghost use Rattle.conflict.specs.Class.{classBy, isWrite, onesAre, isGlobal};
+ghost use Rattle.conflict.specs.Class.{classBy, isWrite, onesAre, isFree, isGlobal};
 ghost use Rattle.conflict.specs.Answer.{classOfCode, classifiedOf, classifyResult};
 use crate::mask;
 use plan::PlanAnswer;
@@ -32,7 +32,7 @@ pub enum ClassAnswer {
 }
 
 // Whether the transaction at this place has a write step.
-fn has_write(plan: &[u32], at: usize) -> bool
+pub fn has_write(plan: &[u32], at: usize) -> bool
     requires { ⌜ StandsAt (now plan) at ⌝ }
     ensures { λ r. ⌜ r ≡ some isWrite (transactionFrom (now (plan .entry)) at .steps) ⌝ }
 {
@@ -96,16 +96,27 @@ pub fn class_of(plan: &[u32], at: usize, params: [u32; 4]) -> Class
     Class::Local
 }
 
-// Whether an operation of the transaction at this place is global, by the table of the desks that may touch each cell.
+// Whether an operation of the transaction at this place is global, by the table of the desks that may touch each cell: some cell that it
+// may write does not have just one desk.
 pub fn is_global(plan: &[u32], at: usize, params: [u32; 4], touchers: &[u8]) -> bool
     requires { ⌜ StandsAt (now plan) at × (parametersPass (transactionFrom (now plan) at) params ≡ true)
         × (now touchers ≡ maskTable 3 (planOf (now plan))) ⌝ }
     ensures { λ r. ⌜ r ≡ isGlobal (classBy (planOf (now (plan .entry))) (transactionFrom (now (plan .entry)) at) params) ⌝ }
 {
-    if !has_write(plan, at) {
+    !ones_are(plan, at, params, 4, touchers, 1)
+}
+
+// Whether an operation of the transaction at this place is free. The table of writers is filled only if it writes nothing.
+pub fn is_free(plan: &[u32], at: usize, params: [u32; 4]) -> bool
+    requires { ⌜ (planVerdict (now plan) ≡ accepted) × StandsAt (now plan) at
+        × (parametersPass (transactionFrom (now plan) at) params ≡ true) ⌝ }
+    ensures { λ r. ⌜ r ≡ isFree (classBy (planOf (now (plan .entry))) (transactionFrom (now (plan .entry)) at) params) ⌝ }
+{
+    if has_write(plan, at) {
         return false;
     }
-    !ones_are(plan, at, params, 4, touchers, 1)
+    let writers = mask::desk_masks(plan, 4);
+    ones_are(plan, at, params, 3, &writers, 0)
 }
 
 // The classifier: questions 1 to 4, 7 and 8, then the class and the desk.

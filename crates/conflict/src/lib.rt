@@ -7,5 +7,7 @@ pub use class::Class;
 pub use class::ClassAnswer;
 pub use class::class_of;
 pub use class::classify;
+pub use class::has_write;
+pub use class::is_free;
 pub use class::is_global;
 pub use mask::desk_masks;

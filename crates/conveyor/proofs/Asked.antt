@@ -1,7 +1,7 @@
 -- The operation that a request asks for, by the words of the plan at its transaction's place: questions 7 and 8, desk, class and run.
 -- Assumes nothing.
-use mathlib.Core.Path.{_≡_, _∙_, sym, ap, ap₂, subst}
-use mathlib.Core.Bool.{true, false, cond}
+use mathlib.Core.Path.{_≡_, refl, _∙_, sym, ap, ap₂, subst}
+use mathlib.Core.Bool.{true, false, cond, false≢true}
 use mathlib.Core.List.{List}
 use Prim.Native.Nat.{ℕ, _<_}
 use native.Mathlib.Omega.{arith}
@@ -10,7 +10,7 @@ use borrow.Author.Tests.{ltb-true}
 use Rattle.word.specs.Field.{headDesks, headTransactions, partitioningField}
 use Rattle.plan.specs.Plan.{Transaction}
 use Rattle.plan.specs.Decode.{planOf, headOf, partBy}
-use Rattle.plan.specs.Admission.{planVerdict, accepted, refused}
+use Rattle.plan.specs.Admission.{Verdict, accepted, refused, planVerdict}
 use Rattle.plan.specs.Place.{StandsAt, transactionPlace, transactionFrom}
 use Rattle.plan.proofs.Accepted.{yes-of, transaction-count, desk-count}
 use Rattle.plan.proofs.Places.{stands-at, transaction-is}
@@ -21,7 +21,9 @@ use Rattle.conflict.specs.Class.{classBy, classOf}
 use Rattle.queue.specs.Queue.{paramsOf}
 use Rattle.queue.specs.declared.record.Request.{Request}
 use Rattle.conveyor.specs.Queueing.{operationOf}
-use Rattle.conveyor.specs.Admission.{Admitted}
+use Rattle.conveyor.specs.Admission.{isAccepted, Admitted}
+use Rattle.conveyor.specs.Routing.{Place, standsAt, isRefused, placeBy, Placed}
+use Rattle.conveyor.specs.Running.{isOperation}
 
 module _ (ws : List ℕ) (r : Request) where
   -- 7
@@ -76,3 +78,35 @@ module _ (ws : List ℕ) (r : Request) where
 
       pub run-asked : (s : Store) → runTransaction (transactionFrom ws at) ps s ≡ run (planOf ws) (operationOf r) s
       run-asked s = ap₂ (λ (t : Transaction) (l : List ℕ). runTransaction t l s) (sym transaction-asked) q
+
+-- ---- by the answer of questions 7 and 8
+
+found-at : (v : Verdict) (place at : ℕ) → standsAt at ≡ placeBy v place → (v ≡ accepted) × (at ≡ place)
+found-at accepted place at e = (refl, ap placed e)
+  where
+    placed : Place → ℕ
+    placed (standsAt n) = n
+    placed (isRefused n) = n
+found-at (refused question) place at e = let z : _≡_ {A = ℕ} 0 1 = cc in absurd (omega arith)
+
+pub placed-at : (ws : List ℕ) (r : Request) → planVerdict ws ≡ accepted → (at : ℕ)
+    → standsAt at ≡ placeBy (operationVerdict (planOf ws) (operationOf r)) (transactionPlace ws (r .transaction)) → Placed ws r at
+placed-at ws r e at h =
+    let f = found-at (operationVerdict (planOf ws) (operationOf r)) (transactionPlace ws (r .transaction)) at h in
+    record { admitted = record { planned = e; passed = f .0 }; place = f .1 }
+
+pub found-lacking : (v : Verdict) (place question : ℕ) → isRefused question ≡ placeBy v place → v ≡ refused question
+found-lacking accepted place question e = let z : _≡_ {A = ℕ} 0 1 = cc in absurd (omega arith)
+found-lacking (refused n) place question e = ap (λ (m : ℕ). refused m) (sym (ap number e))
+  where
+    number : Place → ℕ
+    number (standsAt n) = n
+    number (isRefused n) = n
+
+accepted-is : (v : Verdict) → isAccepted v ≡ true → v ≡ accepted
+accepted-is accepted e = refl
+accepted-is (refused question) e = absurd (false≢true e)
+
+-- a record that is an operation is admitted
+pub operation-admitted : (ws : List ℕ) (r : Request) → planVerdict ws ≡ accepted → isOperation (planOf ws) r ≡ true → Admitted ws r
+operation-admitted ws r e h = record { planned = e; passed = accepted-is (operationVerdict (planOf ws) (operationOf r)) h }

@@ -7,7 +7,6 @@ use Prim.Native.Nat.{ℕ}
 use lib.Dec.{eqb}
 use lib.ListN.{length, replicate}
 use lib.Seq.{take-at}
-use native.Mathlib.Omega.{arith}
 use borrow.Author.Tests.{eqb-true, eq-eqb, ne-eqb}
 use Rattle.plan.specs.Decode.{planOf}
 use Rattle.plan.specs.Admission.{Verdict, accepted, refused, planVerdict}
@@ -17,18 +16,41 @@ use Rattle.queue.specs.Queue.{noRequest, recordsOf}
 use Rattle.queue.specs.declared.record.Request.{Request}
 use Rattle.conveyor.specs.declared.desk.Desk.{Desk}
 use Rattle.conveyor.specs.Queueing.{operationOf}
-use Rattle.conveyor.specs.Admission.{Admitted, deskBuffersFit, deskStands}
+use Rattle.conveyor.specs.Admission.{deskBuffersFit, deskStands}
 use Rattle.conveyor.specs.Request.{requestVerdict}
-use Rattle.conveyor.specs.Step.{stepVerdict}
+use Rattle.conveyor.specs.Step.{openingVerdict}
+use Rattle.conveyor.proofs.Questions.{both}
 
 -- a queue of 32 records is its first 32 records
 pub records-whole : (queue : List Request) → length queue ≡ 32 → recordsOf queue ≡ queue
 records-whole queue e = take-at queue (replicate 32 noRequest) 32 e
 
--- both of two questions are answered with yes
-both-pass : (v w : Verdict) → andThen v w ≡ accepted → (v ≡ accepted) × (w ≡ accepted)
-both-pass accepted w e = (refl, e)
-both-pass (refused q) w e = let z : _≡_ {A = ℕ} 0 1 = cc in absurd (omega arith)
+-- ---- questions 1 to 5
+
+module _ (ws : List ℕ) (cells : List ℕ) (size : ℕ) where
+  pub plan-refused : (question : ℕ) → planVerdict ws ≡ refused question → openingVerdict ws cells size ≡ refused question
+  unfolding openingVerdict
+  plan-refused question e = rw e
+
+  module _ (e : planVerdict ws ≡ accepted) where
+    pub store-unfit : (length cells ≡ 1024 → ⊥) → openingVerdict ws cells size ≡ refused 5
+    unfolding openingVerdict
+    store-unfit f = rw (e, ne-eqb _ _ f)
+
+    module _ (f : length cells ≡ 1024) where
+      pub queue-unfit : (size ≡ 32 → ⊥) → openingVerdict ws cells size ≡ refused 5
+      unfolding openingVerdict
+      queue-unfit g = rw (e, eq-eqb _ _ f, ne-eqb _ _ g)
+
+      pub buffers-fit : size ≡ 32 → openingVerdict ws cells size ≡ accepted
+      unfolding openingVerdict
+      buffers-fit g = rw (e, eq-eqb _ _ f, eq-eqb _ _ g)
+
+  pub plan-passes : openingVerdict ws cells size ≡ accepted → planVerdict ws ≡ accepted
+  unfolding openingVerdict
+  plan-passes e = both (planVerdict ws) _ e .0
+
+-- ---- all of them, of a queue with this length and these first records
 
 -- where question 5 is answered with no, those behind it do not matter
 unfit : (a : Bool) (v w : Verdict)
@@ -45,48 +67,37 @@ behind-five a size v w h = go (eqb size 32) refl
     go true e = ap (andThen (cond (a && true) accepted (refused 5))) (h (eqb-true size 32 e))
     go false e = unfit a v w
 
-module _ (ws : List ℕ) (d : Desk) (cells : List ℕ) (size : ℕ) (records : List Request) (r : Request) where
-  pub same-verdict : (queue : List Request) → length queue ≡ size → recordsOf queue ≡ records
-      → requestVerdict ws d cells queue r ≡ stepVerdict ws d cells size records r
-  unfolding requestVerdict stepVerdict deskBuffersFit
-  same-verdict queue l q =
-      let rest : List Request → Verdict = λ (rs : List Request). andThen (cond (deskStands (planOf ws) d rs) accepted (refused 6))
-      (operationVerdict (planOf ws) (operationOf r)) in
+then-associates : (u v w : Verdict) → andThen u (andThen v w) ≡ andThen (andThen u v) w
+then-associates accepted v w = refl
+then-associates (refused question) v w = refl
+
+module _ (ws : List ℕ) (d : Desk) (cells : List ℕ) (size : ℕ) (records : List Request) (r : Request)
+    (queue : List Request) (l : length queue ≡ size) (q : recordsOf queue ≡ records) where
+  rest : List Request → Verdict
+  rest rs = andThen (cond (deskStands (planOf ws) d rs) accepted (refused 6)) (operationVerdict (planOf ws) (operationOf r))
+
+  handed : requestVerdict ws d cells queue r ≡ andThen (openingVerdict ws cells size) (rest records)
+  unfolding requestVerdict openingVerdict deskBuffersFit rest
+  handed =
       ap (andThen (planVerdict ws))
       (ap (λ (n : ℕ). andThen (cond (eqb (length cells) 1024 && eqb n 32) accepted (refused 5)) (rest queue)) l
       ∙ behind-five (eqb (length cells) 1024) size (rest queue) (rest records)
       (λ (h : size ≡ 32). ap rest (sym (records-whole queue (l ∙ h)) ∙ q)))
+      ∙ then-associates (planVerdict ws) _ (rest records)
 
-  pub admitted-by : stepVerdict ws d cells size records r ≡ accepted → Admitted ws r
-  unfolding stepVerdict
-  admitted-by e =
-      let q1 = both-pass (planVerdict ws) _ e in
-      let q5 = both-pass (cond (eqb (length cells) 1024 && eqb size 32) accepted (refused 5)) _ (q1 .1) in
-      let q6 = both-pass (cond (deskStands (planOf ws) d records) accepted (refused 6)) _ (q5 .1) in
-      record { planned = q1 .0; passed = q6 .1 }
+  pub opening-refused : (question : ℕ) → openingVerdict ws cells size ≡ refused question
+      → requestVerdict ws d cells queue r ≡ refused question
+  opening-refused question e = handed ∙ ap (λ (v : Verdict). andThen v (rest records)) e
 
-  -- ---- the verdict, question by question
+  module _ (e : openingVerdict ws cells size ≡ accepted) where
+    opened : requestVerdict ws d cells queue r ≡ rest records
+    opened = handed ∙ ap (λ (v : Verdict). andThen v (rest records)) e
 
-  pub plan-refused : (question : ℕ) → planVerdict ws ≡ refused question → stepVerdict ws d cells size records r ≡ refused question
-  unfolding stepVerdict
-  plan-refused question e = rw e
+    pub desk-unfit : deskStands (planOf ws) d records ≡ false → requestVerdict ws d cells queue r ≡ refused 6
+    unfolding rest
+    desk-unfit h = opened ∙ rw h
 
-  module _ (e : planVerdict ws ≡ accepted) where
-    pub store-unfit : (length cells ≡ 1024 → ⊥) → stepVerdict ws d cells size records r ≡ refused 5
-    unfolding stepVerdict
-    store-unfit f = rw (e, ne-eqb _ _ f)
-
-    module _ (f : length cells ≡ 1024) where
-      pub queue-unfit : (size ≡ 32 → ⊥) → stepVerdict ws d cells size records r ≡ refused 5
-      unfolding stepVerdict
-      queue-unfit g = rw (e, eq-eqb _ _ f, ne-eqb _ _ g)
-
-      module _ (g : size ≡ 32) where
-        pub desk-unfit : deskStands (planOf ws) d records ≡ false → stepVerdict ws d cells size records r ≡ refused 6
-        unfolding stepVerdict
-        desk-unfit h = rw (e, eq-eqb _ _ f, eq-eqb _ _ g, h)
-
-        pub by-operation : deskStands (planOf ws) d records ≡ true
-            → stepVerdict ws d cells size records r ≡ operationVerdict (planOf ws) (operationOf r)
-        unfolding stepVerdict
-        by-operation h = rw (e, eq-eqb _ _ f, eq-eqb _ _ g, h)
+    pub by-operation : deskStands (planOf ws) d records ≡ true
+        → requestVerdict ws d cells queue r ≡ operationVerdict (planOf ws) (operationOf r)
+    unfolding rest
+    by-operation h = opened ∙ rw h

@@ -4,7 +4,6 @@ pub mod Handed
 pub mod Routes
 pub mod Lent
 pub mod Remainders
-pub mod Operations
 pub mod WaitingRuns
 pub mod OwnUpdates
 pub mod Assembled

@@ -26,7 +26,7 @@ use Rattle.queue.specs.declared.record.Request.{Request}
 use Rattle.conveyor.specs.Queueing.{operationOf}
 use Rattle.conveyor.specs.Waiting.{updatesOf, repliesOf}
 use Rattle.conveyor.specs.Running.{isOperation}
-use Rattle.conveyor.proofs.Operations.{stands, passes, run-is}
+use Rattle.conveyor.proofs.Asked.{operation-admitted, admitted-stands, parameters-passed, run-asked}
 
 pub updates-count : (p : Plan) (rs : List Request) (s : Store) → length (updatesOf p rs s) ≡ length rs
 unfolding updatesOf
@@ -43,15 +43,16 @@ module _ (ws : List ℕ) (e : planVerdict ws ≡ accepted) (desk : ℕ) (low : d
       → updateFits (planOf ws .desks) (sent desk (run (planOf ws) (operationOf r) s .update)) ≡ true
   unfolding parametersPass
   one-fits r s h =
+      let a = operation-admitted ws r e h in
       let at = transactionPlace ws (r .transaction) in
       let ps = paramsOf r in
       let t = transactionFrom ws at in
       let n = planOf ws .desks in
-      let rows = and-snd (unusedZero (t .params) ps) _ (passes ws r e h at ps refl refl) in
+      let rows = and-snd (unusedZero (t .params) ps) _ (parameters-passed ws r a at refl ps refl) in
       let cells = member-every cellFits (runTransaction t ps s .update) (λ w m.
       lt-ltb (w .0) 1024 (cells-low writes ps (t .steps) (transaction-fits ws at) rows (w .0) (writes-within t ps s w m))) in
-      let few = le-leb (length (runTransaction t ps s .update)) 12 (update-few ws at ps s (stands ws r e h at ps refl refl)) in
-      subst (λ (o : Outcome). updateFits n (sent desk (o .update)) ≡ true) (run-is ws r e h at ps refl refl s)
+      let few = le-leb (length (runTransaction t ps s .update)) 12 (update-few ws at ps s (admitted-stands ws r a at refl)) in
+      subst (λ (o : Outcome). updateFits n (sent desk (o .update)) ≡ true) (run-asked ws r a at refl ps refl s)
       (and-true _ _ (lt-ltb desk n low) (and-true _ _ few cells))
 
   pub all-fit : (rs : List Request) (s : Store) → every (isOperation (planOf ws)) rs ≡ true

@@ -1,58 +1,72 @@
 -- What a request leaves, by the verdict, by the operation's class, and by whether this desk is its own.
 -- Assumes nothing.
-use mathlib.Core.Path.{_≡_, _∙_, sym, ap, ap₂}
-use mathlib.Core.Bool.{Bool, true, false, cond}
+use mathlib.Core.Path.{_≡_, refl, sym, ap}
+use mathlib.Core.Bool.{Bool, true, false, cond, false≢true}
 use mathlib.Core.List.{List}
 use Prim.Native.Nat.{ℕ}
-use lib.Dec.{ltb, eqb}
+use lib.Dec.{ltb}
 use Rattle.plan.specs.Plan.{Plan}
 use Rattle.plan.specs.Decode.{planOf}
-use Rattle.plan.specs.Admission.{Verdict, accepted, refused}
+use Rattle.plan.specs.Admission.{Verdict}
 use Rattle.operation.specs.Operation.{deskOf}
-use Rattle.conflict.specs.Class.{Class, free, local, global, classOf}
+use Rattle.conflict.specs.Class.{Class, free, local, global, isFree, isGlobal}
 use Rattle.queue.specs.declared.record.Request.{Request}
 use Rattle.conveyor.specs.declared.desk.Desk.{Desk}
 use Rattle.conveyor.specs.Queueing.{operationOf}
-use Rattle.conveyor.specs.Request.{redirected, isRefused, unchanged, ranNow, enqueued, routed, served, requestVerdict, requestResult}
+use Rattle.conveyor.specs.Request.{
+  Requested,
+  redirected,
+  isRefused,
+  unchanged,
+  ranNow,
+  enqueued,
+  routed,
+  served,
+  requestVerdict,
+  requestResult,
+}
+use Rattle.conveyor.specs.Routing.{Way, runs, joins, leaves, wayBy}
 
 -- ---- by the verdict
 
-module _ (ws : List ℕ) (d : Desk) (cells : List ℕ) (queue : List Request) (r : Request) where
-  pub left-by-refusal : (question : ℕ) → requestVerdict ws d cells queue r ≡ refused question
-      → requestResult ws d cells queue r ≡ unchanged d cells queue (isRefused question)
-  unfolding requestResult
-  left-by-refusal question e = ap (λ (v : Verdict). served d cells queue v (planOf ws) r) e
+pub left-by-verdict : (ws : List ℕ) (d : Desk) (cells : List ℕ) (queue : List Request) (r : Request) (v : Verdict)
+    → requestVerdict ws d cells queue r ≡ v → requestResult ws d cells queue r ≡ served d cells queue v (planOf ws) r
+unfolding requestResult
+left-by-verdict ws d cells queue r v e = ap (λ (w : Verdict). served d cells queue w (planOf ws) r) e
 
-  pub left-by-route : requestVerdict ws d cells queue r ≡ accepted → requestResult ws d cells queue r
-      ≡ routed d cells queue (classOf (planOf ws) (operationOf r)) (eqb (deskOf (planOf ws) (operationOf r)) (d .desk)) (planOf ws) r
-  unfolding requestResult
-  left-by-route e = ap (λ (v : Verdict). served d cells queue v (planOf ws) r) e
+-- ---- by the way that the operation goes
 
--- ---- by the class and the desk: n is the operation's desk, as found
+module _ (d : Desk) (cells : List ℕ) (queue : List Request) (p : Plan) (r : Request) where
+  abbrev pub leftBy : Way → Requested
+  leftBy runs = ranNow d cells queue p (operationOf r)
+  leftBy joins = cond (ltb (d .waiting) 32) (enqueued d cells queue r) (unchanged d cells queue (isRefused 9))
+  leftBy leaves = unchanged d cells queue (redirected (deskOf p (operationOf r)))
 
-module _ (p : Plan) (d : Desk) (cells : List ℕ) (queue : List Request) (r : Request) (k : Class) where
-  pub goes-free : k ≡ free
-      → routed d cells queue k (eqb (deskOf p (operationOf r)) (d .desk)) p r ≡ ranNow d cells queue p (operationOf r)
-  goes-free e = ap (λ (x : Class). routed d cells queue x (eqb (deskOf p (operationOf r)) (d .desk)) p r) e
+  pub routed-by-way : (k : Class) (own : Bool) → routed d cells queue k own p r ≡ leftBy (wayBy k own)
+  routed-by-way free own = refl
+  routed-by-way local true = refl
+  routed-by-way local false = refl
+  routed-by-way global true = refl
+  routed-by-way global false = refl
 
-  module _ (n : ℕ) (g : n ≡ deskOf p (operationOf r)) where
-    routed-by : (x : Class) (b : Bool) → k ≡ x → eqb n (d .desk) ≡ b
-        → routed d cells queue k (eqb (deskOf p (operationOf r)) (d .desk)) p r ≡ routed d cells queue x b p r
-    routed-by x b e h =
-        ap₂ (λ (y : Class) (own : Bool). routed d cells queue y own p r) e (ap (λ (m : ℕ). eqb m (d .desk)) (sym g) ∙ h)
+-- ---- the way, by the one test that it hangs on
 
-    pub goes-local : k ≡ local → eqb n (d .desk) ≡ true
-        → routed d cells queue k (eqb (deskOf p (operationOf r)) (d .desk)) p r ≡ ranNow d cells queue p (operationOf r)
-    goes-local e h = routed-by local true e h
+pub own-waits : (k : Class) → isGlobal k ≡ true → joins ≡ wayBy k true
+own-waits free e = absurd (false≢true e)
+own-waits local e = absurd (false≢true e)
+own-waits global e = refl
 
-    pub goes-waiting : k ≡ global → eqb n (d .desk) ≡ true → routed d cells queue k (eqb (deskOf p (operationOf r)) (d .desk)) p r
-        ≡ cond (ltb (d .waiting) 32) (enqueued d cells queue r) (unchanged d cells queue (isRefused 9))
-    goes-waiting e h = routed-by global true e h
+pub own-runs : (k : Class) → isGlobal k ≡ false → runs ≡ wayBy k true
+own-runs free e = refl
+own-runs local e = refl
+own-runs global e = absurd (false≢true (sym e))
 
-    pub local-elsewhere : k ≡ local → eqb n (d .desk) ≡ false
-        → routed d cells queue k (eqb (deskOf p (operationOf r)) (d .desk)) p r ≡ unchanged d cells queue (redirected n)
-    local-elsewhere e h = routed-by local false e h ∙ ap (λ (m : ℕ). unchanged d cells queue (redirected m)) (sym g)
+pub free-runs : (k : Class) → isFree k ≡ true → runs ≡ wayBy k false
+free-runs free e = refl
+free-runs local e = absurd (false≢true e)
+free-runs global e = absurd (false≢true e)
 
-    pub global-elsewhere : k ≡ global → eqb n (d .desk) ≡ false
-        → routed d cells queue k (eqb (deskOf p (operationOf r)) (d .desk)) p r ≡ unchanged d cells queue (redirected n)
-    global-elsewhere e h = routed-by global false e h ∙ ap (λ (m : ℕ). unchanged d cells queue (redirected m)) (sym g)
+pub other-leaves : (k : Class) → isFree k ≡ false → leaves ≡ wayBy k false
+other-leaves free e = absurd (false≢true (sym e))
+other-leaves local e = refl
+other-leaves global e = refl

@@ -1,7 +1,7 @@
 -- Question 6, by the tests that answer it: of one record, of the waiting records, and of the state.
 -- Assumes nothing.
-use mathlib.Core.Path.{_≡_, _∙_, ap}
-use mathlib.Core.Bool.{Bool, true, false, _&&_}
+use mathlib.Core.Path.{_≡_, _∙_, sym, ap}
+use mathlib.Core.Bool.{Bool, true, false, _&&_, false≢true}
 use mathlib.Core.List.{List}
 use Prim.Native.Nat.{ℕ, _+_, _%_, _≤_, _<_}
 use native.Mathlib.Omega.{arith}
@@ -20,8 +20,10 @@ use Rattle.operation.specs.Admission.{operationVerdict}
 use Rattle.conflict.specs.Class.{isGlobal, classOf}
 use Rattle.queue.specs.declared.record.Request.{Request}
 use Rattle.conveyor.specs.declared.desk.Desk.{Desk}
+use Rattle.conveyor.specs.declared.check.DeskCheck.{DeskCheck}
 use Rattle.conveyor.specs.Queueing.{operationOf, waitingIn}
 use Rattle.conveyor.specs.Admission.{waitsHere, deskStands}
+use Rattle.conveyor.specs.Routing.{TableHolds}
 
 -- ---- one record
 
@@ -79,3 +81,7 @@ module _ (ws : List ℕ) (d : Desk) (records : List Request) where
 pub none-waits : {A : Type 0} (f : A → Bool) (l : List A) (n : ℕ) → n ≡ 0 → every f (take n l) ≡ true
 unfolding every
 none-waits f l n e = rw e
+
+-- an answer for which no table was filled says nothing of one
+pub untabled-holds : (ws : List ℕ) (s : DeskCheck) → s .known ≡ false → TableHolds ws s
+untabled-holds ws s e = λ known. absurd (false≢true (sym e ∙ known))

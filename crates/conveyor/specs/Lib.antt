@@ -1,5 +1,6 @@
 pub mod Queueing
 pub mod Admission
+pub mod Routing
 pub mod Waiting
 pub mod Running
 pub mod Request

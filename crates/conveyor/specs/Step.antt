@@ -5,15 +5,10 @@ use mathlib.Core.Bool.{_&&_, cond}
 use mathlib.Core.List.{List}
 use lib.Dec.{eqb}
 use lib.ListN.{length, set}
-use Rattle.plan.specs.Decode.{planOf}
 use Rattle.plan.specs.Admission.{Verdict, accepted, refused, planVerdict}
-use Rattle.operation.specs.Admission.{operationVerdict}
 use Rattle.token.specs.Admission.{andThen}
 use Rattle.queue.specs.declared.record.Request.{Request}
-use Rattle.conveyor.specs.declared.desk.Desk.{Desk}
 use Rattle.conveyor.specs.declared.asking.RequestStep.{RequestStep}
-use Rattle.conveyor.specs.Queueing.{operationOf}
-use Rattle.conveyor.specs.Admission.{deskStands}
 use Rattle.conveyor.specs.Request.{Requested}
 use Rattle.conveyor.specs.Answer.{requestedOf}
 
@@ -21,10 +16,7 @@ use Rattle.conveyor.specs.Answer.{requestedOf}
 abbrev pub steppedOf : RequestStep → List ℕ → List Request → Requested
 steppedOf s cells queue = requestedOf (s .result) cells (set queue (s .place) (s .request))
 
--- questions 1 to 8 of what the core is handed
-unfoldable pub stepVerdict : List ℕ → Desk → List ℕ → ℕ → List Request → Request → Verdict
-stepVerdict ws d cells size records r =
-    andThen (planVerdict ws)
-    (andThen (cond (eqb (length cells) 1024 && eqb size 32) accepted (refused 5))
-    (andThen (cond (deskStands (planOf ws) d records) accepted (refused 6))
-    (operationVerdict (planOf ws) (operationOf r))))
+-- questions 1 to 5
+unfoldable pub openingVerdict : List ℕ → List ℕ → ℕ → Verdict
+openingVerdict ws cells size =
+    andThen (planVerdict ws) (cond (eqb (length cells) 1024 && eqb size 32) accepted (refused 5))

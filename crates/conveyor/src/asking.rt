@@ -6,20 +6,25 @@ ghost use Prim.Native.Nat.{ℕ};
 ghost use lib.Dec.{ltb, eqb};
 ghost use lib.ListN.{length};
 ghost use Rattle.plan.specs.Decode.{planOf};
+ghost use Rattle.plan.specs.Admission.{planVerdict, accepted};
 ghost use Rattle.plan.specs.Answer.{verdictOf};
 ghost use Rattle.operation.specs.Operation.{deskOf};
+ghost use Rattle.operation.specs.Admission.{operationVerdict};
 ghost use Rattle.conflict.specs.Class.{classOf};
 ghost use Rattle.queue.specs.Queue.{recordsOf};
 ghost use Rattle.queue.specs.declared.record.Request.{Request as Queued};
 ghost use Rattle.conveyor.specs.Queueing.{operationOf};
-ghost use Rattle.conveyor.specs.Admission.{Admitted};
-ghost use Rattle.conveyor.specs.Request.{isRefused, unchanged, ranNow, enqueued, routed, recordOf, requestResult};
+ghost use Rattle.conveyor.specs.Request.{isRefused, unchanged, ranNow, enqueued, routed, served, recordOf, requestResult};
 ghost use Rattle.conveyor.specs.Answer.{responseOf};
-ghost use Rattle.conveyor.specs.Step.{steppedOf, stepVerdict};
+ghost use Rattle.conveyor.specs.Step.{steppedOf, openingVerdict};
+ghost use Rattle.conveyor.specs.Routing.{Placed, TableHolds};
 use crate::admitted;
+use crate::admitted::Located;
 use crate::check;
+use crate::check::DeskCheck;
 use crate::desk::Desk;
-use conflict::Class;
+use crate::routing;
+use crate::routing::Route;
 use operation::Reply;
 use plan::PlanAnswer;
 use queue::Request;
@@ -68,12 +73,13 @@ fn run_step(
     cells: &mut [u32],
     size: usize,
     request: Request,
+    at: usize,
 ) -> RequestStep
-    requires { ⌜ Admitted (now plan) request ⌝ }
+    requires { ⌜ Placed (now plan) request at ⌝ }
     ensures { λ r. ⌜ ((queue : List Queued) → length queue ≡ size → steppedOf r (now (cells .exit)) queue
         ≡ ranNow state (now (cells .entry)) queue (planOf (now (plan .entry))) (operationOf request)) ⌝ }
 {
-    let reply = admitted::run_operation(plan, request, cells);
+    let reply = admitted::run_operation(plan, at, request, cells);
     unchanged_step(RequestAnswer::Replied(reply), state, size, request)
 }
 
@@ -109,43 +115,51 @@ fn routed_step(
     cells: &mut [u32],
     size: usize,
     request: Request,
+    at: usize,
+    standing: DeskCheck,
 ) -> RequestStep
-    requires { ⌜ Admitted (now plan) request ⌝ }
+    requires { ⌜ Placed (now plan) request at × TableHolds (now plan) standing ⌝ }
     ensures { λ r. ⌜ ((queue : List Queued) → length queue ≡ size → steppedOf r (now (cells .exit)) queue
         ≡ routed state (now (cells .entry)) queue (classOf (planOf (now (plan .entry))) (operationOf request))
         (eqb (deskOf (planOf (now (plan .entry))) (operationOf request)) (state .desk)) (planOf (now (plan .entry))) request) ⌝ }
 {
     let here = state.desk;
-    let desk = admitted::operation_desk(plan, request);
-    let own = desk == here;
-    let elsewhere = RequestAnswer::Elsewhere(desk);
-    match admitted::operation_class(plan, request) {
-        Class::Free => run_step(plan, state, cells, size, request),
-        Class::Local => {
-            if own {
-                return run_step(plan, state, cells, size, request);
-            }
-            unchanged_step(elsewhere, state, size, request)
-        }
-        Class::Global => {
-            if own {
-                return wait_step(state, size, request);
-            }
-            unchanged_step(elsewhere, state, size, request)
-        }
+    let desk = admitted::operation_desk(plan, at, request);
+    match routing::route_of(plan, at, request, desk == here, standing) {
+        Route::Runs => run_step(plan, state, cells, size, request, at),
+        Route::Waits => wait_step(state, size, request),
+        Route::Elsewhere => unchanged_step(RequestAnswer::Elsewhere(desk), state, size, request),
     }
 }
 
-// Questions 1 to 8.
-fn request_verdict(
+// Questions 7 and 8, and the route.
+fn admitted_step(
     plan: &[u32],
     state: Desk,
-    cells: &[u32],
+    cells: &mut [u32],
     size: usize,
-    records: [Request; 32],
     request: Request,
-) -> PlanAnswer
-    ensures { λ r. ⌜ verdictOf r ≡ stepVerdict (now (plan .entry)) state (now (cells .entry)) size records request ⌝ }
+    standing: DeskCheck,
+) -> RequestStep
+    requires { ⌜ (planVerdict (now plan) ≡ accepted) × TableHolds (now plan) standing ⌝ }
+    ensures { λ r. ⌜ ((queue : List Queued) → length queue ≡ size → steppedOf r (now (cells .exit)) queue
+        ≡ served state (now (cells .entry)) queue (operationVerdict (planOf (now (plan .entry))) (operationOf request))
+        (planOf (now (plan .entry))) request) ⌝ }
+{
+    match admitted::locate(plan, request) {
+        Located::At(at) => routed_step(plan, state, cells, size, request, at, standing),
+        Located::Refused(question) => unchanged_step(
+            RequestAnswer::Refused(question),
+            state,
+            size,
+            request,
+        ),
+    }
+}
+
+// Questions 1 to 5.
+fn opening_verdict(plan: &[u32], cells: &[u32], size: usize) -> PlanAnswer
+    ensures { λ r. ⌜ verdictOf r ≡ openingVerdict (now (plan .entry)) (now (cells .entry)) size ⌝ }
 {
     if let PlanAnswer::Refused(question) = plan::read_plan(plan) {
         return PlanAnswer::Refused(question);
@@ -156,10 +170,7 @@ fn request_verdict(
     if size != 32 {
         return PlanAnswer::Refused(5);
     }
-    if !check::desk_stands(plan, state, records) {
-        return PlanAnswer::Refused(6);
-    }
-    admitted::operation_verdict(plan, request)
+    PlanAnswer::Accepted
 }
 
 // The request, of a queue with this length and these first records. Nothing is written before the last question.
@@ -174,17 +185,14 @@ pub(crate) fn request_core(
     ensures { λ r. ⌜ ((queue : List Queued) → length queue ≡ size → recordsOf queue ≡ records
         → steppedOf r (now (cells .exit)) queue ≡ requestResult (now (plan .entry)) state (now (cells .entry)) queue request) ⌝ }
 {
-    if let PlanAnswer::Refused(question) = request_verdict(
-        plan,
-        state,
-        cells,
-        size,
-        records,
-        request,
-    ) {
+    if let PlanAnswer::Refused(question) = opening_verdict(plan, cells, size) {
         return unchanged_step(RequestAnswer::Refused(question), state, size, request);
     }
-    routed_step(plan, state, cells, size, request)
+    let standing = check::standing(plan, state, records);
+    if !standing.stands {
+        return unchanged_step(RequestAnswer::Refused(6), state, size, request);
+    }
+    admitted_step(plan, state, cells, size, request, standing)
 }
 
 // The same of a client's word, a transaction and four parameters, of which it makes the record.

@@ -5,6 +5,7 @@ mod check;
 mod desk;
 mod engine;
 mod passing;
+mod routing;
 mod running;
 mod visiting;
 

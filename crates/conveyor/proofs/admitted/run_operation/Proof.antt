@@ -10,19 +10,15 @@ use borrow.Author.Needs.{needs}
 use Rattle.conveyor.proofs.admitted.run_operation.Statement.{statement}
 use Rattle.conveyor.proofs.admitted.run_operation.Tie as tie
 
-transaction-place-requires : tie.Need-transaction-place-requires
-transaction-place-requires c κs = search needs
-
 params-requires : tie.Need-params-requires
 params-requires c κs = search needs
 
 run-requires : tie.Need-run-requires
 run-requires c κs =
     let f = c .before in
-    let e = f .before in
-    let d = e .before .before .before in (
-      admitted-stands (d .args .plan .now) (d .args .request) (d .pre) _ (e .transaction-place .ensures),
-      parameters-passed (d .args .plan .now) (d .args .request) (d .pre) _ (e .transaction-place .ensures) _ (f .params .ensures),
+    let d = f .before .before .before in (
+      admitted-stands (d .args .plan .now) (d .args .request) (d .pre .admitted) _ (d .pre .place),
+      parameters-passed (d .args .plan .now) (d .args .request) (d .pre .admitted) _ (d .pre .place) _ (f .params .ensures),
     )
 
 apply-requires : tie.Need-apply-requires
@@ -33,34 +29,23 @@ same-length c = search needs
 
 -- the outcome is that of the operation
 ran : (c : tie.After-run)
-    → outcomeOf (c .run .result)
-    ≡ runOf (planOf (c .before .before .before .before .before .before .args .plan .now))
-    (operationOf (c .before .before .before .before .before .before .args .request))
-    (c .before .before .before .before .before .before .args .cells .now)
+    → let d = c .before .before .before .before .before in
+    outcomeOf (c .run .result) ≡ runOf (planOf (d .args .plan .now)) (operationOf (d .args .request)) (d .args .cells .now)
 ran c =
     let f = c .before .before in
-    let e = f .before in
-    let d = e .before .before .before in
+    let d = f .before .before .before in
     c .run .ensures .0
-    ∙ run-asked (d .args .plan .now) (d .args .request) (d .pre) _ (e .transaction-place .ensures) _ (f .params .ensures)
-    (d .args .cells .now)
+    ∙ run-asked (d .args .plan .now) (d .args .request) (d .pre .admitted) _ (d .pre .place) _ (f .params .ensures) (d .args .cells .now)
 
 returns : tie.Need-returns
 returns c =
     let e = c .before .before .before in
     let g = e .before .before .before in
-    let d = g .before .before .before .before .before .before in (
+    let d = g .before .before .before .before .before in (
       ap (λ (o : Outcome). o .reply) (ran g),
       e .apply .ensures ∙ ap (λ (o : Outcome). applyUpdate (o .update) (d .args .cells .now)) (ran g),
     )
 
 pub run-operation-spec : {M : Type 1} → statement M
 run-operation-spec =
-    tie.close
-    (tie.spec
-    transaction-place-requires
-    params-requires
-    run-requires
-    apply-requires
-    same-length
-    returns)
+    tie.close (tie.spec params-requires run-requires apply-requires same-length returns)

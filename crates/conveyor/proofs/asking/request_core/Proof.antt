@@ -1,20 +1,22 @@
--- The request: refused with the verdict's number, or left as its route leaves it.
+-- The request: refused with the number of the first question whose answer is no, or left as its route leaves it.
 -- Assumes nothing.
 use mathlib.Core.Path.{_≡_, _∙_, sym, ap}
-use mathlib.Core.List.{List}
-use lib.ListN.{length}
+use mathlib.Core.Bool.{true}
+use borrow.Author.Tests.{not-true, not-false}
+use Rattle.plan.specs.Decode.{planOf}
+use Rattle.plan.specs.Admission.{accepted}
 use Rattle.plan.specs.Answer.{verdictOf}
-use Rattle.queue.specs.Queue.{recordsOf}
-use Rattle.queue.specs.declared.record.Request.{Request}
-use Rattle.conveyor.specs.Request.{requestVerdict}
-use Rattle.conveyor.proofs.Handed.{same-verdict, admitted-by}
-use Rattle.conveyor.proofs.Routes.{left-by-refusal, left-by-route}
+use Rattle.conveyor.specs.Admission.{deskStands}
+use Rattle.conveyor.specs.Step.{openingVerdict}
+use Rattle.conveyor.proofs.Handed.{opening-refused, desk-unfit, by-operation}
+use Rattle.conveyor.proofs.Handed as handed
+use Rattle.conveyor.proofs.Routes.{left-by-verdict}
 use borrow.Author.Needs.{needs}
 use Rattle.conveyor.proofs.asking.request_core.Statement.{statement}
 use Rattle.conveyor.proofs.asking.request_core.Tie as tie
 
-request-verdict-requires : tie.Need-request-verdict-requires
-request-verdict-requires c κs = search needs
+opening-verdict-requires : tie.Need-opening-verdict-requires
+opening-verdict-requires c κs = search needs
 
 enum-known-question : tie.Need-enum-known-question
 enum-known-question c = search needs
@@ -25,51 +27,80 @@ unchanged-step-requires c κs = search needs
 same-length : tie.Need-same-length
 same-length c = search needs
 
--- the queue that it is handed for has the verdict found
-found : (c : tie.After-request-verdict) →
-    let d = c .before .before .before .before in
-    (queue : List Request) → length queue ≡ d .args .size → recordsOf queue ≡ d .args .records
-    → requestVerdict (d .args .plan .now) (d .args .state) (d .args .cells .now) queue (d .args .request)
-    ≡ verdictOf (c .request-verdict .result)
-found c queue l q = same-verdict _ _ _ _ _ _ queue l q ∙ sym (c .request-verdict .ensures)
-
 returns : tie.Need-returns
 returns c = λ queue l q.
-    let e = c .before .before .before .before in
-    let d = e .before .before .before .before in
+    let e = c .before .before in
+    let f = e .before .before in
+    let d = f .before .before .before .before in
     c .unchanged-step .ensures (d .args .cells .now) queue l
-    ∙ sym (left-by-refusal (d .args .plan .now) (d .args .state) (d .args .cells .now) queue (d .args .request) _
-    (found e queue l q ∙ ap verdictOf (c .before .before .question .given .1)))
+    ∙ sym (left-by-verdict (d .args .plan .now) (d .args .state) (d .args .cells .now) queue (d .args .request) _
+    (opening-refused (d .args .plan .now) (d .args .state) (d .args .cells .now) (d .args .size) (d .args .records) (d .args .request)
+    queue l q _ (sym (f .opening-verdict .ensures) ∙ ap verdictOf (e .question .given .1))))
 
 enum-told : tie.Need-enum-told
 enum-told c = search needs
 
-routed-step-requires : tie.Need-routed-step-requires
-routed-step-requires c κs =
-    let e = c .before in
-    admitted-by _ _ _ _ _ _ (sym (e .before .before .request-verdict .ensures) ∙ ap verdictOf (e .enum-told .given .1))
+-- questions 1 to 5 are answered with yes
+opens : (c : tie.After-enum-told) →
+    let d = c .before .before .before .before .before .before in
+    openingVerdict (d .args .plan .now) (d .args .cells .now) (d .args .size) ≡ accepted
+opens c = sym (c .before .before .opening-verdict .ensures) ∙ ap verdictOf (c .enum-told .given .1)
+
+standing-requires : tie.Need-standing-requires
+standing-requires c κs =
+    let d = c .before .before .before .before .before .before in
+    handed.plan-passes (d .args .plan .now) (d .args .cells .now) (d .args .size) (opens c)
+
+unchanged-step-requires-2 : tie.Need-unchanged-step-requires-2
+unchanged-step-requires-2 c κs = search needs
 
 same-length-2 : tie.Need-same-length-2
 same-length-2 c = search needs
 
 returns-2 : tie.Need-returns-2
 returns-2 c = λ queue l q.
-    let e = c .before .before .before .before in
+    let g = c .before in
+    let e = g .before .before .before in
     let d = e .before .before .before .before .before .before in
-    c .before .before .routed-step .ensures queue l
-    ∙ sym (left-by-route (d .args .plan .now) (d .args .state) (d .args .cells .now) queue (d .args .request)
-    (found (e .before .before) queue l q ∙ ap verdictOf (e .enum-told .given .1)))
+    c .unchanged-step2 .ensures (d .args .cells .now) queue l
+    ∙ sym (left-by-verdict (d .args .plan .now) (d .args .state) (d .args .cells .now) queue (d .args .request) _
+    (desk-unfit (d .args .plan .now) (d .args .state) (d .args .cells .now) (d .args .size) (d .args .records) (d .args .request)
+    queue l q (opens e) (sym (g .before .before .standing .ensures .0) ∙ not-true _ (g .if1 .taken))))
+
+admitted-step-requires : tie.Need-admitted-step-requires
+admitted-step-requires c κs =
+    let g = c .before .before .before in
+    let e = g .before in
+    let d = e .before .before .before .before .before .before in
+    (handed.plan-passes (d .args .plan .now) (d .args .cells .now) (d .args .size) (opens e), g .standing .ensures .1)
+
+same-length-3 : tie.Need-same-length-3
+same-length-3 c = search needs
+
+returns-3 : tie.Need-returns-3
+returns-3 c = λ queue l q.
+    let g = c .before .before .before .before in
+    let e = g .before .before .before in
+    let d = e .before .before .before .before .before .before in
+    c .before .before .admitted-step .ensures queue l
+    ∙ sym (left-by-verdict (d .args .plan .now) (d .args .state) (d .args .cells .now) queue (d .args .request) _
+    (by-operation (d .args .plan .now) (d .args .state) (d .args .cells .now) (d .args .size) (d .args .records) (d .args .request)
+    queue l q (opens e) (sym (g .before .before .standing .ensures .0) ∙ not-false _ (g .if1 .left))))
 
 pub request-core-spec : {M : Type 1} → statement M
 request-core-spec =
     tie.close
     (tie.spec
-    request-verdict-requires
+    opening-verdict-requires
     enum-known-question
     unchanged-step-requires
     same-length
     returns
     enum-told
-    routed-step-requires
+    standing-requires
+    unchanged-step-requires-2
     same-length-2
-    returns-2)
+    returns-2
+    admitted-step-requires
+    same-length-3
+    returns-3)

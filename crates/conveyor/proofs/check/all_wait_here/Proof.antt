@@ -15,15 +15,12 @@ use Rattle.conveyor.proofs.check.all_wait_here.Statement.{statement}
 use Rattle.conveyor.proofs.check.all_wait_here.Tie as tie
 
 abbrev Inv-loop : tie.InvT-loop
-Inv-loop plan desk waiting records touchers i₀ i =
+Inv-loop plan desk waiting touchers records i₀ i =
     (i ≤ waiting) × (length records ≡ 32)
     × (every (waitsHere (planOf plan) desk) (take waiting records) ≡ every (waitsHere (planOf plan) desk) (drop i (take waiting records)))
 
 abbrev μ-loop : tie.MeasureT-loop
-μ-loop plan desk waiting records touchers i₀ i = waiting - i
-
-desk-masks-requires : tie.Need-desk-masks-requires Inv-loop μ-loop
-desk-masks-requires c κs = search needs
+μ-loop plan desk waiting touchers records i₀ i = waiting - i
 
 loop-holds : tie.Need-loop-holds Inv-loop μ-loop
 loop-holds c = (search needs, search needs, refl)
@@ -37,31 +34,28 @@ array-copy-out-request c = search needs
 add-i : tie.Need-add-i Inv-loop μ-loop
 add-i c = search needs
 
-slice-aggregate-waits-here : tie.Need-slice-aggregate-waits-here Inv-loop μ-loop
-slice-aggregate-waits-here c = search needs
-
 waits-here-requires : tie.Need-waits-here-requires Inv-loop μ-loop
 waits-here-requires c κs = search needs
 
 -- the record looked at, and those behind it
 turned : (c : tie.After-waits-here Inv-loop μ-loop) →
-    let e = c .before .before .before .before in
+    let e = c .before .before .before in
     let d = e .before .before .before in
     every (waitsHere (planOf (d .args .plan .now)) (d .args .desk)) (take (d .args .waiting) (d .args .t4))
     ≡ (c .waits-here .result
     && every (waitsHere (planOf (d .args .plan .now)) (d .args .desk)) (drop (e .loop .i + 1) (take (d .args .waiting) (d .args .t4))))
 turned c =
-    let e = c .before .before .before .before in
+    let e = c .before .before .before in
     let d = e .before .before .before in
     let f = waitsHere (planOf (d .args .plan .now)) (d .args .desk) in
     let fits : d .args .waiting ≤ length (d .args .t4) = omega (arith, e .loop .inv .1, d .pre .1) in
     e .loop .inv .2
-    ∙ first-here f (d .args .t4) (d .args .waiting) fits (e .loop .i) _ (c .before .before .before .loop-test .taken)
+    ∙ first-here f (d .args .t4) (d .args .waiting) fits (e .loop .i) _ (c .before .before .loop-test .taken)
     ∙ ap (λ (b : Bool). b && every f (drop (e .loop .i + 1) (take (d .args .waiting) (d .args .t4)))) (sym (c .waits-here .ensures))
 
 returns : tie.Need-returns Inv-loop μ-loop
 returns c =
-    let e = c .before .before .before .before .before in
+    let e = c .before .before .before .before in
     let d = e .before .before .before in
     sym (turned (c .before)
     ∙ ap (λ (b : Bool). b && every (waitsHere (planOf (d .args .plan .now)) (d .args .desk))
@@ -72,7 +66,7 @@ loop-less c = search needs
 
 loop-again : tie.Need-loop-again Inv-loop μ-loop
 loop-again c =
-    let e = c .before .before .before .before .before in
+    let e = c .before .before .before .before in
     let d = e .before .before .before in (
       search needs,
       e .loop .inv .1,
@@ -97,12 +91,10 @@ all-wait-here-spec =
     (tie.spec
     Inv-loop
     μ-loop
-    desk-masks-requires
     loop-holds
     mul-request
     array-copy-out-request
     add-i
-    slice-aggregate-waits-here
     waits-here-requires
     returns
     loop-less

@@ -9,7 +9,7 @@ use Rattle.operation.specs.Run.{Outcome, run, applyUpdate}
 use Rattle.token.specs.Frame.{sent, updateWords, overwritten}
 use Rattle.conveyor.specs.Queueing.{operationOf}
 use Rattle.conveyor.specs.Waiting.{replyWords}
-use Rattle.conveyor.proofs.Operations.{stands, passes, run-is}
+use Rattle.conveyor.proofs.Asked.{operation-admitted, admitted-stands, parameters-passed, run-asked}
 use borrow.Author.Needs.{needs}
 use Rattle.conveyor.proofs.running.run_one.Statement.{statement}
 use Rattle.conveyor.proofs.running.run_one.Tie as tie
@@ -23,11 +23,10 @@ params-requires c κs = search needs
 run-requires : tie.Need-run-requires
 run-requires c κs =
     let s = c .before .before .before .before .before .before .before in
-    let i = c .before .before .transaction-place .ensures in
-    let j = c .before .params .ensures in (
-      stands (s .args .plan .now) (s .args .request) (s .pre .plan) (s .pre .operation) _ _ i j,
-      passes (s .args .plan .now)
-          (s .args .request) (s .pre .plan) (s .pre .operation) _ _ i j,
+    let a = operation-admitted (s .args .plan .now) (s .args .request) (s .pre .plan) (s .pre .operation) in
+    let i = c .before .before .transaction-place .ensures in (
+      admitted-stands (s .args .plan .now) (s .args .request) a _ i,
+      parameters-passed (s .args .plan .now) (s .args .request) a _ i _ (c .before .params .ensures),
     )
 
 write-reply-requires : tie.Need-write-reply-requires
@@ -42,9 +41,9 @@ ran : (c : tie.After-run)
 ran c =
     let s = c .before .before .before .before .before .before .before .before in
     c .run .ensures .0
-    ∙ run-is (s .args .plan .now) (s .args .request) (s .pre .plan) (s .pre .operation) _ _
-    (c .before .before .before .transaction-place .ensures) (c .before .before .params .ensures)
-    (s .args .cells .now)
+    ∙ run-asked (s .args .plan .now) (s .args .request)
+    (operation-admitted (s .args .plan .now) (s .args .request) (s .pre .plan) (s .pre .operation)) _
+    (c .before .before .before .transaction-place .ensures) _ (c .before .before .params .ensures) (s .args .cells .now)
 
 write-update-requires : tie.Need-write-update-requires
 write-update-requires c κs =

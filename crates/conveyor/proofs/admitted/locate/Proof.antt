@@ -1,16 +1,18 @@
 -- Questions 7 and 8 of a request: each answer is the branch of the definition that the question before it chose.
 -- Assumes nothing.
-use mathlib.Core.Path.{_≡_, _∙_, sym, ap}
+use mathlib.Core.Path.{_≡_, _∙_, sym, ap, ap₂}
 use mathlib.Core.Bool.{Bool, true, cond}
 use borrow.Author.Tests.{not-true, not-false}
 use Rattle.plan.specs.Decode.{planOf}
 use Rattle.plan.specs.Admission.{Verdict, accepted, refused}
+use Rattle.plan.specs.Place.{transactionPlace}
 use Rattle.operation.specs.Admission.{transactionExists, operationVerdict}
 use Rattle.conveyor.specs.Queueing.{operationOf}
+use Rattle.conveyor.specs.Routing.{placeBy}
 use Rattle.conveyor.proofs.Asked.{no-transaction, stands, verdict-here}
 use borrow.Author.Needs.{needs}
-use Rattle.conveyor.proofs.admitted.operation_verdict.Statement.{statement}
-use Rattle.conveyor.proofs.admitted.operation_verdict.Tie as tie
+use Rattle.conveyor.proofs.admitted.locate.Statement.{statement}
+use Rattle.conveyor.proofs.admitted.locate.Tie as tie
 
 transaction-exists-requires : tie.Need-transaction-exists-requires
 transaction-exists-requires c κs = search needs
@@ -18,8 +20,9 @@ transaction-exists-requires c κs = search needs
 returns : tie.Need-returns
 returns c =
     let d = c .before .before .before in
-    sym (no-transaction (d .args .plan .now) (d .args .request)
-    (sym (c .before .transaction-exists .ensures) ∙ not-true _ (c .if1 .taken)))
+    let place = transactionPlace (d .args .plan .now) (d .args .request .transaction) in
+    sym (ap (λ (v : Verdict). placeBy v place) (no-transaction (d .args .plan .now) (d .args .request)
+    (sym (c .before .transaction-exists .ensures) ∙ not-true _ (c .if1 .taken))))
 
 transaction-place-requires : tie.Need-transaction-place-requires
 transaction-place-requires c κs = search needs
@@ -55,13 +58,19 @@ found c =
     ∙ ap eighth (sym (c .parameters-pass .ensures))
 
 returns-2 : tie.Need-returns-2
-returns-2 c = sym (found (c .before) ∙ ap eighth (not-true (c .before .parameters-pass .result) (c .if2 .taken)))
+returns-2 c =
+    let d = c .before .before .before .before .before .before .before in
+    let place = transactionPlace (d .args .plan .now) (d .args .request .transaction) in
+    sym (ap (λ (v : Verdict). placeBy v place)
+    (found (c .before) ∙ ap eighth (not-true (c .before .parameters-pass .result) (c .if2 .taken))))
 
 returns-3 : tie.Need-returns-3
-returns-3 c = sym (found (c .before) ∙ ap eighth (not-false (c .before .parameters-pass .result) (c .if2 .left)))
+returns-3 c =
+    sym (ap₂ placeBy (found (c .before) ∙ ap eighth (not-false (c .before .parameters-pass .result) (c .if2 .left)))
+    (sym (c .before .before .before .transaction-place .ensures)))
 
-pub operation-verdict-spec : {M : Type 1} → statement M
-operation-verdict-spec =
+pub locate-spec : {M : Type 1} → statement M
+locate-spec =
     tie.close
     (tie.spec
     transaction-exists-requires
