@@ -1,7 +1,6 @@
 // Frames of the token: the two sums, reading (questions 10 to 12), writing, and the starting frame.
 mod forward;
 mod reader;
-mod relay;
 mod sums;
 mod updates;
 mod writer;
@@ -13,9 +12,6 @@ pub use reader::VisitAnswer;
 pub use reader::check_frame;
 pub use reader::frame_visit;
 pub use reader::read_frame;
-pub use relay::apply_words;
-pub use relay::copy_words;
-pub use relay::update_words;
 pub use sums::Sums;
 pub use sums::frame_sums;
 pub use updates::cell_count;
