@@ -5,8 +5,7 @@ mod sums;
 mod updates;
 mod writer;
 
-pub use forward::apply_foreign;
-pub use forward::copy_foreign;
+pub use forward::forward_foreign;
 pub use reader::FrameCheck;
 pub use reader::VisitAnswer;
 pub use reader::check_frame;
