@@ -1,4 +1,4 @@
-// Frames of the token: the two sums, reading (questions 10 to 12), writing, and the starting frame.
+// Frames of the token: the two sums, reading (questions 10 to 12), writing, the starting frame, and the others' updates sent on.
 mod forward;
 mod reader;
 mod sums;
@@ -13,9 +13,6 @@ pub use reader::frame_visit;
 pub use reader::read_frame;
 pub use sums::Sums;
 pub use sums::frame_sums;
-pub use updates::cell_count;
-pub use updates::cell_of;
-pub use updates::update_desk;
 pub use writer::StartAnswer;
 pub use writer::seal;
 pub use writer::starting_frame;
