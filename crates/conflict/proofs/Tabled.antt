@@ -15,7 +15,7 @@ use Rattle.plan.proofs.Every.{every-same}
 use Rattle.operation.specs.Operation.{cellsNamed}
 use Rattle.operation.specs.Admission.{parametersPass, unusedZero}
 use Rattle.operation.proofs.Bounds.{transaction-fits, cells-low}
-use Rattle.conflict.specs.Touch.{deskMask, maskTable}
+use Rattle.conflict.specs.Touch.{deskMask, writeMask, maskTable}
 use Rattle.conflict.specs.Mask.{some}
 use Rattle.conflict.specs.Class.{onesAre, isWrite, free, local, global, classBy, isFree, isGlobal}
 use Rattle.conflict.proofs.Tables.{getD-tabulate}
@@ -51,14 +51,11 @@ module _ (ws : List ℕ) (at : ℕ) (ps : List ℕ) (e : parametersPass (transac
       (h ∙ ap (λ (m : List ℕ). onesAre 1 (λ c. getD m c 0) (cellsNamed writes ps (transactionFrom ws at .steps))) t
       ∙ ones-tabled 3 p 1 writes ws at ps e))
 
-  pub class-reading : (b : Bool) (l : List ℕ) → l ≡ maskTable 4 p → some isWrite (transactionFrom ws at .steps) ≡ false
-      → b ≡ onesAre 0 (λ c. getD l c 0) (cellsNamed reads ps (transactionFrom ws at .steps))
+  pub class-reading : (b : Bool) → some isWrite (transactionFrom ws at .steps) ≡ false
+      → b ≡ onesAre 0 (writeMask p) (cellsNamed reads ps (transactionFrom ws at .steps))
       → cond b free local ≡ classBy p (transactionFrom ws at) ps
   unfolding classBy
-  class-reading b l t w h =
-      rw w (ap (λ (x : Bool). cond x free local)
-      (h ∙ ap (λ (m : List ℕ). onesAre 0 (λ c. getD m c 0) (cellsNamed reads ps (transactionFrom ws at .steps))) t
-      ∙ ones-tabled 4 p 0 reads ws at ps e))
+  class-reading b w h = rw w (ap (λ (x : Bool). cond x free local) h)
 
   -- ---- free and global, by one test each
 
@@ -70,10 +67,10 @@ module _ (ws : List ℕ) (at : ℕ) (ps : List ℕ) (e : parametersPass (transac
       neither true = refl
       neither false = refl
 
-  pub reading-free : (b : Bool) (l : List ℕ) → l ≡ maskTable 4 p → some isWrite (transactionFrom ws at .steps) ≡ false
-      → b ≡ onesAre 0 (λ c. getD l c 0) (cellsNamed reads ps (transactionFrom ws at .steps))
+  pub reading-free : (b : Bool) → some isWrite (transactionFrom ws at .steps) ≡ false
+      → b ≡ onesAre 0 (writeMask p) (cellsNamed reads ps (transactionFrom ws at .steps))
       → b ≡ isFree (classBy p (transactionFrom ws at) ps)
-  reading-free b l t w h = same b ∙ ap isFree (class-reading b l t w h)
+  reading-free b w h = same b ∙ ap isFree (class-reading b w h)
     where
       same : (b : Bool) → b ≡ isFree (cond b free local)
       same true = refl

@@ -4,13 +4,14 @@ ghost use mathlib.Core.Bool.{true};
 ghost use Prim.Native.Nat.{_≤_};
 ghost use lib.Count.{ones};
 ghost use lib.ListN.{length, getD};
+ghost use Rattle.plan.specs.Plan.{reads};
 ghost use Rattle.plan.specs.Decode.{planOf, accessBy};
 ghost use Rattle.plan.specs.Admission.{planVerdict, accepted};
 ghost use Rattle.plan.specs.Place.{StandsAt, transactionFrom};
 ghost use Rattle.operation.specs.Operation.{cellsNamed};
 ghost use Rattle.operation.specs.Admission.{parametersPass};
 ghost use Rattle.conflict.specs.Mask.{some};
-ghost use Rattle.conflict.specs.Touch.{maskTable};
+ghost use Rattle.conflict.specs.Touch.{writeMask, maskTable};
 ghost use Rattle.conflict.specs.Class.{classBy, isWrite, onesAre, isFree, isGlobal};
 ghost use Rattle.conflict.specs.Answer.{classOfCode, classifiedOf, classifyResult};
 use crate::mask;
@@ -76,6 +77,17 @@ fn ones_are(plan: &[u32], at: usize, params: [u32; 4], kind: u32, masks: &[u8], 
     true
 }
 
+// Whether no desk may write a cell that the operation may read. The table of writers is filled.
+fn reads_unwritten(plan: &[u32], at: usize, params: [u32; 4]) -> bool
+    requires { ⌜ (planVerdict (now plan) ≡ accepted) × StandsAt (now plan) at
+        × (parametersPass (transactionFrom (now plan) at) params ≡ true) ⌝ }
+    ensures { λ r. ⌜ r ≡ onesAre 0 (writeMask (planOf (now (plan .entry))))
+        (cellsNamed reads params (transactionFrom (now (plan .entry)) at .steps)) ⌝ }
+{
+    let writers = mask::desk_masks(plan, 4);
+    ones_are(plan, at, params, 3, &writers, 0)
+}
+
 // The class of an operation of the transaction at this place. One table of masks is filled.
 pub fn class_of(plan: &[u32], at: usize, params: [u32; 4]) -> Class
     requires { ⌜ (planVerdict (now plan) ≡ accepted) × StandsAt (now plan) at
@@ -89,8 +101,7 @@ pub fn class_of(plan: &[u32], at: usize, params: [u32; 4]) -> Class
         }
         return Class::Global;
     }
-    let writers = mask::desk_masks(plan, 4);
-    if ones_are(plan, at, params, 3, &writers, 0) {
+    if reads_unwritten(plan, at, params) {
         return Class::Free;
     }
     Class::Local
@@ -115,8 +126,7 @@ pub fn is_free(plan: &[u32], at: usize, params: [u32; 4]) -> bool
     if has_write(plan, at) {
         return false;
     }
-    let writers = mask::desk_masks(plan, 4);
-    ones_are(plan, at, params, 3, &writers, 0)
+    reads_unwritten(plan, at, params)
 }
 
 // The classifier: questions 1 to 4, 7 and 8, then the class and the desk.

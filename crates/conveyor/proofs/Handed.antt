@@ -5,25 +5,21 @@ use mathlib.Core.Bool.{Bool, true, false, _&&_, cond}
 use mathlib.Core.List.{List}
 use Prim.Native.Nat.{ℕ}
 use lib.Dec.{eqb}
-use lib.ListN.{length, replicate}
-use lib.Seq.{take-at}
+use lib.ListN.{length}
 use borrow.Author.Tests.{eqb-true, eq-eqb, ne-eqb}
 use Rattle.plan.specs.Decode.{planOf}
 use Rattle.plan.specs.Admission.{Verdict, accepted, refused, planVerdict}
 use Rattle.operation.specs.Admission.{operationVerdict}
 use Rattle.token.specs.Admission.{andThen}
-use Rattle.queue.specs.Queue.{noRequest, recordsOf}
+use Rattle.queue.specs.Queue.{recordsOf}
 use Rattle.queue.specs.declared.record.Request.{Request}
+use Rattle.queue.proofs.Copying.{records-whole}
 use Rattle.conveyor.specs.declared.desk.Desk.{Desk}
 use Rattle.conveyor.specs.Queueing.{operationOf}
 use Rattle.conveyor.specs.Admission.{deskBuffersFit, deskStands}
 use Rattle.conveyor.specs.Request.{requestVerdict}
 use Rattle.conveyor.specs.Step.{openingVerdict}
 use Rattle.conveyor.proofs.Questions.{both}
-
--- a queue of 32 records is its first 32 records
-pub records-whole : (queue : List Request) → length queue ≡ 32 → recordsOf queue ≡ queue
-records-whole queue e = take-at queue (replicate 32 noRequest) 32 e
 
 -- ---- questions 1 to 5
 

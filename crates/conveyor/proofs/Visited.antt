@@ -14,10 +14,10 @@ use Rattle.plan.proofs.Bool.{and-fst, and-snd}
 use Rattle.token.specs.Admission.{andThen, frameVerdict}
 use Rattle.queue.specs.Queue.{recordsOf}
 use Rattle.queue.specs.declared.record.Request.{Request}
+use Rattle.queue.proofs.Copying.{records-whole}
 use Rattle.conveyor.specs.declared.desk.Desk.{Desk}
 use Rattle.conveyor.specs.Admission.{deskBuffersFit, visitBuffersFit, deskStands, turnVerdict}
 use Rattle.conveyor.specs.Visit.{isRefused, Visited, passed, visitVerdict, passVerdict, visitResult}
-use Rattle.conveyor.proofs.Handed.{records-whole}
 use Rattle.conveyor.proofs.Questions.{both, questions-give}
 
 -- behind a question answered with no, the next do not matter

@@ -29,8 +29,7 @@ pub(crate) fn visit_passed(
     let waiting = state.waiting as usize;
     let sums = frame.len() - 2;
     let body = &frame[2..sums];
-    token::apply_foreign(body, desk, cells);
-    let copied = 2 + token::copy_foreign(body, desk, &mut out[2..]);
+    let copied = 2 + token::forward_foreign(body, desk, cells, &mut out[2..]);
     let end = copied
         + running::run_waiting(
             plan,

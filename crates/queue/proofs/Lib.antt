@@ -1,7 +1,6 @@
 pub mod Answers
 pub mod Calls
 pub mod Copying
-pub mod LetGo
 pub mod LocalArray
 pub mod Parts
 pub mod Records

@@ -1,187 +1,224 @@
 -- The others' updates in a body of words, applied and copied word by word: what is done so far joined with what is still to come.
+--     Forwarded        the store and the outgoing words at a word of the body
+--     forward-start, forward-end       at the first word, behind the last
+--     forward-head, forward-cell       past the word of another desk's update, past a cell of it and its value
+--     forward-own, forward-past        the same of an update of the desk's own
+--     forward-more     a cell's value stands behind its word
 -- Assumes nothing.
-use mathlib.Core.Path.{_≡_, refl, _∙_, sym, ap, ap₂}
+use mathlib.Core.Path.{_≡_, refl, _∙_, sym, ap, subst}
 use mathlib.Core.Bool.{Bool, true, false, not, cond}
 use mathlib.Core.List.{List, [], _∷_, _++_}
-use Prim.Native.Nat.{ℕ, zero, suc, _+_, _-_, _*_, _≤_, _<_}
+use Prim.Native.Nat.{ℕ, zero, suc, _+_, _-_, _≤_, _<_}
 use native.Mathlib.Omega.{arith}
-use lib.Dec.{eqb}
+use lib.Dec.{eqb, leb}
 use lib.ListN.{length, getD, set, drop, drop-of-length-le}
-use lib.Seq.{set-out}
+use borrow.Author.Tests.{leb-true, leb-false, not-true, not-false}
 use Rattle.word.specs.Field.{updateDesk, cellCount, cellField}
-use Rattle.operation.specs.Run.{Store, Update, applyUpdate}
-use Rattle.token.specs.Frame.{SentUpdate, sent, updateHead, cellWord, writeWords, updateWords, updatesWords}
+use Rattle.operation.specs.Run.{Store, applyUpdate}
+use Rattle.token.specs.Frame.{updateHead, cellWord, writeWords, updateWords, updatesWords, overwritten}
 use Rattle.token.specs.Admission.{writesFrom, updatesFrom}
 use Rattle.token.specs.Forward.{foreign, applyAll, foreignWords}
+use Rattle.token.proofs.Filling.{Filling, fill-none, fill-same, fill-word, fill-done}
 use Rattle.token.proofs.Walking.{here}
 
--- ---- applying
+-- ---- what is still to come: the last `left` cells of an update, which is kept or the desk's own, and the updates behind them
 
--- the store with all that is still to come applied: the last `left` cells of an update, if it is kept, and the updates behind them
+-- the words are these and nothing more
+unfoldable Reads : ℕ → List ℕ → Type 0
+Reads left ws = ws ≡ writeWords (writesFrom left ws) ++ updatesWords (updatesFrom left ws)
+
+-- the store with all of it applied
 unfoldable applies : ℕ → Store → Bool → ℕ → List ℕ → Store
 applies desk s kept left ws = applyAll (foreign desk (updatesFrom left ws)) (cond kept (applyUpdate (writesFrom left ws) s) s)
 
--- the same in the walk's own variables. It is shut, so that antt reads its arguments off a goal
-pub appliesAt : ℕ → Store → Bool → ℕ → List ℕ → ℕ → Store
-appliesAt desk s kept left ws i = applies desk s kept left (drop i ws)
-
-head-applies : (desk : ℕ) (s : Store) (kept own : Bool) (w : ℕ) (ws : List ℕ) → eqb (updateDesk w) desk ≡ own
-    → applies desk s kept 0 (w ∷ ws) ≡ applies desk s (not own) (cellCount w) ws
-unfolding applies updatesFrom writesFrom applyUpdate foreign applyAll
-head-applies desk s true true w ws e = simp e
-head-applies desk s false true w ws e = simp e
-head-applies desk s true false w ws e = simp e
-head-applies desk s false false w ws e = simp e
-
-nothing-left : (desk : ℕ) (s : Store) (kept : Bool) (left : ℕ) → applies desk s kept left [] ≡ s
-unfolding applies updatesFrom writesFrom applyUpdate foreign applyAll
-nothing-left desk s true zero = refl
-nothing-left desk s false zero = refl
-nothing-left desk s true (suc left) = refl
-nothing-left desk s false (suc left) = refl
-
-half-left : (desk : ℕ) (s : Store) (kept : Bool) (left w : ℕ) → applies desk s kept (suc left) (w ∷ []) ≡ s
-unfolding applies updatesFrom writesFrom applyUpdate foreign applyAll
-half-left desk s true left w = refl
-half-left desk s false left w = refl
-
-pub applies-end : (desk : ℕ) (s : Store) (kept : Bool) (left : ℕ) (ws : List ℕ) (i : ℕ) → length ws ≤ i
-    → appliesAt desk s kept left ws i ≡ s
-unfolding appliesAt
-applies-end desk s kept left ws i h = rw (drop-of-length-le ws h) (nothing-left desk s kept left)
-
-module _ (desk : ℕ) (s : Store) (ws : List ℕ) (i : ℕ) (h : i < length ws) where
-  pub applies-update : (kept : Bool) (left : ℕ) → left ≡ 0
-      → appliesAt desk s kept left ws i ≡ appliesAt desk s (not (eqb (updateDesk (getD ws i 0)) desk)) (cellCount (getD ws i 0)) ws (i + 1)
-  unfolding appliesAt
-  applies-update kept left z = rw (z, here ws i h) (head-applies desk s kept _ (getD ws i 0) (drop (i + 1) ws) refl)
-
-  pub applies-last : (kept : Bool) (left : ℕ) → (left ≡ 0 → ⊥) → i + 1 ≡ length ws → appliesAt desk s kept left ws i ≡ s
-  unfolding appliesAt
-  applies-last kept left z e =
-      let k : left ≡ suc (left - 1) = omega arith in
-      let l : length ws ≤ i + 1 = omega arith in
-      rw (k, here ws i h, drop-of-length-le ws l) (half-left desk s kept (left - 1) (getD ws i 0))
-
-  module _ (left : ℕ) (z : left ≡ 0 → ⊥) (l : i + 1 < length ws) where
-    two : (kept : Bool) → appliesAt desk s kept left ws i
-        ≡ applies desk s kept (suc (left - 1)) (getD ws i 0 ∷ getD ws (i + 1) 0 ∷ drop (i + 1 + 1) ws)
-    unfolding appliesAt
-    two kept =
-        let k : left ≡ suc (left - 1) = omega arith in
-        ap₂ (applies desk s kept) k (here ws i h ∙ ap (λ (t : List ℕ). getD ws i 0 ∷ t) (here ws (i + 1) l))
-
-    pub applies-own : (kept : Bool) → kept ≡ false → appliesAt desk s kept left ws i ≡ appliesAt desk s kept (left - 1) ws (i + 1 + 1)
-    unfolding appliesAt applies updatesFrom
-    applies-own kept e = rw e (two false)
-
-    pub applies-cell : (kept : Bool) → kept ≡ true → appliesAt desk s kept left ws i
-        ≡ appliesAt desk (set s (cellField (getD ws i 0)) (getD ws (i + 1) 0)) kept (left - 1) ws (i + 1 + 1)
-    unfolding appliesAt applies updatesFrom writesFrom applyUpdate
-    applies-cell kept e = rw e (two true)
-
-    pub applies-past : (kept : Bool) → kept ≡ true → length s ≤ cellField (getD ws i 0)
-        → appliesAt desk s kept left ws i ≡ appliesAt desk s kept (left - 1) ws (i + 1 + 1)
-    applies-past kept e out =
-        applies-cell kept e
-        ∙ ap (λ (t : Store). appliesAt desk t kept (left - 1) ws (i + 1 + 1)) (set-out s (cellField (getD ws i 0)) (getD ws (i + 1) 0) out)
-
-pub applies-start : (desk : ℕ) (s : Store) (ws : List ℕ) → appliesAt desk s false 0 ws 0 ≡ applyAll (foreign desk (updatesFrom 0 ws)) s
-unfolding appliesAt applies
-applies-start desk s ws = refl
-
--- ---- copying
-
--- the words that are kept of those still to come, where `left` words of an update come first
-unfoldable keeps : ℕ → Bool → ℕ → List ℕ → List ℕ
-keeps desk kept left [] = []
-keeps desk kept zero (w ∷ ws) =
-    cond (eqb (updateDesk w) desk) (keeps desk false (2 * cellCount w) ws) (w ∷ keeps desk true (2 * cellCount w) ws)
-keeps desk kept (suc left) (w ∷ ws) = cond kept (w ∷ keeps desk kept left ws) (keeps desk kept left ws)
-
-pub keepsAt : ℕ → Bool → ℕ → List ℕ → ℕ → List ℕ
-keepsAt desk kept left ws i = keeps desk kept left (drop i ws)
-
--- the word in front goes with the rest if it is kept
-pub withWord : Bool → ℕ → List ℕ → List ℕ
-withWord kept w ws = cond kept (w ∷ ws) ws
-
-pub word-kept : (kept : Bool) (w : ℕ) (ws : List ℕ) → kept ≡ true → withWord kept w ws ≡ w ∷ ws
-unfolding withWord
-word-kept kept w ws e = rw e
-
-pub word-dropped : (kept : Bool) (w : ℕ) (ws : List ℕ) → kept ≡ false → withWord kept w ws ≡ ws
-unfolding withWord
-word-dropped kept w ws e = rw e
-
-pub keeps-end : (desk : ℕ) (kept : Bool) (left : ℕ) (ws : List ℕ) (i : ℕ) → length ws ≤ i → keepsAt desk kept left ws i ≡ []
-unfolding keepsAt keeps
-keeps-end desk kept left ws i h = rw (drop-of-length-le ws h)
-
-either : (desk w : ℕ) (own : Bool) (ws : List ℕ) (m : ℕ)
-    → cond own (keeps desk false m ws) (w ∷ keeps desk true m ws) ≡ withWord (not own) w (keeps desk (not own) m ws)
-unfolding withWord
-either desk w true ws m = refl
-either desk w false ws m = refl
-
-module _ (desk : ℕ) (kept : Bool) (left : ℕ) (ws : List ℕ) (i : ℕ) (h : i < length ws) (now : Bool) (next : ℕ) where
-  pub keeps-update : left ≡ 0 → now ≡ not (eqb (updateDesk (getD ws i 0)) desk) → next ≡ 2 * cellCount (getD ws i 0)
-      → keepsAt desk kept left ws i ≡ withWord now (getD ws i 0) (keepsAt desk now next ws (i + 1))
-  unfolding keepsAt keeps withWord
-  keeps-update z e m =
-      rw (z, here ws i h, e, m)
-      (either desk (getD ws i 0) (eqb (updateDesk (getD ws i 0)) desk) (drop (i + 1) ws) (2 * cellCount (getD ws i 0)))
-
-  pub keeps-cell : (left ≡ 0 → ⊥) → now ≡ kept → next ≡ left - 1
-      → keepsAt desk kept left ws i ≡ withWord now (getD ws i 0) (keepsAt desk now next ws (i + 1))
-  unfolding keepsAt keeps withWord
-  keeps-cell z e m =
-      let k : left ≡ suc (left - 1) = omega arith in
-      rw (e, m) (ap₂ (keeps desk kept) k (here ws i h))
-
--- ---- the words that are kept are those of the others' updates
-
--- these words are the last `left` cells of an update and whole updates
-Reads : ℕ → List ℕ → Type 0
-Reads left ws = ws ≡ writeWords (writesFrom left ws) ++ updatesWords (updatesFrom left ws)
-
-abbrev coming : ℕ → Bool → ℕ → List ℕ → List ℕ
+-- the words of it that are kept
+unfoldable coming : ℕ → Bool → ℕ → List ℕ → List ℕ
 coming desk kept left ws = cond kept (writeWords (writesFrom left ws)) [] ++ updatesWords (foreign desk (updatesFrom left ws))
 
-head-coming : (desk w : ℕ) (ws : List ℕ) (kept own : Bool) → eqb (updateDesk w) desk ≡ own
-    → w ≡ updateHead (updateDesk w) (length (writesFrom (cellCount w) ws))
-    → withWord (not own) w (coming desk (not own) (cellCount w) ws) ≡ coming desk kept 0 (w ∷ ws)
-unfolding updatesFrom writesFrom writeWords foreign updatesWords updateWords withWord
-head-coming desk w ws true true e q = simp e
-head-coming desk w ws false true e q = simp e
-head-coming desk w ws true false e q = simp e (ap (λ (x : ℕ). x ∷ coming desk true (cellCount w) ws) q)
-head-coming desk w ws false false e q = simp e (ap (λ (x : ℕ). x ∷ coming desk true (cellCount w) ws) q)
+-- ---- nothing
 
-cell-coming : (desk w v left : ℕ) (ws : List ℕ) (kept : Bool) → w ≡ cellWord (cellField w)
-    → withWord kept w (withWord kept v (coming desk kept left ws)) ≡ coming desk kept (suc left) (w ∷ v ∷ ws)
-unfolding updatesFrom writesFrom writeWords withWord
-cell-coming desk w v left ws true q = ap (λ (x : ℕ). x ∷ v ∷ coming desk true left ws) q
-cell-coming desk w v left ws false q = refl
+none-applies : (desk : ℕ) (s : Store) (kept : Bool) (left : ℕ) → applies desk s kept left [] ≡ s
+unfolding applies updatesFrom writesFrom applyUpdate foreign applyAll
+none-applies desk s true zero = refl
+none-applies desk s false zero = refl
+none-applies desk s true (suc left) = refl
+none-applies desk s false (suc left) = refl
 
-kept-words : (desk : ℕ) (kept : Bool) (left : ℕ) (ws : List ℕ) → Reads left ws → keeps desk kept (2 * left) ws ≡ coming desk kept left ws
-unfolding keeps withWord Reads updatesFrom writesFrom writeWords foreign updatesWords updateWords
-kept-words desk true zero [] r = refl
-kept-words desk false zero [] r = refl
-kept-words desk true (suc left) [] r = refl
-kept-words desk false (suc left) [] r = refl
-kept-words desk kept zero (w ∷ ws) r =
-    either desk w (eqb (updateDesk w) desk) ws (2 * cellCount w)
-    ∙ ap (withWord (not (eqb (updateDesk w) desk)) w) (kept-words desk _ (cellCount w) ws (cc))
-    ∙ head-coming desk w ws kept _ refl (cc)
-kept-words desk kept (suc left) (w ∷ []) r = let z : _≡_ {A = ℕ} 0 1 = cc in absurd (omega arith)
-kept-words desk kept (suc left) (w ∷ v ∷ ws) r =
-    ap (λ (m : ℕ). keeps desk kept m (w ∷ v ∷ ws)) (twice left)
-    ∙ ap (λ (t : List ℕ). withWord kept w (withWord kept v t)) (kept-words desk kept left ws (cc))
-    ∙ cell-coming desk w v left ws kept (cc)
-  where
-    twice : (m : ℕ) → 2 * suc m ≡ suc (suc (2 * m))
-    twice m = omega arith
+none-coming : (desk : ℕ) (kept : Bool) (left : ℕ) → coming desk kept left [] ≡ []
+unfolding coming updatesFrom writesFrom writeWords foreign updatesWords
+none-coming desk true zero = refl
+none-coming desk false zero = refl
+none-coming desk true (suc left) = refl
+none-coming desk false (suc left) = refl
 
-pub keeps-start : (desk : ℕ) (ws : List ℕ) → ws ≡ updatesWords (updatesFrom 0 ws) → keepsAt desk false 0 ws 0 ≡ foreignWords desk ws
-unfolding keepsAt Reads writesFrom writeWords
-keeps-start desk ws r = kept-words desk false 0 ws r
+-- ---- an update's word in front
+
+module _ (w : ℕ) (ws : List ℕ) where
+  head-reads : Reads 0 (w ∷ ws) → Reads (cellCount w) ws × (w ≡ updateHead (updateDesk w) (length (writesFrom (cellCount w) ws)))
+  unfolding Reads updatesFrom writesFrom writeWords updatesWords updateWords
+  head-reads r = (cc, cc)
+
+  head-applies : (desk : ℕ) (s : Store) (kept own : Bool) → eqb (updateDesk w) desk ≡ own
+      → applies desk s kept 0 (w ∷ ws) ≡ applies desk s (not own) (cellCount w) ws
+  unfolding applies updatesFrom writesFrom applyUpdate foreign applyAll
+  head-applies desk s true true e = simp e
+  head-applies desk s false true e = simp e
+  head-applies desk s true false e = simp e
+  head-applies desk s false false e = simp e
+
+  own-coming : (desk : ℕ) (kept : Bool) → eqb (updateDesk w) desk ≡ true
+      → coming desk kept 0 (w ∷ ws) ≡ coming desk false (cellCount w) ws
+  unfolding coming updatesFrom writesFrom writeWords foreign updatesWords
+  own-coming desk true e = simp e
+  own-coming desk false e = simp e
+
+  head-coming : (desk : ℕ) (kept : Bool) → eqb (updateDesk w) desk ≡ false
+      → w ≡ updateHead (updateDesk w) (length (writesFrom (cellCount w) ws))
+      → coming desk kept 0 (w ∷ ws) ≡ w ∷ coming desk true (cellCount w) ws
+  unfolding coming updatesFrom writesFrom writeWords foreign updatesWords updateWords
+  head-coming desk true e q = simp e (ap (λ (x : ℕ). x ∷ coming desk true (cellCount w) ws) (sym q))
+  head-coming desk false e q = simp e (ap (λ (x : ℕ). x ∷ coming desk true (cellCount w) ws) (sym q))
+
+-- ---- a cell and its value in front
+
+half-reads : (left w : ℕ) → Reads (suc left) (w ∷ []) → ⊥
+unfolding Reads updatesFrom writesFrom writeWords updatesWords
+half-reads left w r = let z : _≡_ {A = ℕ} 0 1 = cc in omega arith
+
+module _ (w v left : ℕ) (ws : List ℕ) where
+  cell-reads : Reads (suc left) (w ∷ v ∷ ws) → Reads left ws × (w ≡ cellWord (cellField w))
+  unfolding Reads updatesFrom writesFrom writeWords
+  cell-reads r = (cc, cc)
+
+  cell-applies : (desk : ℕ) (s : Store) (kept : Bool)
+      → applies desk s kept (suc left) (w ∷ v ∷ ws) ≡ applies desk (cond kept (set s (cellField w) v) s) kept left ws
+  unfolding applies updatesFrom writesFrom applyUpdate
+  cell-applies desk s true = refl
+  cell-applies desk s false = refl
+
+  past-coming : (desk : ℕ) → coming desk false (suc left) (w ∷ v ∷ ws) ≡ coming desk false left ws
+  unfolding coming updatesFrom
+  past-coming desk = refl
+
+  cell-coming : (desk : ℕ) → w ≡ cellWord (cellField w) → coming desk true (suc left) (w ∷ v ∷ ws) ≡ w ∷ v ∷ coming desk true left ws
+  unfolding coming updatesFrom writesFrom writeWords
+  cell-coming desk q = ap (λ (x : ℕ). x ∷ v ∷ coming desk true left ws) (sym q)
+
+-- ---- the walk
+
+-- with `rest` still to come, the store is `s` and the outgoing words, `end` of them written, are `t`
+record Stands (desk : ℕ) (ws s₀ o s t : List ℕ) (kept : Bool) (left end : ℕ) (rest : List ℕ) : Type 0 where
+  reads : Reads left rest
+  store : applies desk s kept left rest ≡ applyAll (foreign desk (updatesFrom 0 ws)) s₀
+  words : Filling (foreignWords desk ws) o t end (coming desk kept left rest)
+
+-- the same in the walk's own variables
+pub record Forwarded (desk : ℕ) (ws s₀ o s t : List ℕ) (kept : Bool) (left end i : ℕ) : Type 0 where
+  stands : Stands desk ws s₀ o s t kept left end (drop i ws)
+
+pub forward-start : (desk : ℕ) (ws s o : List ℕ) → ws ≡ updatesWords (updatesFrom 0 ws) → Forwarded desk ws s o s o false 0 0 0
+unfolding Reads applies coming writesFrom writeWords
+forward-start desk ws s o r = record { stands = record { reads = r; store = refl; words = fill-none (foreignWords desk ws) o } }
+
+module _ {desk : ℕ} {ws s₀ o s t : List ℕ} {kept : Bool} {left end i : ℕ} (f : Forwarded desk ws s₀ o s t kept left end i) where
+  pub forward-end : length ws ≤ i
+      → (s ≡ applyAll (foreign desk (updatesFrom 0 ws)) s₀) × (end ≡ length (foreignWords desk ws))
+      × (t ≡ overwritten (foreignWords desk ws) o)
+  forward-end h =
+      let g = subst (Stands desk ws s₀ o s t kept left end) (drop-of-length-le ws h) (f .stands) in
+      let d = fill-done (fill-same (g .words) (none-coming desk kept left)) in
+      (sym (none-applies desk s kept left) ∙ g .store, d .1, d .0)
+
+  module _ (h : i < length ws) where
+    at-head : left ≡ 0 → Stands desk ws s₀ o s t kept 0 end (getD ws i 0 ∷ drop (i + 1) ws)
+    at-head z =
+        subst (λ (m : ℕ). Stands desk ws s₀ o s t kept m end (getD ws i 0 ∷ drop (i + 1) ws)) z
+        (subst (Stands desk ws s₀ o s t kept left end) (here ws i h) (f .stands))
+
+    at-cell : (left ≡ 0 → ⊥) → Stands desk ws s₀ o s t kept (suc (left - 1)) end (getD ws i 0 ∷ drop (i + 1) ws)
+    at-cell z =
+        subst (λ (m : ℕ). Stands desk ws s₀ o s t kept m end (getD ws i 0 ∷ drop (i + 1) ws)) (omega arith)
+        (subst (Stands desk ws s₀ o s t kept left end) (here ws i h) (f .stands))
+
+    pub forward-own : left ≡ 0 → not (eqb (updateDesk (getD ws i 0)) desk) ≡ false
+        → Forwarded desk ws s₀ o s t (not (eqb (updateDesk (getD ws i 0)) desk)) (cellCount (getD ws i 0)) end (i + 1)
+    forward-own z e =
+        let w = getD ws i 0 in
+        let rest = drop (i + 1) ws in
+        let own = not-false (eqb (updateDesk w) desk) e in
+        let g = at-head z in
+        rw e
+        (record {
+          stands = record {
+            reads = head-reads w rest (g .reads) .0;
+            store = sym (head-applies w rest desk s kept true own) ∙ g .store;
+            words = fill-same (g .words) (own-coming w rest desk kept own);
+          };
+        })
+
+    pub forward-head : left ≡ 0 → not (eqb (updateDesk (getD ws i 0)) desk) ≡ true → end < length o
+        → Forwarded desk ws s₀ o s (set t end (getD ws i 0)) (not (eqb (updateDesk (getD ws i 0)) desk)) (cellCount (getD ws i 0))
+        (end + 1) (i + 1)
+    forward-head z e room =
+        let w = getD ws i 0 in
+        let rest = drop (i + 1) ws in
+        let other = not-true (eqb (updateDesk w) desk) e in
+        let g = at-head z in
+        let r = head-reads w rest (g .reads) in
+        rw e
+        (record {
+          stands = record {
+            reads = r .0;
+            store = sym (head-applies w rest desk s kept false other) ∙ g .store;
+            words = fill-word (fill-same (g .words) (head-coming w rest desk kept other (r .1))) room;
+          };
+        })
+
+    pub forward-more : (left ≡ 0 → ⊥) → i + 1 < length ws
+    forward-more z = by-more (leb (length ws) (i + 1)) refl
+      where
+        by-more : (b : Bool) → leb (length ws) (i + 1) ≡ b → i + 1 < length ws
+        by-more true e =
+            absurd (half-reads (left - 1) (getD ws i 0) (subst (λ (r : List ℕ). Reads (suc (left - 1)) (getD ws i 0 ∷ r))
+            (drop-of-length-le ws (leb-true (length ws) (i + 1) e)) (at-cell z .reads)))
+        by-more false e = leb-false (length ws) (i + 1) e
+
+    module _ (z : left ≡ 0 → ⊥) where
+      at-value : Stands desk ws s₀ o s t kept (suc (left - 1)) end (getD ws i 0 ∷ getD ws (i + 1) 0 ∷ drop (i + 1 + 1) ws)
+      at-value =
+          subst (λ (r : List ℕ). Stands desk ws s₀ o s t kept (suc (left - 1)) end (getD ws i 0 ∷ r)) (here ws (i + 1) (forward-more z))
+          (at-cell z)
+
+      pub forward-past : kept ≡ false → Forwarded desk ws s₀ o s t kept (left - 1) end (i + 1 + 1)
+      forward-past e =
+          let w = getD ws i 0 in
+          let v = getD ws (i + 1) 0 in
+          let rest = drop (i + 1 + 1) ws in
+          let g = subst (λ (b : Bool). Stands desk ws s₀ o s t b (suc (left - 1)) end (w ∷ v ∷ rest)) e at-value in
+          rw e
+          (record {
+            stands = record {
+              reads = cell-reads w v (left - 1) rest (g .reads) .0;
+              store = sym (cell-applies w v (left - 1) rest desk s false) ∙ g .store;
+              words = fill-same (g .words) (past-coming w v (left - 1) rest desk);
+            };
+          })
+
+      pub forward-cell : kept ≡ true → end + 1 < length o
+          → Forwarded desk ws s₀ o (set s (cellField (getD ws i 0)) (getD ws (i + 1) 0))
+          (set (set t end (getD ws i 0)) (end + 1) (getD ws (i + 1) 0)) kept (left - 1) (end + 2) (i + 1 + 1)
+      forward-cell e room =
+          let w = getD ws i 0 in
+          let v = getD ws (i + 1) 0 in
+          let rest = drop (i + 1 + 1) ws in
+          let g = subst (λ (b : Bool). Stands desk ws s₀ o s t b (suc (left - 1)) end (w ∷ v ∷ rest)) e at-value in
+          let r = cell-reads w v (left - 1) rest (g .reads) in
+          let two : end + 1 + 1 ≡ end + 2 = omega arith in
+          rw (e, ← two)
+          (record {
+            stands = record {
+              reads = r .0;
+              store = sym (cell-applies w v (left - 1) rest desk s true) ∙ g .store;
+              words = fill-word (fill-word (fill-same (g .words) (cell-coming w v (left - 1) rest desk (r .1))) (omega arith)) room;
+            };
+          })

@@ -11,8 +11,6 @@ pub mod Parts
 pub mod RoundTrip
 pub mod OneWord
 pub mod Readers
-pub mod Relaying
-pub mod Stepping
 pub mod Filling
 pub mod Forwarding
 pub mod Foreign

@@ -58,10 +58,6 @@ update-length u = omega (arith, writes-length (u .writes))
 filled : ℕ → Update → List ℕ → List ℕ
 filled h u o = overwritten (h ∷ writeWords u) o
 
-fill-length : (h : ℕ) (u : Update) (o : List ℕ) → 1 + 2 * length u ≤ length o → length (filled h u o) ≡ length o
-unfolding filled
-fill-length h u o l = overwritten-length (h ∷ writeWords u) o (omega (arith, writes-length u))
-
 fill-start : (h : ℕ) (o : List ℕ) → 0 < length o → set o 0 h ≡ filled h [] (set o 0 h)
 unfolding filled writeWords
 fill-start h [] l = absurd (not-suc-le-zero l)
@@ -92,10 +88,6 @@ module _ (h : ℕ) (cs vs o : List ℕ) where
   pub filled-none : (x : ℕ) → x ≡ h → 0 < length o → set o 0 x ≡ filledTo h 0 cs vs (set o 0 x)
   unfolding filledTo pairs
   filled-none x e l = rw e (fill-start h o l)
-
-  pub filled-length : (i : ℕ) → i ≤ length cs → i ≤ length vs → 1 + 2 * i ≤ length o → length (filledTo h i cs vs o) ≡ length o
-  unfolding filledTo
-  filled-length i a b l = fill-length h (pairs i cs vs) o (omega (arith, pairs-length i cs vs a b))
 
   pub filled-next : (i at w v : ℕ) (t : List ℕ) → t ≡ filledTo h i cs vs o → at ≡ 1 + 2 * i
       → i < length cs → i < length vs → 1 + 2 * i + 1 < length o

@@ -29,10 +29,6 @@ writesFrom (suc left) [] = []
 writesFrom (suc left) (w ∷ []) = []
 writesFrom (suc left) (w ∷ v ∷ ws) = (cellField w, v) ∷ writesFrom left ws
 
--- the writes of the update whose words these are
-abbrev pub writesIn : List ℕ → Update
-writesIn ws = writesFrom (cellCount (headOf ws)) (drop 1 ws)
-
 -- the updates behind the first `left` cells
 unfoldable pub updatesFrom : ℕ → List ℕ → List SentUpdate
 updatesFrom zero [] = []

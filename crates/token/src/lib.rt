@@ -1,26 +1,18 @@
-// Frames of the token: the two sums, reading (questions 10 to 12), writing, and the starting frame.
+// Frames of the token: the two sums, reading (questions 10 to 12), writing, the starting frame, and the others' updates sent on.
 mod forward;
 mod reader;
-mod relay;
 mod sums;
 mod updates;
 mod writer;
 
-pub use forward::apply_foreign;
-pub use forward::copy_foreign;
+pub use forward::forward_foreign;
 pub use reader::FrameCheck;
 pub use reader::VisitAnswer;
 pub use reader::check_frame;
 pub use reader::frame_visit;
 pub use reader::read_frame;
-pub use relay::apply_words;
-pub use relay::copy_words;
-pub use relay::update_words;
 pub use sums::Sums;
 pub use sums::frame_sums;
-pub use updates::cell_count;
-pub use updates::cell_of;
-pub use updates::update_desk;
 pub use writer::StartAnswer;
 pub use writer::seal;
 pub use writer::starting_frame;

@@ -1,30 +1,8 @@
-// The updates in a frame: question 12 of their words, and the fields that a walk over them reads.
+// The updates in a frame: question 12 of their words.
 ghost use mathlib.Core.Path.{_≡_};
 ghost use Prim.Native.Nat.{_≤_};
-ghost use Rattle.word.specs.Field.{updateDesk, cellCount, cellField};
 ghost use Rattle.token.specs.Admission.{updateFormed, cellFormed, updatesAdmitted};
 use word::fields;
-
-// The desk of the update whose word this is.
-pub fn update_desk(word: u32) -> u32
-    ensures { λ r. ⌜ r ≡ updateDesk word ⌝ }
-{
-    word / fields::UPDATE_DESK % 16
-}
-
-// How many cells the update has whose word this is.
-pub fn cell_count(word: u32) -> u32
-    ensures { λ r. ⌜ r ≡ cellCount word ⌝ }
-{
-    word / fields::CELLS % 16
-}
-
-// The cell that a word of kind 11 names.
-pub fn cell_of(word: u32) -> u32
-    ensures { λ r. ⌜ r ≡ cellField word ⌝ }
-{
-    word % 0x400
-}
 
 // Question 12 of an update's word.
 fn update_formed(desks: u32, word: u32) -> bool

@@ -42,28 +42,20 @@ returns c = sym (ap (λ (b : Bool). cond b local global) (c .if2 .taken)) ∙ wr
 returns-2 : tie.Need-returns-2
 returns-2 c = sym (ap (λ (b : Bool). cond b local global) (c .if2 .left)) ∙ writing (c .before)
 
-desk-masks-requires-2 : tie.Need-desk-masks-requires-2
-desk-masks-requires-2 c κs = search needs
-
-slice-aggregate-ones-are-2 : tie.Need-slice-aggregate-ones-are-2
-slice-aggregate-ones-are-2 c = search needs
-
-ones-are-requires-2 : tie.Need-ones-are-requires-2
-ones-are-requires-2 c κs = search needs
+reads-unwritten-requires : tie.Need-reads-unwritten-requires
+reads-unwritten-requires c κs = search needs
 
 -- and of one that only reads
-reading : (c : tie.After-ones-are2)
-    → cond (c .ones-are2 .result) free local
-    ≡ classBy (planOf (c .before .before .before .before .before .before .args .plan .now))
-    (transactionFrom (c .before .before .before .before .before .before .args .plan .now)
-    (c .before .before .before .before .before .before .args .at))
-    (c .before .before .before .before .before .before .args .params)
-unfolding accessBy
+reading : (c : tie.After-reads-unwritten)
+    → cond (c .reads-unwritten .result) free local
+    ≡ classBy (planOf (c .before .before .before .before .args .plan .now))
+    (transactionFrom (c .before .before .before .before .args .plan .now) (c .before .before .before .before .args .at))
+    (c .before .before .before .before .args .params)
 reading c =
-    let e = c .before .before .before in
+    let e = c .before in
     let d = e .before .before .before in
-    class-reading (d .args .plan .now) (d .args .at) (d .args .params) (d .pre .2) _ _ _ (c .before .before .desk-masks2 .ensures)
-    (sym (e .before .has-write .ensures) ∙ e .if1 .left) (c .ones-are2 .ensures)
+    class-reading (d .args .plan .now) (d .args .at) (d .args .params) (d .pre .2) (planOf (d .args .plan .now)) _
+    (sym (e .before .has-write .ensures) ∙ e .if1 .left) (c .reads-unwritten .ensures)
 
 returns-3 : tie.Need-returns-3
 returns-3 c = sym (ap (λ (b : Bool). cond b free local) (c .if3 .taken)) ∙ reading (c .before)
@@ -81,8 +73,6 @@ class-of-spec =
     ones-are-requires
     returns
     returns-2
-    desk-masks-requires-2
-    slice-aggregate-ones-are-2
-    ones-are-requires-2
+    reads-unwritten-requires
     returns-3
     returns-4)

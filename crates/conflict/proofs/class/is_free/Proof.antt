@@ -1,7 +1,7 @@
 -- Whether an operation is free: it writes nothing, and the write masks of the cells that it reads have no ones.
 -- Assumes nothing.
 use mathlib.Core.Path.{_∙_, sym}
-use Rattle.plan.specs.Decode.{planOf, accessBy}
+use Rattle.plan.specs.Decode.{planOf}
 use Rattle.conflict.proofs.Tabled.{writing-not-free, reading-free}
 use borrow.Author.Needs.{needs}
 use Rattle.conflict.proofs.class.is_free.Statement.{statement}
@@ -16,23 +16,15 @@ returns c =
     sym (writing-not-free (d .args .plan .now) (d .args .at) (d .args .params) (d .pre .2) (planOf (d .args .plan .now))
     (sym (c .before .has-write .ensures) ∙ c .if1 .taken))
 
-desk-masks-requires : tie.Need-desk-masks-requires
-desk-masks-requires c κs = search needs
-
-slice-aggregate-ones-are : tie.Need-slice-aggregate-ones-are
-slice-aggregate-ones-are c = search needs
-
-ones-are-requires : tie.Need-ones-are-requires
-ones-are-requires c κs = search needs
+reads-unwritten-requires : tie.Need-reads-unwritten-requires
+reads-unwritten-requires c κs = search needs
 
 returns-2 : tie.Need-returns-2
-unfolding accessBy
 returns-2 c =
-    let e = c .before .before .before in
+    let e = c .before in
     let d = e .before .before .before in
-    reading-free (d .args .plan .now) (d .args .at) (d .args .params) (d .pre .2) (planOf (d .args .plan .now)) _ _
-    (c .before .before .desk-masks .ensures) (sym (e .before .has-write .ensures) ∙ e .if1 .left) (c .ones-are .ensures)
+    reading-free (d .args .plan .now) (d .args .at) (d .args .params) (d .pre .2) (planOf (d .args .plan .now)) _
+    (sym (e .before .has-write .ensures) ∙ e .if1 .left) (c .reads-unwritten .ensures)
 
 pub is-free-spec : {M : Type 1} → statement M
-is-free-spec =
-    tie.close (tie.spec has-write-requires returns desk-masks-requires slice-aggregate-ones-are ones-are-requires returns-2)
+is-free-spec = tie.close (tie.spec has-write-requires returns reads-unwritten-requires returns-2)

@@ -1,0 +1,186 @@
+-- The store with the others' writes still to come, and the outgoing words with their words still to come, are what is to be left.
+-- Assumes nothing.
+use mathlib.Core.Path.{_≡_, refl, _∙_, sym, ap}
+use Prim.Native.Nat.{_+_, _-_, _≤_, _<_}
+use native.Mathlib.Omega.{arith}
+use lib.ListN.{length, set, length-set}
+use Rattle.token.proofs.Forwarding.{Forwarded, forward-start, forward-end, forward-own, forward-head, forward-more}
+use Rattle.token.proofs.Forwarding.{forward-past, forward-cell}
+use borrow.Author.Needs.{needs}
+use Rattle.token.proofs.forward.forward_foreign.Statement.{statement}
+use Rattle.token.proofs.forward.forward_foreign.Tie as tie
+
+abbrev Inv-loop : tie.InvT-loop
+Inv-loop body desk cells₀ out₀ kept₀ left₀ end₀ at₀ cells out kept left end at =
+    (at ≤ length body) × (end ≤ at) × (length body ≤ length out₀) × (length out ≡ length out₀) × (length cells ≡ length cells₀)
+    × Forwarded desk body cells₀ out₀ cells out kept left end at
+
+abbrev μ-loop : tie.MeasureT-loop
+μ-loop body desk cells₀ out₀ kept₀ left₀ end₀ at₀ cells out kept left end at = length body - at
+
+loop-holds : tie.Need-loop-holds Inv-loop μ-loop
+loop-holds c = let s = c .before .before .before in (omega arith, omega arith, s .pre .1, refl, refl, forward-start _ _ _ _ (s .pre .0))
+
+mul-word : tie.Need-mul-word Inv-loop μ-loop
+mul-word c = search needs
+
+shared-slice-read-word : tie.Need-shared-slice-read-word Inv-loop μ-loop
+shared-slice-read-word c = search needs
+
+add-at : tie.Need-add-at Inv-loop μ-loop
+add-at c = search needs
+
+mul-out : tie.Need-mul-out Inv-loop μ-loop
+mul-out c = search needs
+
+slice-write-out : tie.Need-slice-write-out Inv-loop μ-loop
+slice-write-out c = search needs
+
+add-end : tie.Need-add-end Inv-loop μ-loop
+add-end c = search needs
+
+loop-less : tie.Need-loop-less Inv-loop μ-loop
+loop-less c = search needs
+
+loop-again : tie.Need-loop-again Inv-loop μ-loop
+loop-again c =
+    let d = c .before .before .before in
+    let v = d .before .loop .inv in (
+      omega arith,
+      omega arith,
+      v .2,
+      length-set (d .before .loop .out) _ _ ∙ v .3,
+      v .4,
+      forward-head (v .5) (d .loop-test .taken) (c .before .if1 .taken) (c .if2 .taken) (omega arith),
+    )
+
+loop-less-2 : tie.Need-loop-less-2 Inv-loop μ-loop
+loop-less-2 c = search needs
+
+loop-again-2 : tie.Need-loop-again-2 Inv-loop μ-loop
+loop-again-2 c =
+    let d = c .before .before .before in
+    let v = d .before .loop .inv in
+    (omega arith, omega arith, v .2, v .3, v .4, forward-own (v .5) (d .loop-test .taken) (c .before .if1 .taken) (c .if2 .left))
+
+-- a cell's value stands behind its word
+more : (c : tie.Else1 Inv-loop μ-loop)
+    → c .before .before .before .loop .at + 1 < length (c .before .before .before .before .before .before .before .args .body .now)
+more c = let d = c .before .before in forward-more (d .before .loop .inv .5) (d .loop-test .taken) (c .if1 .left)
+
+mul-value : tie.Need-mul-value Inv-loop μ-loop
+mul-value c = search needs
+
+shared-slice-read-value : tie.Need-shared-slice-read-value Inv-loop μ-loop
+shared-slice-read-value c = more (c .before)
+
+add-at-2 : tie.Need-add-at-2 Inv-loop μ-loop
+add-at-2 c = search needs
+
+sub-left : tie.Need-sub-left Inv-loop μ-loop
+sub-left c = search needs
+
+cast-put-value : tie.Need-cast-put-value Inv-loop μ-loop
+cast-put-value c = search needs
+
+put-value-requires : tie.Need-put-value-requires Inv-loop μ-loop
+put-value-requires c κs = search needs
+
+mul-out-2 : tie.Need-mul-out-2 Inv-loop μ-loop
+mul-out-2 c = search needs
+
+slice-write-out-2 : tie.Need-slice-write-out-2 Inv-loop μ-loop
+slice-write-out-2 c = search needs
+
+add-out : tie.Need-add-out Inv-loop μ-loop
+add-out c = search needs
+
+mul-out-3 : tie.Need-mul-out-3 Inv-loop μ-loop
+mul-out-3 c = search needs
+
+slice-write-out-3 : tie.Need-slice-write-out-3 Inv-loop μ-loop
+slice-write-out-3 c = let h = more (c .before .before .before .before .before .before) in simp length-set (omega arith)
+
+add-end-2 : tie.Need-add-end-2 Inv-loop μ-loop
+add-end-2 c = search needs
+
+loop-less-3 : tie.Need-loop-less-3 Inv-loop μ-loop
+loop-less-3 c = search needs
+
+loop-again-3 : tie.Need-loop-again-3 Inv-loop μ-loop
+loop-again-3 c =
+    let e = c .before .before .before .before .before .before in
+    let d = e .before .before in
+    let v = d .before .loop .inv in
+    let p = c .before .before in (
+      omega (arith, more e),
+      omega (arith, more e),
+      v .2,
+      length-set (set (d .before .loop .out) _ _) _ _ ∙ length-set (d .before .loop .out) _ _ ∙ v .3,
+      ap length (p .put-value .ensures) ∙ length-set (d .before .loop .cells) _ _ ∙ v .4,
+      rw (p .put-value .ensures)
+          (forward-cell (v .5) (d .loop-test .taken) (e .if1 .left) (p .before .before .if3 .taken) (omega (arith, more e))),
+    )
+
+loop-less-4 : tie.Need-loop-less-4 Inv-loop μ-loop
+loop-less-4 c = search needs
+
+loop-again-4 : tie.Need-loop-again-4 Inv-loop μ-loop
+loop-again-4 c =
+    let e = c .before .before in
+    let d = e .before .before in
+    let v = d .before .loop .inv in (
+      omega (arith, more e),
+      omega (arith, more e),
+      v .2,
+      v .3,
+      v .4,
+      forward-past (v .5) (d .loop-test .taken) (e .if1 .left) (c .if3 .left),
+    )
+
+same-length : tie.Need-same-length Inv-loop μ-loop
+same-length c = search needs
+
+same-length-2 : tie.Need-same-length-2 Inv-loop μ-loop
+same-length-2 c = search needs
+
+returns : tie.Need-returns Inv-loop μ-loop
+returns c =
+    let r = forward-end (c .before .loop .inv .5) (c .loop-test .left) in (r .0, (r .1, r .2))
+
+pub forward-foreign-spec : {M : Type 1} → statement M
+forward-foreign-spec =
+    tie.close
+    (tie.spec
+    Inv-loop
+    μ-loop
+    loop-holds
+    mul-word
+    shared-slice-read-word
+    add-at
+    mul-out
+    slice-write-out
+    add-end
+    loop-less
+    loop-again
+    loop-less-2
+    loop-again-2
+    mul-value
+    shared-slice-read-value
+    add-at-2
+    sub-left
+    cast-put-value
+    put-value-requires
+    mul-out-2
+    slice-write-out-2
+    add-out
+    mul-out-3
+    slice-write-out-3
+    add-end-2
+    loop-less-3
+    loop-again-3
+    loop-less-4
+    loop-again-4
+    same-length
+    same-length-2
+    returns)
