@@ -89,7 +89,7 @@ fn reads_unwritten(plan: &[u32], at: usize, params: [u32; 4]) -> bool
 }
 
 // The class of an operation of the transaction at this place. One table of masks is filled.
-pub fn class_of(plan: &[u32], at: usize, params: [u32; 4]) -> Class
+fn class_of(plan: &[u32], at: usize, params: [u32; 4]) -> Class
     requires { ⌜ (planVerdict (now plan) ≡ accepted) × StandsAt (now plan) at
         × (parametersPass (transactionFrom (now plan) at) params ≡ true) ⌝ }
     ensures { λ r. ⌜ classOfCode r ≡ classBy (planOf (now (plan .entry))) (transactionFrom (now (plan .entry)) at) params ⌝ }

@@ -3,9 +3,7 @@ mod class;
 mod mask;
 mod row;
 
-pub use class::Class;
 pub use class::ClassAnswer;
-pub use class::class_of;
 pub use class::classify;
 pub use class::has_write;
 pub use class::is_free;
