@@ -2,7 +2,7 @@
 -- A caller has at the head of its context the token of the lifetime and what the lent queue owns, and has the token back after the
 -- call.
 --     calls-blank, calls-blanks    nothing is asked; the result is the blank record, and 32 of them
---     calls-len, calls-load, calls-copied      a `&[Request]`: the length, the record at a place, the first 32 records
+--     calls-load, calls-copied                 a `&[Request]`: the record at a place, the first 32 records
 --     calls-store                  a `&mut [Request]`, which is given up for good: what is left says its last list, with one record set
 -- Each is followed by `land`, which puts the result into its local. Assumes `Given`.
 use mathlib.Core.Path.{_≡_, refl, ap, subst, sym}
@@ -39,7 +39,6 @@ use Rattle.queue.proofs.Answers.{answered, calls-equal, calls-shared}
 use Rattle.queue.proofs.Records.{Records, Shared, Owned, queueAt, queueVal, requestVal, request-makes}
 use Rattle.queue.proofs.record.blank as blank
 use Rattle.queue.proofs.record.blanks as blanks
-use Rattle.queue.proofs.lent.len as len
 use Rattle.queue.proofs.lent.load as load
 use Rattle.queue.proofs.lent.copied as copied
 use Rattle.queue.proofs.lent.store as store
@@ -51,9 +50,6 @@ module _ {M : Type 1} (𝓤 : URA M) (H : Heap 𝓤) (A : Atoms 𝓤) (mem : Mem
 
   abbrev pub Blanks : Contract 𝓤
   Blanks = tripleOf 𝓤 H A blanks.signature (blanks.spec 𝓤 H A mem run)
-
-  abbrev pub Len : Contract 𝓤
-  Len = tripleOf 𝓤 H A len.signature (len.spec 𝓤 H A mem run)
 
   abbrev pub Load : Contract 𝓤
   Load = tripleOf 𝓤 H A load.signature (load.spec 𝓤 H A mem run)
@@ -73,9 +69,6 @@ module _ {M : Type 1} (𝓤 : URA M) (H : Heap 𝓤) (A : Atoms 𝓤) (W : Given
   to-blanks = ((tt, tt, tt, tt, tt), tt)
 
   module _ (κ : Lft) (q : Share) (b o : ℕ) (γ : GName) (ys : List Request) where
-    abbrev pub to-len : Len 𝓤 H A mem run .Ghost
-    to-len = (((κ, tt), (q, tt), tt, (queueAt b o γ ys, tt), (queueVal b o ys ∷ [], tt)), tt)
-
     abbrev pub to-copied : Copied 𝓤 H A mem run .Ghost
     to-copied = (((κ, tt), (q, tt), tt, (queueAt b o γ ys, tt), (queueVal b o ys ∷ [], tt)), tt)
 
@@ -102,11 +95,6 @@ module _ {M : Type 1} (𝓤 : URA M) (H : Heap 𝓤) (A : Atoms 𝓤) (W : Given
   goes-blanks = qed W (‵ ftrue ∷ []) ∵ nothing ! $ join ! $ frame ! $ nothing ! $ done !
 
   module _ (κ : Lft) (q : Share) (b o : ℕ) (γ : GName) (ys : List Request) where
-    goes-len : ent 𝓤 (sep 𝓤 (A .lft κ q) (sem 𝓤 H A (Shared κ b o γ ys))) (Len 𝓤 H A mem run .pre (to-len κ q b o γ ys))
-    goes-len =
-        qed W (‵ (flft κ q) ∷ ‵ (Shared κ b o γ ys) ∷ []) ∵
-        nothing ! $ move ! (2 ∷ 0 ∷ []) $ fjoin ! $ nothing ! $ move ! (2 ∷ 0 ∷ []) $ join ! $ join ! $ frame ! $ nothing ! $ done !
-
     goes-copied : ent 𝓤 (sep 𝓤 (A .lft κ q) (sem 𝓤 H A (Shared κ b o γ ys))) (Copied 𝓤 H A mem run .pre (to-copied κ q b o γ ys))
     goes-copied =
         qed W (‵ (flft κ q) ∷ ‵ (Shared κ b o γ ys) ∷ []) ∵
@@ -151,17 +139,6 @@ module _ {M : Type 1} {𝓤 : URA M} {H : Heap 𝓤} {A : Atoms 𝓤} {K : Type 
       (λ w is. drop t $ k w is)
 
   module _ (κ : Lft) (q : Share) (b o : ℕ) (γ : GName) (ys : List Request) where
-    pub calls-len : K → FmC 𝓤 H (W .laws) C → Triple 𝓤 (C f) (Len 𝓤 H A mem run)
-        → Opds K W (raw (Len 𝓤 H A mem run .pre (to-len 𝓤 H A W mem run κ q b o γ ys)) ∷ Γ) E xs (queueVal b o ys ∷ [])
-        → Seq K W (‵ (flft κ q) ∷ Γ) (lands C Λ E d (vint w64 (length ys)) rest p)
-        → Seq K W (‵ (flft κ q) ∷ ‵ (Shared κ b o γ ys) ∷ Γ) (runs C Λ E (seq (call f xs d) rest) p)
-    calls-len t fm met os k =
-        calls-shared t fm (Len 𝓤 H A mem run) met (to-len 𝓤 H A W mem run κ q b o γ ys) κ q (Shared κ b o γ ys)
-        (goes-len 𝓤 H A W mem run κ q b o γ ys)
-        usize (λ r. ensured 𝓤 H A len.ended (len.clauses 𝓤 H A mem run) (κ, tt) (queueAt b o γ ys, tt) tt r) (λ w. id⊢ 𝓤 _) (length ys)
-        (λ r. exE 𝓤 _ (λ ws. snd∗ 𝓤 (sem 𝓤 H A (lasts len.ended (κ, tt) (queueAt b o γ ys, tt) ws)) (fact 𝓤 (r ≡ length ys)))) os
-        (λ w is. subst (λ (z : Val). Seq K W (‵ (flft κ q) ∷ Γ) (lands C Λ E d z rest p)) (sym (ap only (is .0))) k)
-
     pub calls-copied : K → FmC 𝓤 H (W .laws) C → Triple 𝓤 (C f) (Copied 𝓤 H A mem run)
         → Opds K W (raw (Copied 𝓤 H A mem run .pre (to-copied 𝓤 H A W mem run κ q b o γ ys)) ∷ Γ) E xs (queueVal b o ys ∷ [])
         → ((w : Val) → Is Records (recordsOf ys) (w ∷ []) → Seq K W (‵ (flft κ q) ∷ Γ) (lands C Λ E d w rest p))

@@ -39,12 +39,6 @@ padded-at ys i l = by-place (ltb i (length ys)) refl
         ap (λ (j : ℕ). getD (padded ys) j noRequest) there ∙ getD-append-add ys (replicate 32 noRequest) k noRequest
         ∙ getD-replicate 32 k noRequest noRequest within ∙ sym (List·getD-eq-default ys noRequest past)
 
-pub records-length : (ys : List Request) → length (recordsOf ys) ≡ 32
-records-length ys = length-take-le 32 (padded ys) (padded-length ys)
-
-pub records-at : (ys : List Request) (i : ℕ) → i < 32 → recordAt (recordsOf ys) i ≡ recordAt ys i
-records-at ys i l = getD-take 32 (padded ys) i noRequest l ∙ padded-at ys i l
-
 pub records-whole : (ys : List Request) → length ys ≡ 32 → recordsOf ys ≡ ys
 records-whole ys e = take-append-le 32 ys (replicate 32 noRequest) (omega arith) ∙ take-all 32 ys (omega arith)
 

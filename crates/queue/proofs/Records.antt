@@ -91,7 +91,3 @@ each-field [] [] s = s
 each-field [] (u ∷ us) s = s
 each-field (z ∷ zs) [] s = s
 each-field (z ∷ zs) (u ∷ us) s = (s .0, each-field zs us (s .1))
-
-pub records-field : (zs : List Request) (vs : List Val) → Is Records zs vs → Is (Array (T.the-field .row) 32)
-    (map (T.the-field .into) zs) vs
-records-field zs vs p = (p .0, ((p .1 .0 .0, length-map zs (T.the-field .into) ∙ p .1 .0 .1), each-field zs (p .0) (p .1 .1)))

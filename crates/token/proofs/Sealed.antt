@@ -47,8 +47,3 @@ seal-law out desk visit end h a b low room e s =
     ∙ ap (λ (t : List ℕ). overwritten t out)
     (around desk visit h a b body (e ∙ ap (frameHead desk) words)
     (s ∙ ap sumsOf (ap (take end) f ∙ take-at front (drop (length front) out) end k)))
-
--- around updates that stand there, for the desk whose visit it is, the seal makes their frame
-pub sealed-frame : (n v end : ℕ) (us : List SentUpdate) (out : List ℕ) → take (end - 2) (drop 2 out) ≡ updatesWords us
-    → sealedAt (v % n) v end out ≡ overwritten (frameWords n v us) out
-sealed-frame n v end us out e = ap (λ (b : List ℕ). overwritten (frameAround (v % n) v b) out) e
