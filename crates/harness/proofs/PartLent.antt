@@ -1,6 +1,6 @@
 -- The first k elements of a local array, lent as a slice for a lifetime that is made for a call, and back. It says nothing of the crate.
---     behind           the elements of a row from place k on, where they lie.        cut, joined     a row is its first k elements and those
---                      behind, and back with other elements in front
+--     behind           the elements of a row from place k on, where they lie
+--     cut, joined      a row is its first k elements and those behind, and back with other elements in front
 --     lends-front      the array is taken apart, and its first k elements are lent as a `&mut [T]`; the new lifetime's token stands at the
 --                      head.        ends-front      the lifetime is ended, and the array is whole, with the last list in front
 --     lends-front-shared, ends-front-shared    the same as a `&[T]`
@@ -18,8 +18,8 @@ use base.Logic.{ent, sep}
 use base.Fml.{GName, Fml, ftrue, fsep, fat, flft, flent}
 use prog.Wp.{Heap}
 use ghost.Atoms.{Atoms, sem}
-use types.Kit.{Given, Goal, Soaks, Item, Seq, Step, step, ‵, _⊛_, some, later, _$_, _∵_, !, qed, by, move, drop as let-go, use1, use2, use3, split, pick}
-use types.Kit.{fsplit, fjoin, feqI, frame, await, done}
+use types.Kit.{Given, Goal, Soaks, Item, Seq, Step, step, ‵, _⊛_, some, later, _$_, _∵_, !, qed, by, move, drop as let-go}
+use types.Kit.{use1, use2, use3, split, pick, fsplit, fjoin, feqI, frame, await, done}
 use types.SemTy.{cells, Arr}
 use types.Share.{arr-parts}
 use types.Tokens.{lent-back, lft-new, lft-end}

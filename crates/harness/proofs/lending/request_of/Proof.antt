@@ -1,7 +1,7 @@
--- `harness::request_of` meets its contract: a walk of its MIR, by hand, with no branch. All that it knows of `conveyor::request` is that it
--- meets its contract.
--- The queue is copied into a local, whose first records are lent as a `&mut` for a lifetime that is made for the call (`PartLent.antt`). plan
--- is a `&`, which is Copy: one copy goes to the call, and the other is kept for the exit. cells goes to the call for good.
+-- `harness::request_of` meets its contract: a walk of its MIR, by hand, with no branch. All that it knows of `conveyor::request` is that
+-- it meets its contract.
+-- The queue is copied into a local, whose first records are lent as a `&mut` for a lifetime that is made for the call (`PartLent.antt`).
+-- plan is a `&`, which is Copy: one copy goes to the call, and the other is kept for the exit. cells goes to the call for good.
 -- In the comments below L stands for the sixteen locals, `_15` first, each with the fact that it dies, and L′ for L without `_9`, whose
 -- records are lent.
 -- Assumes nothing.
@@ -87,7 +87,8 @@ module _ {M : Type 1} (𝓤 : URA M) (H : Heap 𝓤) (A : Atoms 𝓤) (W : Given
 
     stays : (zs : List Request) → length zs ≡ length (take (x .size) (x .queue))
         → drop (x .size) (zs ++ drop (x .size) (x .queue)) ≡ drop (x .size) (x .queue)
-    stays zs e = ap (λ (k : ℕ). drop k (zs ++ drop (x .size) (x .queue))) (sym (e ∙ front)) ∙ drop-append-seam zs (drop (x .size) (x .queue))
+    stays zs e = ap (λ (k : ℕ). drop k (zs ++ drop (x .size) (x .queue))) (sym (e ∙ front))
+        ∙ drop-append-seam zs (drop (x .size) (x .queue))
 
     walk : Room u32 (length (x .plan .now)) → Room u32 (length (x .cells .now))
         → ent 𝓤 (onEntry 𝓤 H A request-of.signature (lfts x) (shares x) (args x) (vals x))
@@ -154,7 +155,8 @@ module _ {M : Type 1} (𝓤 : URA M) (H : Heap 𝓤) (A : Atoms 𝓤) (W : Given
         assigns ! (of-opd ! (load ! (from ! (stop !)) (look ! 0 refl))) (from ! (stop !))
         (init ! 6 refl (queue-typed 𝓤 H A W (zb .1 .1 .1 .0 ++ drop (x .size) (x .queue)) w isz)) $
         assigns ! (agg ! (and-then ! (load ! (from ! (stop !)) (look ! 16 refl)) (and-then ! (load ! (from ! (stop !)) (look ! 6 refl))
-        (no-more !)))) (from ! (stop !)) (init ! 35 refl (LL.lawful Out.the-type Out′.the-laws 𝓤 H A W .typed (result x r (zb .1 .1 .1 .0)) _
+        (no-more !)))) (from ! (stop !))
+        (init ! 35 refl (LL.lawful Out.the-type Out′.the-laws 𝓤 H A W .typed (result x r (zb .1 .1 .1 .0)) _
         (result-is x r (zb .1 .1 .1 .0) u w isr isz) .0)) $
         returns ! (look ! 35 refl) $
         forget ! 0 refl $ forget ! 6 refl $ forget ! 8 refl $ forget ! 10 refl $ forget ! 12 refl $ forget ! 14 refl $

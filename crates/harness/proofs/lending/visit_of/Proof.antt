@@ -156,7 +156,7 @@ module _ {M : Type 1} (𝓤 : URA M) (H : Heap 𝓤) (A : Atoms 𝓤) (W : Given
         land ! (from ! (stop !)) (init ! 40 refl (LL.lawful Out.the-type Out′.the-laws 𝓤 H A W .typed r _ isr .0)) $
         move ! (3 ∷ []) $ split ! $ move ! (1 ∷ []) $ split ! $ move ! (1 ∷ []) $ split ! $ move ! (0 ∷ 9 ∷ []) $
         ends-front-shared T.the-row 33 (x .size) (x .queue) l₉ ! tt α count (λ w isz.
-        -- [_9; the tokens of frame, out, replies; cells's; plan's; replies's last list; out's; cells's; what frame owns; what plan owns; L′]
+        -- [_9; the tokens of frame, out, replies; cells's; plan's; replies's last list; out's; cells's; what frame and plan own; L′]
         returns ! (look ! 42 refl) $
         forget ! 0 refl $ forget ! 9 refl $ forget ! 11 refl $ forget ! 13 refl $ forget ! 15 refl $ forget ! 17 refl $
         forget ! 19 refl $ forget ! 21 refl $ forget ! 23 refl $ forget ! 26 refl $ forget ! 28 refl $ forget ! 30 refl $
@@ -167,7 +167,8 @@ module _ {M : Type 1} (𝓤 : URA M) (H : Heap 𝓤) (A : Atoms 𝓤) (W : Given
         free1 ! $ move ! (20 ∷ 21 ∷ []) $ free1 ! $ move ! (18 ∷ 19 ∷ []) $ free1 ! $ move ! (16 ∷ 17 ∷ []) $ free1 ! $
         move ! (14 ∷ 15 ∷ []) $ free1 ! $ move ! (12 ∷ 13 ∷ []) $ free1 ! $ move ! (10 ∷ 11 ∷ []) $ free1 ! $ move ! (8 ∷ 9 ∷ []) $
         free1 ! $ free0 ! $
-        by ! (exits x 𝓤 H A mem run W f r u (zs .1 .1 .0) (zs .1 .1 .1 .1 .1 .0) (zs .1 .1 .1 .1 .1 .1 .0) said e₂ e₅ e₆ isr))))))))))))))))))))))))))))
+        by ! (exits x 𝓤 H A mem run W f r u (zs .1 .1 .0) (zs .1 .1 .1 .1 .1 .0) (zs .1 .1 .1 .1 .1 .1 .0)
+        said e₂ e₅ e₆ isr))))))))))))))))))))))))))))
 
   visit-of-walks : Walks 𝓤 H A visit-of.ended stayed (WpFn 𝓤 H (𝓣 .C) (𝓣 .Λ) code.function) (visit-of.clauses 𝓤 H A mem run)
   visit-of-walks = walked 𝓤 H A visit-of.ended stayed (visit-of.clauses 𝓤 H A mem run) (WpFn 𝓤 H (𝓣 .C) (𝓣 .Λ) code.function)

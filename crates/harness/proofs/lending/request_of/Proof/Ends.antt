@@ -154,7 +154,8 @@ module _ (x : Entry) where
     exits W f r zs cells′ u w said same behind is =
         qed W (Had cells′) ∵
         suffices ! _ (ends-at 𝓤 H A request-of.ended stayed (request-of.clauses 𝓤 H A mem run) W bound (mach u w) (result r zs)
-        (tt, (tt, (cells′, (tt, (tt, (tt, (tt, (tt, tt)))))))) (tt, (tt, (same, (tt, (tt, (tt, (tt, (tt, tt))))))))) $ says ! (said, behind) $
+        (tt, (tt, (cells′, (tt, (tt, (tt, (tt, (tt, tt)))))))) (tt, (tt, (same, (tt, (tt, (tt, (tt, (tt, tt))))))))) $
+        says ! (said, behind) $
         move ! (1 ∷ 0 ∷ []) $ join ! $ move ! (1 ∷ 0 ∷ []) $ join ! $ frame ! $
         -- [cells's last list; what plan owns]
         nothing ! $ owned ! Params (Is Params) (params-makes 𝓤 H A W) (x .params) _ (f .params) $ fjoin ! $
