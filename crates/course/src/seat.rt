@@ -1,0 +1,93 @@
+// What a desk holds between calls, how much of it is lent, and what a call changed of it.
+use crate::text;
+use conveyor::Desk;
+use queue::Request;
+
+// A desk's state, its book and its row. One cell and one record more than the paper has, so that too much can be lent.
+pub struct Seat {
+    pub state: Desk,
+    pub cells: [u32; 1025],
+    pub queue: [Request; 33],
+}
+
+// How much of each buffer is lent.
+pub struct Sizes {
+    pub cells: usize,
+    pub queue: usize,
+    pub out: usize,
+    pub replies: usize,
+}
+
+// A desk's state.
+pub fn state(desk: u32, waiting: u32, awaited: u64) -> Desk {
+    Desk {
+        desk: desk,
+        waiting: waiting,
+        awaited: awaited,
+    }
+}
+
+// A book of zeros and a row of blank records, at a state.
+pub fn empty(state: Desk) -> Seat {
+    let none = queue::blank();
+    Seat {
+        state: state,
+        cells: [0; 1025],
+        queue: [none; 33],
+    }
+}
+
+// The sizes that the paper asks for.
+pub fn fit() -> Sizes {
+    Sizes {
+        cells: 1024,
+        queue: 32,
+        out: 6404,
+        replies: 96,
+    }
+}
+
+// A record.
+pub fn record(client: u32, transaction: u32, params: [u32; 4]) -> Request {
+    Request {
+        client: client,
+        transaction: transaction,
+        p0: params[0],
+        p1: params[1],
+        p2: params[2],
+        p3: params[3],
+    }
+}
+
+// The seat with a record at a place of its row.
+pub fn with_record(seat: Seat, at: usize, record: Request) -> Seat {
+    let state = seat.state;
+    let cells = seat.cells;
+    let mut queue = seat.queue;
+    if at < 33 {
+        queue[at] = record;
+    }
+    Seat {
+        state: state,
+        cells: cells,
+        queue: queue,
+    }
+}
+
+// The seat with another state.
+pub fn with_state(seat: Seat, state: Desk) -> Seat {
+    let cells = seat.cells;
+    let queue = seat.queue;
+    Seat {
+        state: state,
+        cells: cells,
+        queue: queue,
+    }
+}
+
+// Writes a state.
+pub fn write_state(state: Desk) {
+    text::number(b" desk ", state.desk as u64);
+    text::number(b", waiting ", state.waiting as u64);
+    text::number(b", awaits ", state.awaited);
+}
