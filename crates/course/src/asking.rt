@@ -77,10 +77,7 @@ fn announce(seat: Seat, sizes: Sizes, request: Request) {
     text::text(b"request");
     text::operation(request.transaction, queue::params(request));
     text::number(b" of client ", request.client as u64);
-    text::text(b" at");
-    seat::write_state(seat.state);
-    text::number(b", book ", sizes.cells as u64);
-    text::number(b", row ", sizes.queue as u64);
+    seat::write_place(seat.state, sizes);
     text::text(b":");
 }
 

@@ -97,3 +97,11 @@ pub fn write_state(state: Desk) {
     text::number(b", waiting ", state.waiting as u64);
     text::number(b", awaits ", state.awaited);
 }
+
+// Writes at which desk, with how much lent of its book and its row.
+pub fn write_place(state: Desk, sizes: Sizes) {
+    text::text(b" at");
+    write_state(state);
+    text::number(b", book ", sizes.cells as u64);
+    text::number(b", row ", sizes.queue as u64);
+}

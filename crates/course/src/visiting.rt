@@ -107,10 +107,7 @@ fn after_pass(
 fn announce(seat: Seat, sizes: Sizes, frame: Words) {
     text::text(b"visit of");
     words::write(frame);
-    text::text(b" at");
-    seat::write_state(seat.state);
-    text::number(b", book ", sizes.cells as u64);
-    text::number(b", row ", sizes.queue as u64);
+    seat::write_place(seat.state, sizes);
     text::number(b", outgoing ", sizes.out as u64);
     text::number(b", replies ", sizes.replies as u64);
     text::text(b":");
