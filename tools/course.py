@@ -62,9 +62,9 @@ def state_text(state):
 class Seat:
     """A desk's state, its book and its row, one cell and one record longer than the paper's."""
 
-    def __init__(self, desk, waiting, awaited):
+    def __init__(self, desk, waiting, awaited, number=0):
         self.state = Desk(desk, waiting, awaited)
-        self.cells = [0] * 1025
+        self.cells = [number] * 1025
         self.queue = [BLANK] * 33
 
     def copy(self):
@@ -170,8 +170,8 @@ class Bench:
 
     # What stands between the calls
 
-    def seat_command(self, desk, waiting, awaited):
-        self.seat = Seat(desk, waiting, awaited)
+    def seat_command(self, desk, waiting, awaited, number):
+        self.seat = Seat(desk, waiting, awaited, number)
 
     def other_command(self):
         self.seat, self.other = self.other, self.seat

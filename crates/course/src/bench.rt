@@ -23,7 +23,7 @@ pub struct Bench {
 
 // No plan, two new desks 0, and fit buffers.
 pub fn fresh() -> Bench {
-    let seat = seat::empty(seat::state(0, 0, 0));
+    let seat = seat::empty(seat::state(0, 0, 0), 0);
     Bench {
         plan: words::none(),
         seat: seat,
@@ -113,12 +113,10 @@ fn class_command(bench: Bench, n: [u64; 8]) -> Bench {
     )
 }
 
-// `seat`, then desk, waiting and awaited: a desk with this state, a book of zeros and blank records.
+// `seat`, then desk, waiting, awaited and a number: a desk with this state, a book that holds the number everywhere, and blank records.
 fn seat_command(bench: Bench, n: [u64; 8]) -> Bench {
-    seated(
-        bench,
-        seat::empty(seat::state(script::word(n[0]), script::word(n[1]), n[2])),
-    )
+    let state = seat::state(script::word(n[0]), script::word(n[1]), n[2]);
+    seated(bench, seat::empty(state, script::word(n[3])))
 }
 
 // `keep`, then two places, the transaction and four parameters: records of this operation from the first place on and before the second.

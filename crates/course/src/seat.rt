@@ -27,12 +27,12 @@ pub fn state(desk: u32, waiting: u32, awaited: u64) -> Desk {
     }
 }
 
-// A book of zeros and a row of blank records, at a state.
-pub fn empty(state: Desk) -> Seat {
+// A state, a book whose cells all hold this number, and a row of blank records.
+pub fn empty(state: Desk, number: u32) -> Seat {
     let none = queue::blank();
     Seat {
         state: state,
-        cells: [0; 1025],
+        cells: [number; 1025],
         queue: [none; 33],
     }
 }
