@@ -1,20 +1,21 @@
 // Requests: one line for each.
 use crate::changes;
-use crate::plans;
+use crate::lent;
 use crate::seat;
 use crate::seat::Seat;
 use crate::seat::Sizes;
 use crate::tally;
 use crate::tally::Tally;
 use crate::text;
+use crate::words::Words;
 use conveyor::Desk;
 use conveyor::RequestAnswer;
 use queue::Request;
 
 // The answer to a request, and the seat after it.
-pub struct Asked {
-    pub answer: RequestAnswer,
-    pub seat: Seat,
+struct Asked {
+    answer: RequestAnswer,
+    seat: Seat,
 }
 
 // The seat after a line, and the tally.
@@ -24,29 +25,32 @@ pub struct Told {
 }
 
 // The request, with as much lent as the sizes say.
-pub fn ask(plan: &[u32], seat: Seat, sizes: Sizes, request: Request) -> Asked {
+fn ask(plan: Words, seat: Seat, sizes: Sizes, request: Request) -> Asked {
+    let words = plan.words;
     let cells = seat.cells;
     let row = seat.queue;
-    ask_with(plan, seat.state, cells, row, sizes, request)
+    ask_with(words, plan.len, seat.state, cells, row, sizes, request)
 }
 
-// The same of the seat's parts.
+// The same of the parts.
 fn ask_with(
-    plan: &[u32],
+    words: [u32; 6405],
+    len: usize,
     state: Desk,
     book: [u32; 1025],
     row: [Request; 33],
     sizes: Sizes,
     request: Request,
 ) -> Asked {
-    let lent = plans::at_most(sizes.cells, 1025);
-    let size = plans::at_most(sizes.queue, 33);
+    let count = lent::at_most(len, 6405);
+    let cells_lent = lent::at_most(sizes.cells, 1025);
+    let size = lent::at_most(sizes.queue, 33);
     let params = queue::params(request);
     let mut cells = book;
     let asked = harness::request_of(
-        plan,
+        &words[..count],
         state,
-        &mut cells[..lent],
+        &mut cells[..cells_lent],
         row,
         size,
         request.client,
@@ -73,10 +77,7 @@ fn announce(seat: Seat, sizes: Sizes, request: Request) {
     text::text(b"request");
     text::operation(request.transaction, queue::params(request));
     text::number(b" of client ", request.client as u64);
-    text::text(b" at");
-    seat::write_state(seat.state);
-    text::number(b", book ", sizes.cells as u64);
-    text::number(b", row ", sizes.queue as u64);
+    seat::write_place(seat.state, sizes);
     text::text(b":");
 }
 
@@ -105,13 +106,7 @@ fn write_answer(answer: RequestAnswer) -> u32 {
 }
 
 // The line of a request.
-pub fn request_line(
-    tally: Tally,
-    plan: &[u32],
-    seat: Seat,
-    sizes: Sizes,
-    request: Request,
-) -> Told {
+pub fn request_line(tally: Tally, plan: Words, seat: Seat, sizes: Sizes, request: Request) -> Told {
     announce(seat, sizes, request);
     let asked = ask(plan, seat, sizes, request);
     let after = asked.seat;
@@ -123,10 +118,4 @@ pub fn request_line(
         tally: ended,
         seat: after,
     }
-}
-
-// The line of a request with plan P and fit buffers, after which the seat is not needed.
-pub fn try_line(tally: Tally, seat: Seat, request: Request) -> Tally {
-    let told = request_line(tally, &plans::P, seat, seat::fit(), request);
-    told.tally
 }

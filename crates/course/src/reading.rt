@@ -1,10 +1,11 @@
 // The calls that are lent nothing to change, and the starting frame: one line for each.
-use crate::frames;
-use crate::frames::Frame;
-use crate::plans;
+use crate::lent;
+use crate::seat;
 use crate::tally;
 use crate::tally::Tally;
 use crate::text;
+use crate::words;
+use crate::words::Words;
 use conflict::ClassAnswer;
 use conveyor::DeskAnswer;
 use plan::PlanAnswer;
@@ -12,11 +13,18 @@ use token::StartAnswer;
 use token::VisitAnswer;
 
 // The plan reader.
-pub fn plan_line(tally: Tally, plan: &[u32]) -> Tally {
+fn plan_read(words: [u32; 6405], len: usize) -> PlanAnswer {
+    let count = lent::at_most(len, 6405);
+    plan::read_plan(&words[..count])
+}
+
+// The line of the plan reader.
+pub fn plan_line(tally: Tally, plan: Words) -> Tally {
+    let all = plan.words;
     text::text(b"plan");
-    text::words(plan, plan.len());
+    words::write(plan);
     text::text(b":");
-    match plan::read_plan(plan) {
+    match plan_read(all, plan.len) {
         PlanAnswer::Accepted => {
             text::text(b" accepted");
             tally::accepted(tally)
@@ -25,12 +33,19 @@ pub fn plan_line(tally: Tally, plan: &[u32]) -> Tally {
     }
 }
 
-// The classifier, of a plan that an earlier line has shown.
-pub fn class_line(tally: Tally, plan: &[u32], transaction: u32, params: [u32; 4]) -> Tally {
+// The classifier.
+fn classified(words: [u32; 6405], len: usize, transaction: u32, params: [u32; 4]) -> ClassAnswer {
+    let count = lent::at_most(len, 6405);
+    conflict::classify(&words[..count], transaction, params)
+}
+
+// The line of the classifier.
+pub fn class_line(tally: Tally, plan: Words, transaction: u32, params: [u32; 4]) -> Tally {
+    let all = plan.words;
     text::text(b"class of");
     text::operation(transaction, params);
     text::text(b":");
-    match conflict::classify(plan, transaction, params) {
+    match classified(all, plan.len, transaction, params) {
         ClassAnswer::Free => {
             text::text(b" free");
             tally::accepted(tally)
@@ -48,14 +63,19 @@ pub fn class_line(tally: Tally, plan: &[u32], transaction: u32, params: [u32; 4]
 }
 
 // A new desk.
-pub fn desk_line(tally: Tally, plan: &[u32], desk: u32) -> Tally {
+fn opened(words: [u32; 6405], len: usize, desk: u32) -> DeskAnswer {
+    let count = lent::at_most(len, 6405);
+    conveyor::new_desk(&words[..count], desk)
+}
+
+// The line of a new desk.
+pub fn desk_line(tally: Tally, plan: Words, desk: u32) -> Tally {
+    let all = plan.words;
     text::number(b"new desk ", desk as u64);
     text::text(b":");
-    match conveyor::new_desk(plan, desk) {
+    match opened(all, plan.len, desk) {
         DeskAnswer::Opened(state) => {
-            text::number(b" desk ", state.desk as u64);
-            text::number(b", waiting ", state.waiting as u64);
-            text::number(b", awaits ", state.awaited);
+            seat::write_state(state);
             tally::accepted(tally)
         }
         DeskAnswer::Refused(question) => tally::refused(tally, question, 0),
@@ -63,7 +83,7 @@ pub fn desk_line(tally: Tally, plan: &[u32], desk: u32) -> Tally {
 }
 
 // Both calls of the frame reader: the visit number, and the part that holds the updates.
-fn frame_read(tally: Tally, plan: &[u32], frame: &[u32]) -> Tally {
+fn both_read(tally: Tally, plan: &[u32], frame: &[u32]) -> Tally {
     let part = token::read_frame(plan, frame);
     match token::frame_visit(plan, frame) {
         VisitAnswer::Visit(visit) => {
@@ -72,28 +92,31 @@ fn frame_read(tally: Tally, plan: &[u32], frame: &[u32]) -> Tally {
             text::words(part, part.len());
             tally::accepted(tally)
         }
-        VisitAnswer::Refused(question) => tally::refused(tally, question, plans::some(part)),
+        VisitAnswer::Refused(question) => tally::refused(tally, question, lent::some(part)),
     }
 }
 
 // The same of the first words of many.
-fn first_words_read(tally: Tally, plan: &[u32], words: [u32; 6405], len: usize) -> Tally {
-    let lent = plans::at_most(len, 6405);
-    frame_read(tally, plan, &words[..lent])
+fn frame_read(
+    tally: Tally,
+    words: [u32; 6405],
+    len: usize,
+    frame: [u32; 6405],
+    size: usize,
+) -> Tally {
+    let count = lent::at_most(len, 6405);
+    let handed = lent::at_most(size, 6405);
+    both_read(tally, &words[..count], &frame[..handed])
 }
 
 // The line of the frame reader.
-pub fn frame_line(tally: Tally, plan: &[u32], frame: Frame) -> Tally {
-    let words = frame.words;
+pub fn frame_line(tally: Tally, plan: Words, frame: Words) -> Tally {
+    let all = plan.words;
+    let handed = frame.words;
     text::text(b"frame");
-    text::words(&words, frame.len);
+    words::write(frame);
     text::text(b":");
-    first_words_read(tally, plan, words, frame.len)
-}
-
-// The line of the frame reader for words to which both sums are added.
-pub fn sealed_line(tally: Tally, plan: &[u32], words: &[u32]) -> Tally {
-    frame_line(tally, plan, frames::sealed(words))
+    frame_read(tally, all, plan.len, handed, frame.len)
 }
 
 // The starting frame's answer, and the words after it.
@@ -104,16 +127,16 @@ struct Started {
 
 // The starting frame, written into the first words of eight.
 fn start_in(size: usize) -> Started {
-    let lent = plans::at_most(size, 8);
-    let mut out = [plans::MARK; 8];
-    let answer = token::starting_frame(&mut out[..lent]);
+    let count = lent::at_most(size, 8);
+    let mut out = [lent::MARK; 8];
+    let answer = token::starting_frame(&mut out[..count]);
     Started {
         answer: answer,
         out: out,
     }
 }
 
-// The starting frame, written into this many words: all eight words are shown.
+// The line of the starting frame, written into this many words: all eight words are shown.
 pub fn start_line(tally: Tally, size: usize) -> Tally {
     text::number(b"starting frame in ", size as u64);
     text::text(b" words:");
@@ -125,6 +148,6 @@ pub fn start_line(tally: Tally, size: usize) -> Tally {
             text::words(&out, 8);
             tally::accepted(tally)
         }
-        StartAnswer::Refused(question) => tally::refused(tally, question, plans::touched(&out, 0)),
+        StartAnswer::Refused(question) => tally::refused(tally, question, lent::touched(&out, 0)),
     }
 }

@@ -27,12 +27,12 @@ pub fn state(desk: u32, waiting: u32, awaited: u64) -> Desk {
     }
 }
 
-// A book of zeros and a row of blank records, at a state.
-pub fn empty(state: Desk) -> Seat {
+// A state, a book whose cells all hold this number, and a row of blank records.
+pub fn empty(state: Desk, number: u32) -> Seat {
     let none = queue::blank();
     Seat {
         state: state,
-        cells: [0; 1025],
+        cells: [number; 1025],
         queue: [none; 33],
     }
 }
@@ -59,29 +59,35 @@ pub fn record(client: u32, transaction: u32, params: [u32; 4]) -> Request {
     }
 }
 
-// The seat with a record at a place of its row.
-pub fn with_record(seat: Seat, at: usize, record: Request) -> Seat {
-    let state = seat.state;
-    let cells = seat.cells;
-    let mut queue = seat.queue;
-    if at < 33 {
-        queue[at] = record;
+// The row with this transaction and these parameters from one place on and before another, each of the client with the place's number.
+fn row_with(
+    queue: [Request; 33],
+    from: u32,
+    to: u32,
+    transaction: u32,
+    params: [u32; 4],
+) -> [Request; 33] {
+    let mut row = queue;
+    for i in 0..33u32 {
+        if from <= i {
+            if i < to {
+                row[i as usize] = record(i, transaction, params);
+            }
+        }
     }
-    Seat {
-        state: state,
-        cells: cells,
-        queue: queue,
-    }
+    row
 }
 
-// The seat with another state.
-pub fn with_state(seat: Seat, state: Desk) -> Seat {
+// The seat with such a row.
+pub fn with_records(seat: Seat, from: u32, to: u32, transaction: u32, params: [u32; 4]) -> Seat {
+    let state = seat.state;
     let cells = seat.cells;
     let queue = seat.queue;
+    let row = row_with(queue, from, to, transaction, params);
     Seat {
         state: state,
         cells: cells,
-        queue: queue,
+        queue: row,
     }
 }
 
@@ -90,4 +96,12 @@ pub fn write_state(state: Desk) {
     text::number(b" desk ", state.desk as u64);
     text::number(b", waiting ", state.waiting as u64);
     text::number(b", awaits ", state.awaited);
+}
+
+// Writes at which desk, with how much lent of its book and its row.
+pub fn write_place(state: Desk, sizes: Sizes) {
+    text::text(b" at");
+    write_state(state);
+    text::number(b", book ", sizes.cells as u64);
+    text::number(b", row ", sizes.queue as u64);
 }

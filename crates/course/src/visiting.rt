@@ -1,66 +1,79 @@
 // Visits: one line for each.
 use crate::changes;
-use crate::frames::Frame;
-use crate::plans;
+use crate::lent;
 use crate::seat;
 use crate::seat::Seat;
 use crate::seat::Sizes;
 use crate::tally;
 use crate::tally::Tally;
 use crate::text;
+use crate::words;
+use crate::words::Words;
 use conveyor::Desk;
 use conveyor::VisitAnswer;
 use conveyor::VisitResult;
 use queue::Request;
 
 // The answer to a visit, the seat after it, and the words lent for the frame and the replies.
-pub struct Passed {
-    pub answer: VisitAnswer,
-    pub seat: Seat,
-    pub out: [u32; 6405],
-    pub replies: [u32; 97],
+struct Passed {
+    answer: VisitAnswer,
+    seat: Seat,
+    out: [u32; 6405],
+    replies: [u32; 97],
 }
 
 // The tally and the seat after a line, and the frame that was sent.
 pub struct Sent {
     pub tally: Tally,
     pub seat: Seat,
-    pub frame: Frame,
+    pub frame: Words,
 }
 
 // The visit, with as much lent as the sizes say. The words lent for the frame and the replies hold the mark.
-fn pass(plan: &[u32], seat: Seat, sizes: Sizes, frame: Frame) -> Passed {
+fn pass(plan: Words, seat: Seat, sizes: Sizes, frame: Words) -> Passed {
+    let words = plan.words;
     let cells = seat.cells;
     let queue = seat.queue;
-    let words = frame.words;
-    pass_with(plan, seat.state, cells, queue, sizes, words, frame.len)
+    let received = frame.words;
+    pass_with(
+        words,
+        plan.len,
+        seat.state,
+        cells,
+        queue,
+        sizes,
+        received,
+        frame.len,
+    )
 }
 
-// The same of the seat's and the frame's parts.
+// The same of the parts.
 fn pass_with(
-    plan: &[u32],
+    words: [u32; 6405],
+    len: usize,
     state: Desk,
     book: [u32; 1025],
     queue: [Request; 33],
     sizes: Sizes,
-    words: [u32; 6405],
-    len: usize,
+    received: [u32; 6405],
+    handed: usize,
 ) -> Passed {
-    let lent = plans::at_most(sizes.cells, 1025);
-    let size = plans::at_most(sizes.queue, 33);
-    let outgoing = plans::at_most(sizes.out, 6405);
-    let answers = plans::at_most(sizes.replies, 97);
-    let received = plans::at_most(len, 6405);
+    let count = lent::at_most(len, 6405);
+    let cells_lent = lent::at_most(sizes.cells, 1025);
+    let size = lent::at_most(sizes.queue, 33);
+    let outgoing = lent::at_most(sizes.out, 6405);
+    let answers = lent::at_most(sizes.replies, 97);
+    let taken = lent::at_most(handed, 6405);
     let mut cells = book;
-    let mut out = [plans::MARK; 6405];
-    let mut replies = [plans::MARK; 97];
+    let mut out = [lent::MARK; 6405];
+    let mut replies = [lent::MARK; 97];
     let result = harness::visit_of(
-        plan,
+        &words[..count],
         state,
-        &mut cells[..lent],
+        &mut cells[..cells_lent],
         queue,
         size,
-        &words[..received],
+        &received[..taken],
         &mut out[..outgoing],
         &mut replies[..answers],
     );
@@ -91,14 +104,10 @@ fn after_pass(
 }
 
 // Writes what visits which desk, and with what lent.
-fn announce(seat: Seat, sizes: Sizes, frame: Frame) {
-    let words = frame.words;
+fn announce(seat: Seat, sizes: Sizes, frame: Words) {
     text::text(b"visit of");
-    text::words(&words, frame.len);
-    text::text(b" at");
-    seat::write_state(seat.state);
-    text::number(b", book ", sizes.cells as u64);
-    text::number(b", row ", sizes.queue as u64);
+    words::write(frame);
+    seat::write_place(seat.state, sizes);
     text::number(b", outgoing ", sizes.out as u64);
     text::number(b", replies ", sizes.replies as u64);
     text::text(b":");
@@ -106,7 +115,7 @@ fn announce(seat: Seat, sizes: Sizes, frame: Frame) {
 
 // Three words for each reply.
 fn reply_words(count: usize) -> usize {
-    plans::at_most(count, 32) * 3
+    lent::at_most(count, 32) * 3
 }
 
 // Writes the frame that is sent and the replies, and how many of the other words that were lent are touched.
@@ -118,12 +127,24 @@ fn write_passed(words: usize, count: usize, out: [u32; 6405], replies: [u32; 97]
     text::words(&out, words);
     text::text(b"; replies");
     text::words(&replies, answers);
-    text::number(b"; others touched ", plans::touched(&out, words) as u64);
-    text::number(b" and ", plans::touched(&replies, answers) as u64);
+    text::number(b"; others touched ", lent::touched(&out, words) as u64);
+    text::number(b" and ", lent::touched(&replies, answers) as u64);
 }
 
-// The line of a visit.
-pub fn visit_line(tally: Tally, plan: &[u32], seat: Seat, sizes: Sizes, frame: Frame) -> Sent {
+// How many words lent for the frame and the replies are touched.
+fn all_touched(out: [u32; 6405], replies: [u32; 97]) -> u32 {
+    std::num::wrapping_add_u32(lent::touched(&out, 0), lent::touched(&replies, 0))
+}
+
+// The line of a visit. The frame that was last sent stays so unless this visit sends one.
+pub fn visit_line(
+    tally: Tally,
+    plan: Words,
+    seat: Seat,
+    sizes: Sizes,
+    sent: Words,
+    frame: Words,
+) -> Sent {
     announce(seat, sizes, frame);
     let passed = pass(plan, seat, sizes, frame);
     let after = passed.seat;
@@ -131,32 +152,22 @@ pub fn visit_line(tally: Tally, plan: &[u32], seat: Seat, sizes: Sizes, frame: F
     let out = passed.out;
     let replies = passed.replies;
     let mut question: u32 = 0;
-    let mut len: usize = 0;
+    let mut next = sent;
     match answer {
         VisitAnswer::Passed(words, count) => {
             write_passed(words, count, out, replies);
-            len = words;
+            next = words::first(out, words);
         }
         VisitAnswer::Refused(number) => {
             question = number;
         }
     }
-    let touched = std::num::wrapping_add_u32(plans::touched(&out, 0), plans::touched(&replies, 0));
+    let touched = all_touched(out, replies);
     let changed = std::num::wrapping_add_u32(changes::changes(seat, after), touched);
     let ended = tally::ended(tally, question, changed);
-    let sent = Frame {
-        words: out,
-        len: len,
-    };
     Sent {
         tally: ended,
         seat: after,
-        frame: sent,
+        frame: next,
     }
-}
-
-// The line of a visit after which the seat is not needed.
-pub fn try_line(tally: Tally, plan: &[u32], seat: Seat, sizes: Sizes, frame: Frame) -> Tally {
-    let sent = visit_line(tally, plan, seat, sizes, frame);
-    sent.tally
 }

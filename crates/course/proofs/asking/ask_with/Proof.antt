@@ -7,30 +7,41 @@ use borrow.Author.Needs.{needs}
 use Rattle.course.proofs.asking.ask_with.Statement.{statement}
 use Rattle.course.proofs.asking.ask_with.Tie as tie
 
--- src/asking.rt:42:9
+-- src/asking.rt:45:9
 at-most-requires : tie.Need-at-most-requires
 at-most-requires c κs = search needs
 
--- src/asking.rt:43:9
+-- src/asking.rt:46:9
 at-most-requires-2 : tie.Need-at-most-requires-2
 at-most-requires-2 c κs = search needs
 
--- src/asking.rt:44:9
+-- src/asking.rt:47:9
+at-most-requires-3 : tie.Need-at-most-requires-3
+at-most-requires-3 c κs = search needs
+
+-- src/asking.rt:48:9
 params-requires : tie.Need-params-requires
 params-requires c κs = search needs
 
--- src/asking.rt:49:9
-array-borrow-prefix-cells : tie.Need-array-borrow-prefix-cells
-array-borrow-prefix-cells c = search needs
+-- src/asking.rt:51:9
+array-share-prefix-words : tie.Need-array-share-prefix-words
+array-share-prefix-words c = search needs
 
 slice-aggregate-request-of : tie.Need-slice-aggregate-request-of
 slice-aggregate-request-of c = sym (length-take-le _ _ (omega arith))
 
--- src/asking.rt:46:9
+-- src/asking.rt:53:9
+array-borrow-prefix-cells : tie.Need-array-borrow-prefix-cells
+array-borrow-prefix-cells c = search needs
+
+slice-aggregate-request-of-2 : tie.Need-slice-aggregate-request-of-2
+slice-aggregate-request-of-2 c = sym (length-take-le _ _ (omega arith))
+
+-- src/asking.rt:50:9
 request-of-requires : tie.Need-request-of-requires
 request-of-requires c κs = search needs
 
--- src/asking.rt:34:1
+-- src/asking.rt:36:1
 returns : tie.Need-returns
 returns c = search needs
 
@@ -40,8 +51,11 @@ ask-with-spec =
     (tie.spec
     at-most-requires
     at-most-requires-2
+    at-most-requires-3
     params-requires
-    array-borrow-prefix-cells
+    array-share-prefix-words
     slice-aggregate-request-of
+    array-borrow-prefix-cells
+    slice-aggregate-request-of-2
     request-of-requires
     returns)

@@ -1,8 +1,7 @@
 -- `harness::visit_of` meets its contract: a walk of its MIR, by hand, with no branch. All that it knows of `conveyor::visit` is that it
 -- meets its contract.
--- The queue is copied into a local, whose first records are lent as a `&` for a lifetime that is made for the call (`PartLent.antt`). plan
--- and frame are `&`, which is Copy: one copy goes to the call, and the other is kept for the exit. cells, out and replies go to the call
--- for good.
+-- The queue is copied into a local, whose first records are lent as a `&` for a lifetime that is made for the call (`PartLent.antt`).
+-- plan and frame are `&`, which is Copy: a copy of each is kept for the exit. cells, out and replies go to the call for good.
 -- In the comments below L stands for the eighteen locals, `_17` first, each with the fact that it dies, and L′ for L without `_9`, whose
 -- records are lent.
 -- Assumes nothing.
@@ -64,18 +63,13 @@ use Rattle.harness.proofs.lending.visit_of.Key.{name as #harness·lendi
 use Rattle.harness.proofs.lending.visit_of as visit-of
 use Rattle.harness.proofs.lending.visit_of.Statement as stated
 use Rattle.harness.proofs.lending.visit_of.Code as code
-use Rattle.harness.proofs.lending.visit_of.Proof.Ends.{Entry, Fits, stayed, lfts, shares, args, vals, flat, Says, Post, exits}
+use Rattle.harness.proofs.lending.visit_of.Proof.Ends.{Entry, Fits, count, front, stayed, lfts}
+use Rattle.harness.proofs.lending.visit_of.Proof.Ends.{shares, args, vals, flat, Says, Post, exits}
 use Rattle.harness.proofs.lending.visit_of.Proof.Call.{Called, Tokens, callLfts, call-args, to-call, goes-call}
 
 module _ {M : Type 1} (𝓤 : URA M) (H : Heap 𝓤) (A : Atoms 𝓤) (W : Given 𝓤 H A) (mem : Memory → SProp 𝓤) (run : Routine → Fun 𝓤)
     (𝓣 : Tables 𝓤 H) (known : Triple 𝓤 (𝓣 .C #conveyor·visit) (Called 𝓤 H A mem run)) where
   module _ (x : Entry) (f : Fits x) where
-    count : length (x .queue) ≡ 33
-    count = queue-length (x .queue) (x .queueVal ∷ []) (f .queue)
-
-    front : length (take (x .size) (x .queue)) ≡ x .size
-    front = front-length (x .size) (x .queue) count (f .within)
-
     walk : Room u32 (length (x .plan .now)) → Room u32 (length (x .cells .now)) → Room u32 (length (x .frame .now))
         → Room u32 (length (x .out .now)) → Room u32 (length (x .replies .now))
         → ent 𝓤 (onEntry 𝓤 H A visit-of.signature (lfts x) (shares x) (args x) (vals x))
@@ -110,7 +104,7 @@ module _ {M : Type 1} (𝓤 : URA M) (H : Heap 𝓤) (A : Atoms 𝓤) (W : Given
         assigns ! (agg ! (and-then ! (load ! (from ! (stop !)) (look ! 10 refl))
         (and-then ! (load ! (from ! (stop !)) (look ! 24 refl)) (no-more !)))) (from ! (stop !))
         (init ! 8 refl (tt, (tt, (record { fits = f .size }, tt)))) $
-        rewrite ! 8 (λ (k : ℕ). ‵ (fat fullShare (queueTy erased imm) l₁₃ 0 (sliceVal (l₉, 0) k))) (sym front) refl $
+        rewrite ! 8 (λ (k : ℕ). ‵ (fat fullShare (queueTy erased imm) l₁₃ 0 (sliceVal (l₉, 0) k))) (sym (front x f)) refl $
         assigns ! (addr ! (from ! (fld ! refl (hop ! (look-in ! 20 (sub ! 0 refl (whole !))) (stop !))))) (from ! (stop !))
         (init ! 6 refl (tt, tt)) $
         assigns ! (agg ! (and-then ! (load ! (from ! (stop !)) (look ! 6 refl))
@@ -128,7 +122,7 @@ module _ {M : Type 1} (𝓤 : URA M) (H : Heap 𝓤) (A : Atoms 𝓤) (W : Given
         move ! (1 ∷ []) $ split ! $ move ! (1 ∷ []) $ let-go ! $
         -- [the tokens of replies, out, frame, cells, plan; what replies, out, frame, cells, plan own; L]
         move ! (26 ∷ []) $ lends-front-shared T.the-row 33 (x .size) (x .queue) l₉ ! tt tt (request-makes 𝓤 H A W)
-        (front-room (x .size) (x .queue) count (f .within)) (x .queueVal) (f .queue) (λ α δ.
+        (front-room (x .size) (x .queue) (count x f) (f .within)) (x .queueVal) (f .queue) (λ α δ.
         -- [the new token; what the part owns; what is kept of it; the tokens; what replies, out, frame, cells, plan own; L′]
         move ! (12 ∷ []) $ twice u32 ! (x .plan .lft) (refAt (x .plan)) (refVal (x .plan) ∷ []) $
         move ! (12 ∷ []) $ twice u32 ! (x .frame .lft) (refAt (x .frame)) (refVal (x .frame) ∷ []) $
@@ -155,7 +149,7 @@ module _ {M : Type 1} (𝓤 : URA M) (H : Heap 𝓤) (A : Atoms 𝓤) (W : Given
         -- [replies's last list; out's; cells's; the tokens; what frame owns; what plan owns; what is kept; L′]
         land ! (from ! (stop !)) (init ! 40 refl (LL.lawful Out.the-type Out′.the-laws 𝓤 H A W .typed r _ isr .0)) $
         move ! (3 ∷ []) $ split ! $ move ! (1 ∷ []) $ split ! $ move ! (1 ∷ []) $ split ! $ move ! (0 ∷ 9 ∷ []) $
-        ends-front-shared T.the-row 33 (x .size) (x .queue) l₉ ! tt α count (λ w isz.
+        ends-front-shared T.the-row 33 (x .size) (x .queue) l₉ ! tt α (count x f) (λ w isz.
         -- [_9; the tokens of frame, out, replies; cells's; plan's; replies's last list; out's; cells's; what frame and plan own; L′]
         returns ! (look ! 42 refl) $
         forget ! 0 refl $ forget ! 9 refl $ forget ! 11 refl $ forget ! 13 refl $ forget ! 15 refl $ forget ! 17 refl $

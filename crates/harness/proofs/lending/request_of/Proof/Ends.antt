@@ -35,7 +35,7 @@ use Rattle.conveyor.proofs.Lent.{Lent, Params, refAt, refVal, token, Reads, des
 use Rattle.harness.specs.declared.lending.Requested.{Requested}
 use Rattle.harness.proofs.lending.Requested as Out
 use Rattle.harness.proofs.lending.Requested.Laws as Out′
-use Rattle.harness.proofs.Queued.{Queue, queue-makes, queue-field}
+use Rattle.harness.proofs.Queued.{Queue, queue-length, front-length, queue-makes, queue-field}
 use Rattle.harness.proofs.lending.request_of as request-of
 
 abbrev pub stayed : Stays (request-of.ended .signature .params) (request-of.ended .kept)
@@ -78,6 +78,13 @@ pub record Fits (x : Entry) : Type 0 where
   pub client : x .client < 2 ^ 32
   pub transaction : x .transaction < 2 ^ 32
   pub params : Is Params (x .params) (x .paramsVal ∷ [])
+
+-- the queue has 33 records, and as many are lent as are asked for
+pub count : (x : Entry) → Fits x → length (x .queue) ≡ 33
+count x f = queue-length (x .queue) (x .queueVal ∷ []) (f .queue)
+
+pub front : (x : Entry) → Fits x → length (take (x .size) (x .queue)) ≡ x .size
+front x f = front-length (x .size) (x .queue) (count x f) (f .within)
 
 module _ (x : Entry) where
   abbrev pub lfts : Lft × (Lft × Unit {0})

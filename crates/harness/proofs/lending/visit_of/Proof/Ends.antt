@@ -33,7 +33,7 @@ use Rattle.conveyor.proofs.desk.Desk as D
 use Rattle.conveyor.proofs.visiting.VisitResult as Out
 use Rattle.conveyor.proofs.visiting.VisitResult.Laws as Out′
 use Rattle.conveyor.proofs.Lent.{Lent, refAt, refVal, token, Reads, deskVal, desk-makes, size-makes}
-use Rattle.harness.proofs.Queued.{Queue, queue-makes}
+use Rattle.harness.proofs.Queued.{Queue, queue-length, front-length, queue-makes}
 use Rattle.harness.proofs.lending.visit_of as visit-of
 
 abbrev pub stayed : Stays (visit-of.ended .signature .params) (visit-of.ended .kept)
@@ -75,6 +75,13 @@ pub record Fits (x : Entry) : Type 0 where
   pub queue : Is Queue (x .queue) (x .queueVal ∷ [])
   pub size : x .size < 2 ^ 64
   pub within : x .size ≤ 33
+
+-- the queue has 33 records, and as many are lent as are asked for
+pub count : (x : Entry) → Fits x → length (x .queue) ≡ 33
+count x f = queue-length (x .queue) (x .queueVal ∷ []) (f .queue)
+
+pub front : (x : Entry) → Fits x → length (take (x .size) (x .queue)) ≡ x .size
+front x f = front-length (x .size) (x .queue) (count x f) (f .within)
 
 module _ (x : Entry) where
   abbrev pub lfts : Lft × (Lft × (Lft × (Lft × (Lft × Unit {0}))))

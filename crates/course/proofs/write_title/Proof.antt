@@ -1,0 +1,72 @@
+-- `course::write_title` is safe and ends.
+-- Assumes nothing.
+use Prim.Native.Nat.{_-_, _≤_}
+use lib.ListN.{length}
+use borrow.Author.Needs.{needs}
+use Rattle.course.proofs.write_title.Statement.{statement}
+use Rattle.course.proofs.write_title.Tie as tie
+
+abbrev Inv-loop : tie.InvT-loop
+Inv-loop script from at₀ t4 at = 0 ≤ at
+
+abbrev μ-loop : tie.MeasureT-loop
+μ-loop script from at₀ t4 at = (length script) - at
+
+loop-holds : tie.Need-loop-holds Inv-loop μ-loop
+loop-holds c = search needs
+
+shared-slice-read-ends-line : tie.Need-shared-slice-read-ends-line Inv-loop μ-loop
+shared-slice-read-ends-line c = search needs
+
+ends-line-requires : tie.Need-ends-line-requires Inv-loop μ-loop
+ends-line-requires c κs = search needs
+
+slice-aggregate-text : tie.Need-slice-aggregate-text Inv-loop μ-loop
+slice-aggregate-text c = search needs
+
+text-requires : tie.Need-text-requires Inv-loop μ-loop
+text-requires c κs = search needs
+
+returns : tie.Need-returns Inv-loop μ-loop
+returns c = search needs
+
+shared-slice-read-t9 : tie.Need-shared-slice-read-t9 Inv-loop μ-loop
+shared-slice-read-t9 c = search needs
+
+slice-aggregate-text-2 : tie.Need-slice-aggregate-text-2 Inv-loop μ-loop
+slice-aggregate-text-2 c = search needs
+
+text-requires-2 : tie.Need-text-requires-2 Inv-loop μ-loop
+text-requires-2 c κs = search needs
+
+add-at : tie.Need-add-at Inv-loop μ-loop
+add-at c = search needs
+
+loop-less : tie.Need-loop-less Inv-loop μ-loop
+loop-less c = search needs
+
+loop-again : tie.Need-loop-again Inv-loop μ-loop
+loop-again c = search needs
+
+returns-2 : tie.Need-returns-2 Inv-loop μ-loop
+returns-2 c = search needs
+
+pub write-title-spec : {M : Type 1} → statement M
+write-title-spec =
+    tie.close
+    (tie.spec
+    Inv-loop
+    μ-loop
+    loop-holds
+    shared-slice-read-ends-line
+    ends-line-requires
+    slice-aggregate-text
+    text-requires
+    returns
+    shared-slice-read-t9
+    slice-aggregate-text-2
+    text-requires-2
+    add-at
+    loop-less
+    loop-again
+    returns-2)
