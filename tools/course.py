@@ -59,7 +59,7 @@ def state_text(state):
     return " desk %d, waiting %d, awaits %d" % state
 
 
-class Seat:
+class Holding:
     """A desk's state, its book and its row, one cell and one record longer than the paper's."""
 
     def __init__(self, desk, waiting, awaited, number=0):
@@ -68,7 +68,7 @@ class Seat:
         self.queue = [BLANK] * 33
 
     def copy(self):
-        other = Seat(*self.state)
+        other = Holding(*self.state)
         other.cells, other.queue = list(self.cells), list(self.queue)
         return other
 
@@ -82,12 +82,12 @@ class Seat:
         return text + ("; now" + state_text(self.state) if before.state != self.state else "")
 
 
-class Bench:
+class Setting:
     """What stands between the lines of the script. Each command answers what is asked, and what the model says to it."""
 
     def __init__(self):
         self.plan = Plan([])
-        self.seat, self.other = Seat(0, 0, 0), Seat(0, 0, 0)
+        self.holding, self.other = Holding(0, 0, 0), Holding(0, 0, 0)
         self.sizes = (1024, 32, 6404, 96)
         self.sent = []
 
@@ -142,46 +142,46 @@ class Bench:
 
     def request_command(self, client, transaction, *params):
         cells, row = self.sizes[:2]
-        before, self.seat = self.seat, self.seat.copy()
-        book, queue = self.seat.cells[:cells], self.seat.queue[:row]
-        answer, self.seat.state = request(self.plan, before.state, book, queue, client, transaction, params)
-        self.seat.cells[:cells], self.seat.queue[:row] = book, queue
+        before, self.holding = self.holding, self.holding.copy()
+        book, queue = self.holding.cells[:cells], self.holding.queue[:row]
+        answer, self.holding.state = request(self.plan, before.state, book, queue, client, transaction, params)
+        self.holding.cells[:cells], self.holding.queue[:row] = book, queue
         said = " waits"
         if answer[0] == "replied":
             said = " %s, number %d" % ("done" if answer[1] else "declined", answer[2])
         elif answer[0] == "elsewhere":
             said = " elsewhere, desk %d" % answer[1]
         asked = "request%s of client %d at%s" % (operation_text(transaction, params), client, state_text(before.state))
-        return asked + ", book %d, row %d" % (cells, row), answer, said + self.seat.changes(before)
+        return asked + ", book %d, row %d" % (cells, row), answer, said + self.holding.changes(before)
 
     def visit_command(self, words):
         cells, row, outgoing, answers = self.sizes
-        before, self.seat = self.seat, self.seat.copy()
-        book, out, replies = self.seat.cells[:cells], [MARK] * outgoing, [MARK] * answers
-        answer, self.seat.state = visit(self.plan, before.state, book, self.seat.queue[:row], words, out, replies)
-        self.seat.cells[:cells] = book
+        before, self.holding = self.holding, self.holding.copy()
+        book, out, replies = self.holding.cells[:cells], [MARK] * outgoing, [MARK] * answers
+        answer, self.holding.state = visit(self.plan, before.state, book, self.holding.queue[:row], words, out, replies)
+        self.holding.cells[:cells] = book
         said = ""
         if answer[0] == "passed":
             self.sent = out[: answer[1]]
             texts = (words_text(self.sent), words_text(replies[: 3 * answer[2]]))
             said = " passed, words %d, replies %d; sends%s; replies%s; others touched 0 and 0" % (answer[1:] + texts)
         asked = "visit of%s at%s" % (words_text(words), state_text(before.state))
-        return asked + ", book %d, row %d, outgoing %d, replies %d" % self.sizes, answer, said + self.seat.changes(before)
+        return asked + ", book %d, row %d, outgoing %d, replies %d" % self.sizes, answer, said + self.holding.changes(before)
 
     # What stands between the calls
 
-    def seat_command(self, desk, waiting, awaited, number):
-        self.seat = Seat(desk, waiting, awaited, number)
+    def holding_command(self, desk, waiting, awaited, number):
+        self.holding = Holding(desk, waiting, awaited, number)
 
     def other_command(self):
-        self.seat, self.other = self.other, self.seat
+        self.holding, self.other = self.other, self.holding
 
     def lend_command(self, *sizes):
         self.sizes = sizes
 
     def keep_command(self, start, end, transaction, *params):
         for i in range(start, end):
-            self.seat.queue[i] = Request(i, transaction, *params)
+            self.holding.queue[i] = Request(i, transaction, *params)
 
     def run(self, line):
         name, *tokens = line.split()
@@ -192,13 +192,13 @@ class Bench:
 
 
 def main():
-    bench, pending = Bench(), list(STATED)
+    setting, pending = Setting(), list(STATED)
     checks = refusals = 0
     for line in sys.stdin.read().splitlines():
         if line.startswith("#"):
             print(line[2:])
             continue
-        done = bench.run(line)
+        done = setting.run(line)
         if done is None:
             continue
         asked, answer, said = done

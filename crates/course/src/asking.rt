@@ -1,9 +1,9 @@
 // Requests: one line for each.
 use crate::changes;
+use crate::holding;
+use crate::holding::Holding;
+use crate::holding::Sizes;
 use crate::lent;
-use crate::seat;
-use crate::seat::Seat;
-use crate::seat::Sizes;
 use crate::tally;
 use crate::tally::Tally;
 use crate::text;
@@ -12,24 +12,24 @@ use conveyor::Desk;
 use conveyor::RequestAnswer;
 use queue::Request;
 
-// The answer to a request, and the seat after it.
+// The answer to a request, and the holding after it.
 struct Asked {
     answer: RequestAnswer,
-    seat: Seat,
+    holding: Holding,
 }
 
-// The seat after a line, and the tally.
+// The holding after a line, and the tally.
 pub struct Told {
     pub tally: Tally,
-    pub seat: Seat,
+    pub holding: Holding,
 }
 
 // The request, with as much lent as the sizes say.
-fn ask(plan: Words, seat: Seat, sizes: Sizes, request: Request) -> Asked {
+fn ask(plan: Words, holding: Holding, sizes: Sizes, request: Request) -> Asked {
     let words = plan.words;
-    let cells = seat.cells;
-    let row = seat.queue;
-    ask_with(words, plan.len, seat.state, cells, row, sizes, request)
+    let cells = holding.cells;
+    let row = holding.queue;
+    ask_with(words, plan.len, holding.state, cells, row, sizes, request)
 }
 
 // The same of the parts.
@@ -61,23 +61,23 @@ fn ask_with(
     let next = result.state;
     let answer = result.answer;
     let queue = asked.queue;
-    let after = Seat {
+    let after = Holding {
         state: next,
         cells: cells,
         queue: queue,
     };
     Asked {
         answer: answer,
-        seat: after,
+        holding: after,
     }
 }
 
 // Writes what is asked, of which desk and with what lent.
-fn announce(seat: Seat, sizes: Sizes, request: Request) {
+fn announce(holding: Holding, sizes: Sizes, request: Request) {
     text::text(b"request");
     text::operation(request.transaction, queue::params(request));
     text::number(b" of client ", request.client as u64);
-    seat::write_place(seat.state, sizes);
+    holding::write_place(holding.state, sizes);
     text::text(b":");
 }
 
@@ -106,16 +106,22 @@ fn write_answer(answer: RequestAnswer) -> u32 {
 }
 
 // The line of a request.
-pub fn request_line(tally: Tally, plan: Words, seat: Seat, sizes: Sizes, request: Request) -> Told {
-    announce(seat, sizes, request);
-    let asked = ask(plan, seat, sizes, request);
-    let after = asked.seat;
+pub fn request_line(
+    tally: Tally,
+    plan: Words,
+    holding: Holding,
+    sizes: Sizes,
+    request: Request,
+) -> Told {
+    announce(holding, sizes, request);
+    let asked = ask(plan, holding, sizes, request);
+    let after = asked.holding;
     let answer = asked.answer;
     let question = write_answer(answer);
-    let changed = changes::changes(seat, after);
+    let changed = changes::changes(holding, after);
     let ended = tally::ended(tally, question, changed);
     Told {
         tally: ended,
-        seat: after,
+        holding: after,
     }
 }

@@ -1,6 +1,6 @@
 // What a call changed: each change is written, and they are counted.
-use crate::seat;
-use crate::seat::Seat;
+use crate::holding;
+use crate::holding::Holding;
 use crate::text;
 use conveyor::Desk;
 use queue::Request;
@@ -15,7 +15,7 @@ fn state_changes(before: Desk, after: Desk) -> u32 {
         }
     }
     text::text(b"; now");
-    seat::write_state(after);
+    holding::write_state(after);
     1
 }
 
@@ -73,8 +73,8 @@ fn record_changes(before: [Request; 33], after: [Request; 33]) -> u32 {
     found
 }
 
-// All changes of a seat.
-pub fn changes(before: Seat, after: Seat) -> u32 {
+// All changes of a holding.
+pub fn changes(before: Holding, after: Holding) -> u32 {
     let old_cells = before.cells;
     let new_cells = after.cells;
     let old_queue = before.queue;

@@ -1,6 +1,6 @@
 // The calls that are lent nothing to change, and the starting frame: one line for each.
+use crate::holding;
 use crate::lent;
-use crate::seat;
 use crate::tally;
 use crate::tally::Tally;
 use crate::text;
@@ -75,7 +75,7 @@ pub fn desk_line(tally: Tally, plan: Words, desk: u32) -> Tally {
     text::text(b":");
     match opened(all, plan.len, desk) {
         DeskAnswer::Opened(state) => {
-            seat::write_state(state);
+            holding::write_state(state);
             tally::accepted(tally)
         }
         DeskAnswer::Refused(question) => tally::refused(tally, question, 0),

@@ -1,9 +1,9 @@
 // Visits: one line for each.
 use crate::changes;
+use crate::holding;
+use crate::holding::Holding;
+use crate::holding::Sizes;
 use crate::lent;
-use crate::seat;
-use crate::seat::Seat;
-use crate::seat::Sizes;
 use crate::tally;
 use crate::tally::Tally;
 use crate::text;
@@ -14,31 +14,31 @@ use conveyor::VisitAnswer;
 use conveyor::VisitResult;
 use queue::Request;
 
-// The answer to a visit, the seat after it, and the words lent for the frame and the replies.
+// The answer to a visit, the holding after it, and the words lent for the frame and the replies.
 struct Passed {
     answer: VisitAnswer,
-    seat: Seat,
+    holding: Holding,
     out: [u32; 6405],
     replies: [u32; 97],
 }
 
-// The tally and the seat after a line, and the frame that was sent.
+// The tally and the holding after a line, and the frame that was sent.
 pub struct Sent {
     pub tally: Tally,
-    pub seat: Seat,
+    pub holding: Holding,
     pub frame: Words,
 }
 
 // The visit, with as much lent as the sizes say. The words lent for the frame and the replies hold the mark.
-fn pass(plan: Words, seat: Seat, sizes: Sizes, frame: Words) -> Passed {
+fn pass(plan: Words, holding: Holding, sizes: Sizes, frame: Words) -> Passed {
     let words = plan.words;
-    let cells = seat.cells;
-    let queue = seat.queue;
+    let cells = holding.cells;
+    let queue = holding.queue;
     let received = frame.words;
     pass_with(
         words,
         plan.len,
-        seat.state,
+        holding.state,
         cells,
         queue,
         sizes,
@@ -90,24 +90,24 @@ fn after_pass(
 ) -> Passed {
     let state = result.state;
     let answer = result.answer;
-    let after = Seat {
+    let after = Holding {
         state: state,
         cells: cells,
         queue: queue,
     };
     Passed {
         answer: answer,
-        seat: after,
+        holding: after,
         out: out,
         replies: replies,
     }
 }
 
 // Writes what visits which desk, and with what lent.
-fn announce(seat: Seat, sizes: Sizes, frame: Words) {
+fn announce(holding: Holding, sizes: Sizes, frame: Words) {
     text::text(b"visit of");
     words::write(frame);
-    seat::write_place(seat.state, sizes);
+    holding::write_place(holding.state, sizes);
     text::number(b", outgoing ", sizes.out as u64);
     text::number(b", replies ", sizes.replies as u64);
     text::text(b":");
@@ -140,14 +140,14 @@ fn all_touched(out: [u32; 6405], replies: [u32; 97]) -> u32 {
 pub fn visit_line(
     tally: Tally,
     plan: Words,
-    seat: Seat,
+    holding: Holding,
     sizes: Sizes,
     sent: Words,
     frame: Words,
 ) -> Sent {
-    announce(seat, sizes, frame);
-    let passed = pass(plan, seat, sizes, frame);
-    let after = passed.seat;
+    announce(holding, sizes, frame);
+    let passed = pass(plan, holding, sizes, frame);
+    let after = passed.holding;
     let answer = passed.answer;
     let out = passed.out;
     let replies = passed.replies;
@@ -163,11 +163,11 @@ pub fn visit_line(
         }
     }
     let touched = all_touched(out, replies);
-    let changed = std::num::wrapping_add_u32(changes::changes(seat, after), touched);
+    let changed = std::num::wrapping_add_u32(changes::changes(holding, after), touched);
     let ended = tally::ended(tally, question, changed);
     Sent {
         tally: ended,
-        seat: after,
+        holding: after,
         frame: next,
     }
 }

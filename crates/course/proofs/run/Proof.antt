@@ -6,10 +6,10 @@ use Rattle.course.proofs.run.Statement.{statement}
 use Rattle.course.proofs.run.Tie as tie
 
 abbrev Inv-loop : tie.InvT-loop
-Inv-loop script bench₀ at₀ -i₀ bench at -i = -i ≤ 1024
+Inv-loop script setting₀ at₀ -i₀ setting at -i = -i ≤ 1024
 
 abbrev μ-loop : tie.MeasureT-loop
-μ-loop script bench₀ at₀ -i₀ bench at -i = 1024 - -i
+μ-loop script setting₀ at₀ -i₀ setting at -i = 1024 - -i
 
 fresh-requires : tie.Need-fresh-requires Inv-loop μ-loop
 fresh-requires c κs = search needs

@@ -1,9 +1,9 @@
--- `course::seat::row_with` is safe and ends.
+-- `course::holding::row_with` is safe and ends.
 -- Assumes nothing.
 use Prim.Native.Nat.{_-_, _≤_}
 use borrow.Author.Needs.{needs}
-use Rattle.course.proofs.seat.row_with.Statement.{statement}
-use Rattle.course.proofs.seat.row_with.Tie as tie
+use Rattle.course.proofs.holding.row_with.Statement.{statement}
+use Rattle.course.proofs.holding.row_with.Tie as tie
 
 abbrev Inv-loop : tie.InvT-loop
 Inv-loop from to transaction params row₀ i₀ row i = i ≤ 33

@@ -4,7 +4,7 @@ use conveyor::Desk;
 use queue::Request;
 
 // A desk's state, its book and its row. One cell and one record more than the paper has, so that too much can be lent.
-pub struct Seat {
+pub struct Holding {
     pub state: Desk,
     pub cells: [u32; 1025],
     pub queue: [Request; 33],
@@ -28,9 +28,9 @@ pub fn state(desk: u32, waiting: u32, awaited: u64) -> Desk {
 }
 
 // A state, a book whose cells all hold this number, and a row of blank records.
-pub fn empty(state: Desk, number: u32) -> Seat {
+pub fn empty(state: Desk, number: u32) -> Holding {
     let none = queue::blank();
-    Seat {
+    Holding {
         state: state,
         cells: [number; 1025],
         queue: [none; 33],
@@ -78,13 +78,19 @@ fn row_with(
     row
 }
 
-// The seat with such a row.
-pub fn with_records(seat: Seat, from: u32, to: u32, transaction: u32, params: [u32; 4]) -> Seat {
-    let state = seat.state;
-    let cells = seat.cells;
-    let queue = seat.queue;
+// The holding with such a row.
+pub fn with_records(
+    holding: Holding,
+    from: u32,
+    to: u32,
+    transaction: u32,
+    params: [u32; 4],
+) -> Holding {
+    let state = holding.state;
+    let cells = holding.cells;
+    let queue = holding.queue;
     let row = row_with(queue, from, to, transaction, params);
-    Seat {
+    Holding {
         state: state,
         cells: cells,
         queue: row,
