@@ -1,4 +1,5 @@
-// A second model of the engine, written from the paper and sharing no code with the engine. Everything lies in flat slices of words.
+// A second model of the engine, written from the paper and sharing no code with the engine. Plan, marks and log lie in one slice of
+// 19,458 words, the tables.
 mod class;
 mod decode;
 mod desk;

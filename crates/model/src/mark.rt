@@ -1,5 +1,6 @@
 // Who may touch and who may write each cell, found by trying operations. Behind the decoded plan the tables have 8 words a cell for
-// touching, one for each desk, 1 if marked, and as many for writing: 18,434 words in all.
+// touching, one for each desk, 1 if marked, and as many for writing; the log of a history
+// comes after them at word 18,434.
 use crate::decode::desks_of;
 use crate::decode::on_cell;
 use crate::decode::partitioning;
@@ -81,13 +82,18 @@ fn try_rows(tables: &mut [u32], k: usize, j: usize) {
     }
 }
 
-// Tries every step of transaction k that reads or writes.
+// Tries a step if it reads or writes.
+fn try_step(tables: &mut [u32], k: usize, j: usize) {
+    if on_cell(tables, k, j) {
+        try_rows(tables, k, j);
+    }
+}
+
+// Tries every step of transaction k.
 fn try_steps(tables: &mut [u32], k: usize) {
     let end = steps(tables, k) as usize;
     for j in 0..end {
-        if on_cell(tables, k, j) {
-            try_rows(tables, k, j);
-        }
+        try_step(tables, k, j);
     }
 }
 
