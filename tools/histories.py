@@ -100,7 +100,7 @@ def operand_step(rng, kind, params):
     source, fixed = 7, rng.draw(8)
     if rng.draw(16) == 0:
         fixed = rng.draw(16777216)
-    if params > 0 and rng.draw(2) == 0:
+    if params > 0 and rng.draw(2) > 0:
         source, fixed = rng.draw(params), 0
     return (kind << 28) + (source << 25) + fixed
 

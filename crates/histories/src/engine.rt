@@ -1,0 +1,287 @@
+// The engine's calls on its side.
+use crate::side::awaited_at;
+use crate::side::book_place;
+use crate::side::put_answer;
+use crate::side::put_state;
+use crate::side::record_place;
+use crate::side::Answered;
+use crate::side::HANDED;
+use crate::side::OUT;
+use crate::side::REPLIES;
+use crate::world::load;
+use crate::world::params_at;
+use crate::world::store;
+use crate::world::BOOK_SIZE;
+use crate::world::CLIENT;
+use crate::world::DESK;
+use crate::world::FRAME;
+use crate::world::FRAME_WORDS;
+use crate::world::OUT_SIZE;
+use crate::world::PARAMS;
+use crate::world::PLAN;
+use crate::world::PLAN_WORDS;
+use crate::world::RECORDS;
+use crate::world::REPLY_SIZE;
+use crate::world::TRANSACTION;
+use conflict::ClassAnswer;
+use conveyor::Desk;
+use conveyor::DeskAnswer;
+use conveyor::RequestAnswer;
+use conveyor::VisitAnswer;
+use conveyor::VisitResult;
+use harness::Requested;
+use model::get;
+use model::narrow;
+use model::next;
+use model::put;
+use model::ELSEWHERE;
+use model::FREE;
+use model::GLOBAL;
+use model::LOCAL;
+use model::PASSED;
+use model::REFUSED;
+use model::REPLIED;
+use model::WAITS;
+use queue::Request;
+
+// The plan's words.
+fn plan_of(world: &[u32]) -> &[u32] {
+    let end = PLAN + (get(world, PLAN_WORDS) % 512) as usize;
+    if end <= world.len() { &world[PLAN..end] } else { &world[..0] }
+}
+
+// The frame's words.
+fn frame_of(world: &[u32]) -> &[u32] {
+    let end = FRAME + (get(world, FRAME_WORDS) % 8192) as usize;
+    if end <= world.len() { &world[FRAME..end] } else { &world[..0] }
+}
+
+// A refusal as an answer.
+fn refused(question: u32) -> Answered {
+    Answered { tag: REFUSED, first: question, second: 0 }
+}
+
+// The state that is handed in.
+fn handed(side: &[u32]) -> Desk {
+    Desk { desk: get(side, HANDED), waiting: get(side, HANDED + 1), awaited: awaited_at(side, HANDED) }
+}
+
+// Record i of a desk's row.
+fn record(side: &[u32], desk: u32, i: usize) -> Request {
+    Request {
+        client: get(side, record_place(desk, i, 0)),
+        transaction: get(side, record_place(desk, i, 1)),
+        p0: get(side, record_place(desk, i, 2)),
+        p1: get(side, record_place(desk, i, 3)),
+        p2: get(side, record_place(desk, i, 4)),
+        p3: get(side, record_place(desk, i, 5)),
+    }
+}
+
+// The records of a desk's row, with one more.
+fn records(side: &[u32], desk: u32) -> [Request; 33] {
+    let mut row = [queue::blank(); 33];
+    for i in 0..33usize {
+        row[i] = record(side, desk, i);
+    }
+    row
+}
+
+// Stores record i of a desk's row.
+fn put_record(side: &mut [u32], desk: u32, i: usize, request: Request) {
+    put(side, record_place(desk, i, 0), request.client);
+    put(side, record_place(desk, i, 1), request.transaction);
+    put(side, record_place(desk, i, 2), request.p0);
+    put(side, record_place(desk, i, 3), request.p1);
+    put(side, record_place(desk, i, 4), request.p2);
+    put(side, record_place(desk, i, 5), request.p3);
+}
+
+// Stores the records of a desk's row.
+fn put_records(side: &mut [u32], desk: u32, row: [Request; 33]) {
+    for i in 0..33usize {
+        put_record(side, desk, i, row[i]);
+    }
+}
+
+// The plan reader's answer: 0 or the question.
+pub fn verdict(world: &[u32]) -> u32 {
+    let answer = plan::read_plan(plan_of(world));
+    match answer {
+        plan::PlanAnswer::Accepted => 0,
+        plan::PlanAnswer::Refused(question) => question,
+    }
+}
+
+// The classifier's answer.
+pub fn class_answer(world: &[u32]) -> Answered {
+    let answer = conflict::classify(plan_of(world), get(world, TRANSACTION), params_at(world, PARAMS));
+    match answer {
+        ClassAnswer::Free => Answered { tag: FREE, first: 0, second: 0 },
+        ClassAnswer::Local(desk) => Answered { tag: LOCAL, first: desk, second: 0 },
+        ClassAnswer::Global(desk) => Answered { tag: GLOBAL, first: desk, second: 0 },
+        ClassAnswer::Refused(question) => refused(question),
+    }
+}
+
+// Classifies the operation at hand.
+pub fn classify(world: &[u32], side: &mut [u32]) {
+    put_answer(side, class_answer(world));
+}
+
+// A new desk, whose state is handed back.
+pub fn new_desk(world: &[u32], side: &mut [u32]) {
+    let answer = conveyor::new_desk(plan_of(world), get(world, DESK));
+    match answer {
+        DeskAnswer::Opened(state) => {
+            put_state(side, HANDED, state.desk, state.waiting, state.awaited);
+            put_answer(side, Answered { tag: REPLIED, first: 0, second: 0 });
+        }
+        DeskAnswer::Refused(question) => put_answer(side, refused(question)),
+    }
+}
+
+// The starting frame in a buffer of some size.
+fn start(out: &mut [u32], size: usize) -> Answered {
+    if size > out.len() {
+        return refused(0);
+    }
+    let answer = token::starting_frame(&mut out[..size]);
+    match answer {
+        token::StartAnswer::Written => Answered { tag: REPLIED, first: 0, second: 0 },
+        token::StartAnswer::Refused(question) => refused(question),
+    }
+}
+
+// The starting frame in the outgoing buffer.
+pub fn starting_frame(world: &[u32], side: &mut [u32]) {
+    let mut out = [0u32; 16];
+    load(side, OUT, &mut out);
+    let answer = start(&mut out, get(world, OUT_SIZE) as usize);
+    store(side, OUT, &out);
+    put_answer(side, answer);
+}
+
+// The frame reader's second call.
+pub fn frame_visit(world: &[u32], side: &mut [u32]) {
+    let answer = token::frame_visit(plan_of(world), frame_of(world));
+    match answer {
+        token::VisitAnswer::Visit(number) => put_answer(side, Answered { tag: REPLIED, first: number, second: 0 }),
+        token::VisitAnswer::Refused(question) => put_answer(side, refused(question)),
+    }
+}
+
+// The frame reader's first call: the words that it gives back go into the outgoing buffer, and their number is the second answer.
+pub fn read_frame(world: &[u32], side: &mut [u32]) {
+    let words = token::read_frame(plan_of(world), frame_of(world));
+    store(side, OUT, words);
+    put(side, 2, narrow(words.len()));
+}
+
+// A request's answer.
+fn request_answer(answer: RequestAnswer) -> Answered {
+    match answer {
+        RequestAnswer::Replied(reply) => {
+            let done: u32 = if reply.done { 1 } else { 0 };
+            Answered { tag: REPLIED, first: done, second: reply.number }
+        }
+        RequestAnswer::Waits => Answered { tag: WAITS, first: 0, second: 0 },
+        RequestAnswer::Elsewhere(desk) => Answered { tag: ELSEWHERE, first: desk, second: 0 },
+        RequestAnswer::Refused(question) => refused(question),
+    }
+}
+
+// Notes what a request answers: answer, state and row.
+fn put_requested(side: &mut [u32], desk: u32, requested: Requested) {
+    let result = requested.result;
+    let state = result.state;
+    let row = requested.queue;
+    let answer = result.answer;
+    put_state(side, HANDED, state.desk, state.waiting, state.awaited);
+    put_records(side, desk, row);
+    put_answer(side, request_answer(answer));
+}
+
+// A request with a book of the size at hand, of which more words are there.
+fn request_on(world: &[u32], side: &mut [u32], cells: &mut [u32]) {
+    let size = get(world, BOOK_SIZE) as usize;
+    let lent = get(world, RECORDS) as usize;
+    if size > cells.len() {
+        return;
+    }
+    if lent > 33 {
+        return;
+    }
+    let desk = get(world, DESK);
+    let params = params_at(world, PARAMS);
+    let state = handed(side);
+    let row = records(side, desk);
+    let plan = plan_of(world);
+    let client = get(world, CLIENT);
+    let transaction = get(world, TRANSACTION);
+    let requested = harness::request_of(plan, state, &mut cells[..size], row, lent, client, transaction, params);
+    put_requested(side, desk, requested);
+}
+
+// A request.
+pub fn request(world: &[u32], side: &mut [u32]) {
+    let at = book_place(get(world, DESK));
+    let mut cells = [0u32; 1025];
+    load(side, at, &mut cells);
+    request_on(world, side, &mut cells);
+    store(side, at, &cells);
+}
+
+// Notes what a visit answers: answer and state.
+fn put_visited(side: &mut [u32], result: VisitResult) {
+    let state = result.state;
+    let answer = result.answer;
+    put_state(side, HANDED, state.desk, state.waiting, state.awaited);
+    match answer {
+        VisitAnswer::Passed(words, replies) => {
+            put_answer(side, Answered { tag: PASSED, first: narrow(words), second: narrow(replies) })
+        }
+        VisitAnswer::Refused(question) => put_answer(side, refused(question)),
+    }
+}
+
+// A visit with buffers of the sizes at hand, of which more words are there.
+fn visit_on(world: &[u32], side: &mut [u32], cells: &mut [u32], out: &mut [u32], replies: &mut [u32]) {
+    let size = get(world, BOOK_SIZE) as usize;
+    let lent = get(world, RECORDS) as usize;
+    let out_size = get(world, OUT_SIZE) as usize;
+    let reply_size = get(world, REPLY_SIZE) as usize;
+    if size > cells.len() {
+        return;
+    }
+    if lent > 33 {
+        return;
+    }
+    if out_size > out.len() {
+        return;
+    }
+    if reply_size > replies.len() {
+        return;
+    }
+    let state = handed(side);
+    let row = records(side, get(world, DESK));
+    let plan = plan_of(world);
+    let frame = frame_of(world);
+    let result = harness::visit_of(plan, state, &mut cells[..size], row, lent, frame, &mut out[..out_size], &mut replies[..reply_size]);
+    put_visited(side, result);
+}
+
+// A visit.
+pub fn visit(world: &[u32], side: &mut [u32]) {
+    let at = book_place(get(world, DESK));
+    let mut cells = [0u32; 1025];
+    let mut out = [0u32; 6416];
+    let mut replies = [0u32; 100];
+    load(side, at, &mut cells);
+    load(side, OUT, &mut out);
+    load(side, REPLIES, &mut replies);
+    visit_on(world, side, &mut cells, &mut out, &mut replies);
+    store(side, at, &cells);
+    store(side, OUT, &out);
+    store(side, REPLIES, &replies);
+}
