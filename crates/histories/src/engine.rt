@@ -8,18 +8,16 @@ use crate::side::Answered;
 use crate::side::HANDED;
 use crate::side::OUT;
 use crate::side::REPLIES;
+use crate::world::frame_of;
 use crate::world::load;
 use crate::world::params_at;
+use crate::world::plan_of;
 use crate::world::store;
 use crate::world::BOOK_SIZE;
 use crate::world::CLIENT;
 use crate::world::DESK;
-use crate::world::FRAME;
-use crate::world::FRAME_WORDS;
 use crate::world::OUT_SIZE;
 use crate::world::PARAMS;
-use crate::world::PLAN;
-use crate::world::PLAN_WORDS;
 use crate::world::RECORDS;
 use crate::world::REPLY_SIZE;
 use crate::world::TRANSACTION;
@@ -32,7 +30,6 @@ use conveyor::VisitResult;
 use harness::Requested;
 use model::get;
 use model::narrow;
-use model::next;
 use model::put;
 use model::ELSEWHERE;
 use model::FREE;
@@ -43,18 +40,6 @@ use model::REFUSED;
 use model::REPLIED;
 use model::WAITS;
 use queue::Request;
-
-// The plan's words.
-fn plan_of(world: &[u32]) -> &[u32] {
-    let end = PLAN + (get(world, PLAN_WORDS) % 512) as usize;
-    if end <= world.len() { &world[PLAN..end] } else { &world[..0] }
-}
-
-// The frame's words.
-fn frame_of(world: &[u32]) -> &[u32] {
-    let end = FRAME + (get(world, FRAME_WORDS) % 8192) as usize;
-    if end <= world.len() { &world[FRAME..end] } else { &world[..0] }
-}
 
 // A refusal as an answer.
 fn refused(question: u32) -> Answered {
@@ -146,7 +131,11 @@ fn start(out: &mut [u32], size: usize) -> Answered {
     if size > out.len() {
         return refused(0);
     }
-    let answer = token::starting_frame(&mut out[..size]);
+    start_answer(token::starting_frame(&mut out[..size]))
+}
+
+// The answer to a call for the starting frame.
+fn start_answer(answer: token::StartAnswer) -> Answered {
     match answer {
         token::StartAnswer::Written => Answered { tag: REPLIED, first: 0, second: 0 },
         token::StartAnswer::Refused(question) => refused(question),

@@ -137,6 +137,18 @@ pub fn params_at(world: &[u32], at: usize) -> [u32; 4] {
     [get(world, at), get(world, next(at)), get(world, next(next(at))), get(world, next(next(next(at))))]
 }
 
+// The plan's words.
+pub fn plan_of(world: &[u32]) -> &[u32] {
+    let end = PLAN + (get(world, PLAN_WORDS) % 512) as usize;
+    if end <= world.len() { &world[PLAN..end] } else { &world[..0] }
+}
+
+// The words of the frame at hand.
+pub fn frame_of(world: &[u32]) -> &[u32] {
+    let end = FRAME + (get(world, FRAME_WORDS) % 8192) as usize;
+    if end <= world.len() { &world[FRAME..end] } else { &world[..0] }
+}
+
 // Notes the first difference: place 0 is the serial run's, the others are those of the sides, plus one.
 pub fn differ(world: &mut [u32], place: u32, of_engine: u32, of_model: u32) {
     if get(world, DIFFERENCE) == 0 {

@@ -17,6 +17,7 @@ pub use class::GLOBAL;
 pub use class::LOCAL;
 pub use class::REFUSED;
 pub use decode::desks_of;
+pub use decode::parameters;
 pub use decode::transactions_of;
 pub use decode::verdict;
 pub use desk::new_desk;
