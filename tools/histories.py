@@ -45,6 +45,8 @@ COUNTS = [
     "visits with several waiting",
     "globals",
     "altered frames accepted",
+    "words of the longest frame accepted",
+    "words of the longest frame written",
     "histories with the premise",
     "histories without the premise",
 ]
@@ -401,10 +403,15 @@ class History:
         if answer[0] == "passed":
             self.tally["visits"] += 1
             self.tally["globals"] += answer[2]
+            self.raise_to("words of the longest frame accepted", len(frame))
+            self.raise_to("words of the longest frame written", answer[1])
             self.tally["visits with several waiting"] += int(answer[2] > 1)
             self.tally["declined runs"] += sum(1 for w in replies[0 : 3 * answer[2] : 3] if w % 2 == 0)
             if not altered:
                 self.passed(desk, frame, out[: answer[1]], replies[: 3 * answer[2]])
+
+    def raise_to(self, name, number):
+        self.tally[name] = max(self.tally[name], number)
 
     def passed(self, desk, frame, written, replies):
         """Notes an accepted visit: the premise, what it finished and what it wrote."""
@@ -488,10 +495,10 @@ class History:
     def forge_update(self, words, i, big):
         rng = self.rng
         desk = i % self.n if big else rng.draw(self.n)
-        if rng.draw(64) == 0:
+        if not big and rng.draw(32) == 0:
             desk = rng.draw(16)
         cells = 12 if big else rng.draw(4)
-        if rng.draw(512) == 0:
+        if not big and rng.draw(64) == 0:
             cells = 13
         words.append((10 << 28) + (desk << 24) + (cells << 20))
         for _ in range(cells):

@@ -1,12 +1,12 @@
 // Frames that no desk has written, with right sums, at times of the largest size.
 use crate::slots::frame_place;
 use crate::slots::sum_again;
-use crate::world::chance;
-use crate::world::draw;
-use crate::world::times;
 use crate::world::DESKS;
 use crate::world::FRAME;
 use crate::world::FRAME_WORDS;
+use crate::world::chance;
+use crate::world::draw;
+use crate::world::times;
 use model::add;
 use model::get;
 use model::put;
@@ -19,22 +19,26 @@ fn extend(world: &mut [u32], word: u32) {
     put(world, FRAME_WORDS, add(at, 1));
 }
 
-// The desk of update i.
+// The desk of update i: one after the other in a big frame, at times one that does not exist in another.
 fn update_desk(world: &mut [u32], i: u32, big: bool) -> u32 {
-    let usual = usual_desk(world, i, big);
-    if chance(world, 64) { draw(world, 16) } else { usual }
+    if big { remainder(i, get(world, DESKS)) } else { any_desk(world) }
 }
 
-// The desk of update i, one after the other in a big frame.
-fn usual_desk(world: &mut [u32], i: u32, big: bool) -> u32 {
-    let desks = get(world, DESKS);
-    if big { remainder(i, desks) } else { draw(world, desks) }
+// Any desk, at times one that does not exist.
+fn any_desk(world: &mut [u32]) -> u32 {
+    let usual = draw(world, get(world, DESKS));
+    if chance(world, 32) { draw(world, 16) } else { usual }
 }
 
-// The number of cells of an update.
+// The number of cells of an update: the most in a big frame, at times too many in another.
 fn update_cells(world: &mut [u32], big: bool) -> u32 {
-    let usual = if big { 12 } else { draw(world, 4) };
-    if chance(world, 512) { 13 } else { usual }
+    if big { 12 } else { any_cells(world) }
+}
+
+// A small number of cells, at times too many.
+fn any_cells(world: &mut [u32]) -> u32 {
+    let usual = draw(world, 4);
+    if chance(world, 64) { 13 } else { usual }
 }
 
 // One cell and its value.
@@ -73,16 +77,26 @@ fn many_updates(world: &mut [u32]) -> u32 {
     if chance(world, 4) { add(full, 1) } else { full }
 }
 
-// Makes the frame at hand a forged one for a desk and a visit number.
-pub fn forge(world: &mut [u32], desk: u32, number: u32) {
-    let big = chance(world, 6);
+// How many updates a frame has.
+fn some_updates(world: &mut [u32], big: bool) -> u32 {
     let few = draw(world, 6);
-    let updates = if big { many_updates(world) } else { few };
-    put(world, FRAME + 1, number);
-    put(world, FRAME_WORDS, 2);
-    forge_updates(world, updates, big);
+    if big { many_updates(world) } else { few }
+}
+
+// Writes header and sums around the updates of the frame at hand.
+fn close(world: &mut [u32], desk: u32, number: u32) {
     let words = add(get(world, FRAME_WORDS), 2);
     put(world, FRAME_WORDS, words);
     put(world, FRAME, 0x9000_0000 + desk % 16 * 0x100_0000 + words % 0x1_0000);
+    put(world, FRAME + 1, number);
     sum_again(world);
+}
+
+// Makes the frame at hand a forged one for a desk and a visit number.
+pub fn forge(world: &mut [u32], desk: u32, number: u32) {
+    let big = chance(world, 6);
+    let updates = some_updates(world, big);
+    put(world, FRAME_WORDS, 2);
+    forge_updates(world, updates, big);
+    close(world, desk, number);
 }

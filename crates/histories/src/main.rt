@@ -1,16 +1,22 @@
 // Random histories of the engine against the second model: every call compared whole, and every history with its serial run.
 mod calls;
 mod damage;
+mod ending;
 mod engine;
 mod forge;
 mod history;
+mod loans;
 mod odd;
+mod openings;
 mod operations;
 mod plans;
+mod readers;
 mod report;
+mod requests;
 mod second;
 mod side;
 mod slots;
+mod visits;
 mod world;
 
 use model::add;

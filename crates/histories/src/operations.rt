@@ -1,11 +1,6 @@
 // Operations to ask for: mostly such that pass questions 7 and 8, and mostly at their own desk.
-use crate::calls::call_request;
 use crate::calls::ready;
-use crate::world::chance;
-use crate::world::draw;
-use crate::world::draw_word;
-use crate::world::params_at;
-use crate::world::put_params;
+use crate::requests::call_request;
 use crate::world::BURST;
 use crate::world::BURST_DESK;
 use crate::world::BURST_PARAMS;
@@ -13,9 +8,14 @@ use crate::world::BURST_TRANSACTION;
 use crate::world::DESKS;
 use crate::world::PARAMS;
 use crate::world::TRANSACTION;
+use crate::world::chance;
+use crate::world::draw;
+use crate::world::draw_word;
+use crate::world::params_at;
+use crate::world::put_params;
+use model::GLOBAL;
 use model::get;
 use model::put;
-use model::GLOBAL;
 
 // A parameter, mostly a small one.
 fn make_parameter(world: &mut [u32]) -> u32 {

@@ -1,10 +1,10 @@
 // Plans that are accepted. Shape 0 has one desk, shapes 1 and 6 have 32 transactions, shape 2 has no partitioning, shapes 3 to 5 have
 // a global that writes a cell of its own desk alone, and shape 6 has the most steps.
-use crate::world::chance;
-use crate::world::draw;
 use crate::world::DESKS;
 use crate::world::PLAN;
 use crate::world::PLAN_WORDS;
+use crate::world::chance;
+use crate::world::draw;
 use model::add;
 use model::get;
 use model::put;
@@ -233,16 +233,26 @@ fn make_count(world: &mut [u32], shape: u32) -> u32 {
     if shape == 6 { 32 } else { add(few, 2) }
 }
 
+// The transactions that the shape begins with, and how many they are.
+fn begin_plan(world: &mut [u32], shape: u32) -> u32 {
+    put(world, PLAN_WORDS, 1);
+    if has_own_cells(shape) { append_own_cells(world) } else { 0 }
+}
+
+// Puts the head word before the transactions.
+fn put_head(world: &mut [u32], desks: u32, total: u32) {
+    let words = get(world, PLAN_WORDS);
+    put(world, DESKS, desks);
+    put(world, PLAN, 0x1000_0000 + desks % 16 * 0x100_0000 + total % 256 * 0x1_0000 + words % 0x1_0000);
+}
+
 // Makes the plan's words.
 pub fn make_plan(world: &mut [u32]) {
     let shape = draw(world, 16);
     let desks = make_desks(world, shape);
     let few = make_count(world, shape);
-    put(world, PLAN_WORDS, 1);
-    let made = if has_own_cells(shape) { append_own_cells(world) } else { 0 };
+    let made = begin_plan(world, shape);
     let total = add(few, made);
     make_transactions(world, shape, made, total);
-    put(world, DESKS, desks);
-    let words = get(world, PLAN_WORDS);
-    put(world, PLAN, 0x1000_0000 + desks % 16 * 0x100_0000 + total % 256 * 0x1_0000 + words % 0x1_0000);
+    put_head(world, desks, total);
 }

@@ -50,7 +50,6 @@ pub const FRAME: usize = 1664;
 pub const SIZES: usize = 8096;
 pub const FRAMES: usize = 8160;
 pub const WORLD: usize = 419808;
-
 pub const CALLS: usize = 0;
 pub const PLANS: usize = 1;
 pub const DAMAGED: usize = 2;
@@ -65,8 +64,10 @@ pub const VISITS: usize = 10;
 pub const SEVERAL: usize = 11;
 pub const FINISHED: usize = 12;
 pub const ALTERED_FRAMES: usize = 13;
-pub const WITH_PREMISE: usize = 14;
-pub const WITHOUT_PREMISE: usize = 15;
+pub const LONGEST_READ: usize = 14;
+pub const LONGEST_WRITTEN: usize = 15;
+pub const WITH_PREMISE: usize = 16;
+pub const WITHOUT_PREMISE: usize = 17;
 
 // The generator's number after x.
 fn stir(x: u32) -> u32 {
@@ -107,6 +108,14 @@ pub fn chance(world: &mut [u32], n: u32) -> bool {
 pub fn count(world: &mut [u32], k: usize, more: u32) {
     let at = COUNTS + k % 32;
     put(world, at, add(get(world, at), more));
+}
+
+// Makes count k at least a number.
+pub fn raise(world: &mut [u32], k: usize, number: u32) {
+    let at = COUNTS + k % 32;
+    if get(world, at) < number {
+        put(world, at, number);
+    }
 }
 
 // Adds refusals with a question.

@@ -1,9 +1,9 @@
 // A desk: its state with question 6, and the request. A row of waiting requests lies in a slice, six words a record.
-use crate::class::class_of;
 use crate::class::FREE;
 use crate::class::GLOBAL;
 use crate::class::LOCAL;
 use crate::class::REFUSED;
+use crate::class::class_of;
 use crate::decode::desks_of;
 use crate::run::apply;
 use crate::run::run;

@@ -1,11 +1,11 @@
 // The visit: the others' updates applied and handed on, the waiting requests run in order, the outgoing frame and the replies written.
 use crate::decode::desks_of;
+use crate::desk::Answer;
+use crate::desk::State;
 use crate::desk::record;
 use crate::desk::record_params;
 use crate::desk::refused;
 use crate::desk::state_fits;
-use crate::desk::Answer;
-use crate::desk::State;
 use crate::frame::frame_question;
 use crate::frame::left_after;
 use crate::frame::seal;

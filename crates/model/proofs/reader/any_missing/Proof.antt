@@ -1,9 +1,9 @@
--- `model::decode::any_missing` is safe and ends.
+-- `model::reader::any_missing` is safe and ends.
 -- Assumes nothing.
 use Prim.Native.Nat.{_-_, _≤_}
 use borrow.Author.Needs.{needs}
-use Rattle.model.proofs.decode.any_missing.Statement.{statement}
-use Rattle.model.proofs.decode.any_missing.Tie as tie
+use Rattle.model.proofs.reader.any_missing.Statement.{statement}
+use Rattle.model.proofs.reader.any_missing.Tie as tie
 
 abbrev Inv-loop : tie.InvT-loop
 Inv-loop tables end k₀ k = k ≤ end

@@ -1,9 +1,9 @@
--- `model::decode::names_missing` is safe and ends.
+-- `model::reader::names_missing` is safe and ends.
 -- Assumes nothing.
 use Prim.Native.Nat.{_-_, _≤_}
 use borrow.Author.Needs.{needs}
-use Rattle.model.proofs.decode.names_missing.Statement.{statement}
-use Rattle.model.proofs.decode.names_missing.Tie as tie
+use Rattle.model.proofs.reader.names_missing.Statement.{statement}
+use Rattle.model.proofs.reader.names_missing.Tie as tie
 
 abbrev Inv-loop : tie.InvT-loop
 Inv-loop tables k count end j₀ j = j ≤ end

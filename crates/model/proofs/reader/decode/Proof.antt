@@ -1,11 +1,11 @@
--- `model::decode::decode` is safe and ends.
+-- `model::reader::decode` is safe and ends.
 -- Assumes nothing.
 use Prim.Native.Nat.{_-_}
 use mathlib.Core.Path.{_≡_}
 use lib.ListN.{length}
 use borrow.Author.Needs.{needs}
-use Rattle.model.proofs.decode.decode.Statement.{statement}
-use Rattle.model.proofs.decode.decode.Tie as tie
+use Rattle.model.proofs.reader.decode.Statement.{statement}
+use Rattle.model.proofs.reader.decode.Tie as tie
 
 abbrev Inv-loop : tie.InvT-loop
 Inv-loop plan transactions tables₀ walk₀ at₀ at-end tables walk at = length tables ≡ length tables₀
