@@ -101,11 +101,16 @@ fn sow(world: &mut [u32], seed: u32) {
     put(world, CALL, 0);
 }
 
-// The history of a seed.
-pub fn history(world: &mut [u32], tables: &mut [u32], engine: &mut [u32], second: &mut [u32], seed: u32) {
+// The plan and the desks of a seed.
+fn begin_history(world: &mut [u32], tables: &mut [u32], engine: &mut [u32], second: &mut [u32], seed: u32) {
     sow(world, seed);
     plan_history(world, tables, engine, second);
     open_history(world, tables, engine, second);
+}
+
+// The history of a seed.
+pub fn history(world: &mut [u32], tables: &mut [u32], engine: &mut [u32], second: &mut [u32], seed: u32) {
+    begin_history(world, tables, engine, second, seed);
     choose_ways(world, tables);
     all_calls(world, tables, engine, second);
     finish(world, tables, engine);

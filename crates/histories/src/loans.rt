@@ -124,13 +124,18 @@ fn hand(world: &mut [u32], engine: &mut [u32], second: &mut [u32], state: Handed
     put(world, REPLY_SIZE, 96);
 }
 
+// Hands in a desk's state damaged.
+fn hand_damaged(world: &mut [u32], engine: &mut [u32], second: &mut [u32], desk: u32) {
+    ready(world, engine, second, desk);
+    let state = damaged(world, second, desk);
+    hand(world, engine, second, state);
+}
+
 // A request with a damaged state.
 fn damaged_request(world: &mut [u32], tables: &mut [u32], engine: &mut [u32], second: &mut [u32]) {
     make_operation(world, tables);
     let desk = own_desk(world, tables);
-    ready(world, engine, second, desk);
-    let state = damaged(world, second, desk);
-    hand(world, engine, second, state);
+    hand_damaged(world, engine, second, desk);
     call_request(world, tables, engine, second);
 }
 
@@ -138,9 +143,21 @@ fn damaged_request(world: &mut [u32], tables: &mut [u32], engine: &mut [u32], se
 fn damaged_visit(world: &mut [u32], tables: &mut [u32], engine: &mut [u32], second: &mut [u32]) {
     take_latest(world);
     let desk = addressed(world);
+    hand_damaged(world, engine, second, desk);
+    run_visit(world, tables, engine, second);
+}
+
+// Hands in a desk's state with another awaited number.
+fn hand_awaited(world: &mut [u32], engine: &mut [u32], second: &mut [u32], desk: u32, awaited: u64) {
     ready(world, engine, second, desk);
-    let state = damaged(world, second, desk);
+    let state = Handed { desk: desk, waiting: get(second, HANDED + 1), awaited: awaited };
     hand(world, engine, second, state);
+}
+
+// A visit with no update.
+fn empty_visit(world: &mut [u32], tables: &mut [u32], engine: &mut [u32], second: &mut [u32], number: u32) {
+    let desk = remainder(number, get(world, DESKS));
+    take_empty(world, desk, number);
     run_visit(world, tables, engine, second);
 }
 
@@ -157,11 +174,8 @@ fn last_number(world: &mut [u32]) -> u32 {
 fn last_visit(world: &mut [u32], tables: &mut [u32], engine: &mut [u32], second: &mut [u32]) {
     let number = last_number(world);
     let desk = remainder(number, get(world, DESKS));
-    ready(world, engine, second, desk);
-    let state = Handed { desk: desk, waiting: get(second, HANDED + 1), awaited: number as u64 };
-    hand(world, engine, second, state);
-    take_empty(world, desk, number);
-    run_visit(world, tables, engine, second);
+    hand_awaited(world, engine, second, desk, number as u64);
+    empty_visit(world, tables, engine, second, number);
 }
 
 // What 2^32 leaves modulo a number of desks.
@@ -169,18 +183,20 @@ fn word_rest(desks: u32) -> u32 {
     remainder(add(remainder(0xFFFF_FFFF, desks), 1), desks)
 }
 
-// A visit at a desk that awaits a number past a word, with the rest of that number.
-fn past_a_word(world: &mut [u32], tables: &mut [u32], engine: &mut [u32], second: &mut [u32]) {
-    let desk = any_desk(world);
+// A number that with 2^32 added is congruent to a desk.
+fn rest_for(world: &mut [u32], desk: u32) -> u32 {
     let desks = get(world, DESKS);
     let least = remainder(std::num::wrapping_sub_u32(add(desk, desks), word_rest(desks)), desks);
     let rounds = draw(world, 3);
-    let rest = add(least, times(desks, rounds));
-    ready(world, engine, second, desk);
-    let state = Handed { desk: desk, waiting: get(second, HANDED + 1), awaited: 0x1_0000_0000 + rest as u64 };
-    hand(world, engine, second, state);
-    take_empty(world, remainder(rest, desks), rest);
-    run_visit(world, tables, engine, second);
+    add(least, times(desks, rounds))
+}
+
+// A visit at a desk that awaits a number past a word, with the rest of that number.
+fn past_a_word(world: &mut [u32], tables: &mut [u32], engine: &mut [u32], second: &mut [u32]) {
+    let desk = any_desk(world);
+    let rest = rest_for(world, desk);
+    hand_awaited(world, engine, second, desk, 0x1_0000_0000 + rest as u64);
+    empty_visit(world, tables, engine, second, rest);
 }
 
 // Buffers and states that are not fit, and the ends of the visit numbers.

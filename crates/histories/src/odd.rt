@@ -14,6 +14,7 @@ use crate::slots::sum_again;
 use crate::slots::take_any;
 use crate::slots::take_latest;
 use crate::visits::call_visit;
+use crate::visits::usual_visit;
 use crate::world::DESKS;
 use crate::world::FORGING;
 use crate::world::FRAME;
@@ -124,23 +125,27 @@ fn forged_number(world: &[u32], second: &[u32], desk: u32, usual: bool) -> u32 {
     if usual { get(world, FRAME + 1) } else { get(second, state_place(desk) % 64 + 2) }
 }
 
-// A visit with a forged frame, where frames are forged, or else one more usual visit.
-fn forged_visit(world: &mut [u32], tables: &mut [u32], engine: &mut [u32], second: &mut [u32]) {
-    take_latest(world);
-    if get(world, FORGING) == 0 {
-        let desk = addressed(world);
-        return call_visit(world, tables, engine, second, desk);
-    }
+// The desk of a forged frame: the latest frame's, or else any.
+fn forged_desk(world: &mut [u32], usual: bool) -> u32 {
+    if usual { addressed(world) } else { any_desk(world) }
+}
+
+// A visit with a forged frame.
+fn forge_next(world: &mut [u32], tables: &mut [u32], engine: &mut [u32], second: &mut [u32]) {
     let usual = draw(world, 8) > 0;
-    let desk = if usual { addressed(world) } else { any_desk(world) };
+    let desk = forged_desk(world, usual);
     let number = forged_number(world, second, desk, usual);
     forge(world, desk, number);
     call_visit(world, tables, engine, second, desk);
 }
 
-// The starting frame in a buffer of some size.
-pub fn start(out: &mut [u32], size: usize) -> u32 {
-    if size <= out.len() { model::starting_frame(&mut out[..size]) } else { 0 }
+// A visit with a forged frame, where frames are forged, or else one more usual visit.
+fn forged_visit(world: &mut [u32], tables: &mut [u32], engine: &mut [u32], second: &mut [u32]) {
+    if get(world, FORGING) == 0 {
+        return usual_visit(world, tables, engine, second);
+    }
+    take_latest(world);
+    forge_next(world, tables, engine, second);
 }
 
 // An odd call by its form.

@@ -72,11 +72,16 @@ fn visit_refused(world: &mut [u32], tables: &[u32], engine: &mut [u32], second: 
     settle(world, engine, second);
 }
 
-// The five other calls with a plan that is refused.
-fn call_refused(world: &mut [u32], tables: &[u32], engine: &mut [u32], second: &mut [u32]) {
+// The calls that change nothing with a plan that is refused.
+fn read_refused(world: &mut [u32], tables: &[u32], engine: &mut [u32], second: &mut [u32]) {
     classify_both(world, tables, engine, second);
     read_both(world, tables, engine, second);
     open_both(world, tables, engine, second, 0);
+}
+
+// The five other calls with a plan that is refused.
+fn call_refused(world: &mut [u32], tables: &[u32], engine: &mut [u32], second: &mut [u32]) {
+    read_refused(world, tables, engine, second);
     request_refused(world, tables, engine, second);
     visit_refused(world, tables, engine, second);
 }

@@ -59,12 +59,34 @@ pub fn report(world: &[u32]) {
     io::write_all(1, b"equal\n");
 }
 
-// The first difference: its history and call, where it is, and both words. Places below 16,340 are of the sides; 20,000 is a reply
-// and 20,001 a cell that is not the serial one, 20,002 a client's word, 20,003 a number of replies, 20,004 a plan's verdict.
+// Writes what stands at a place: of a side, of the serial run, of a visit's replies, or a plan's verdict.
+fn write_place(place: u32) {
+    if place < 4 {
+        return line(b"in the answer, word", place);
+    }
+    if place < 40 {
+        return line(b"in the states, word", place - 4);
+    }
+    if place < 8240 {
+        return line(b"in the books, word", place - 40);
+    }
+    if place < 9824 {
+        return line(b"in the rows, word", place - 8240);
+    }
+    if place < 16240 {
+        return line(b"in the outgoing frame, word", place - 9824);
+    }
+    if place < 16340 {
+        return line(b"in the replies, word", place - 16240);
+    }
+    line(b"in the serial run, check", place);
+}
+
+// The first difference: its history and call, where it is, and both words.
 pub fn report_difference(world: &[u32]) {
     line(b"different: seed", get(world, SEED));
     line(b"call", get(world, CALL));
-    line(b"place", std::num::wrapping_sub_u32(get(world, DIFFERENCE), 1));
+    write_place(std::num::wrapping_sub_u32(get(world, DIFFERENCE), 1));
     line(b"engine", get(world, OF_ENGINE));
     line(b"model", get(world, OF_MODEL));
 }

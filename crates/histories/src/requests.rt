@@ -90,13 +90,18 @@ fn draw_client(world: &mut [u32]) {
     put(world, CLIENT, client);
 }
 
-// The request at hand.
-pub fn call_request(world: &mut [u32], tables: &mut [u32], engine: &mut [u32], second: &mut [u32]) {
-    draw_client(world);
+// The request at hand on both sides.
+fn request_both(world: &mut [u32], tables: &[u32], engine: &mut [u32], second: &mut [u32]) {
     engine::request(world, engine);
     second::request(world, tables, second);
     settle(world, engine, second);
     keep(world, engine, second);
+}
+
+// The request at hand.
+pub fn call_request(world: &mut [u32], tables: &mut [u32], engine: &mut [u32], second: &mut [u32]) {
+    draw_client(world);
+    request_both(world, tables, engine, second);
     count_request(world, tables, second);
     log_request(world, tables, second);
 }

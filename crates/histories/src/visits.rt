@@ -128,15 +128,25 @@ fn passed(world: &mut [u32], tables: &mut [u32], side: &[u32]) {
     }
 }
 
-// The visit at hand, with buffers filled with a word.
-pub fn run_visit(world: &mut [u32], tables: &mut [u32], engine: &mut [u32], second: &mut [u32]) {
+// Fills the outgoing buffer and the replies of both sides with a drawn word.
+fn fill_buffers(world: &mut [u32], engine: &mut [u32], second: &mut [u32]) {
     let junk = draw_word(world);
     fill_part(engine, OUT, 6516, junk);
     fill_part(second, OUT, 6516, junk);
+}
+
+// The visit at hand on both sides.
+fn visit_both(world: &mut [u32], tables: &[u32], engine: &mut [u32], second: &mut [u32]) {
     engine::visit(world, engine);
     second::visit(world, tables, second);
     settle(world, engine, second);
     keep(world, engine, second);
+}
+
+// The visit at hand.
+pub fn run_visit(world: &mut [u32], tables: &mut [u32], engine: &mut [u32], second: &mut [u32]) {
+    fill_buffers(world, engine, second);
+    visit_both(world, tables, engine, second);
     note_passed(world, tables, engine);
 }
 
