@@ -69,7 +69,11 @@ fn other_head(world: &mut [u32], head: u32, form: u32) -> u32 {
     if form == 1 {
         return with_kind(world, head);
     }
-    if form == 2 { with_desks(world, head) } else { with_transactions(world, head) }
+    if form == 2 {
+        with_desks(world, head)
+    } else {
+        with_transactions(world, head)
+    }
 }
 
 // Takes the last word away.
@@ -129,7 +133,11 @@ fn damage_length(world: &mut [u32], form: u32) {
 fn drop_parameter(world: &mut [u32]) {
     let head = get(world, PLAN + 1);
     if part(head, 0x100_0000, 16) > 0 {
-        put(world, PLAN + 1, std::num::wrapping_sub_u32(head, 0x100_0000));
+        put(
+            world,
+            PLAN + 1,
+            std::num::wrapping_sub_u32(head, 0x100_0000),
+        );
     }
 }
 

@@ -4,8 +4,8 @@ use crate::world::CLEAN;
 use crate::world::LATEST;
 use crate::world::LOGGED;
 use crate::world::START;
-use crate::world::WITHOUT_PREMISE;
 use crate::world::WITH_PREMISE;
+use crate::world::WITHOUT_PREMISE;
 use crate::world::count;
 use crate::world::differ;
 use crate::world::load;
@@ -21,7 +21,10 @@ pub fn compare_cells(world: &mut [u32], tables: &[u32], engine: &[u32], book: &[
 // Compares one cell, at the one desk that may touch it or else at the desk of the latest accepted visit.
 fn compare_cell(world: &mut [u32], tables: &[u32], engine: &[u32], book: &[u32], cell: u32) {
     let desk = desk_with(world, tables, cell);
-    let value = get(engine, std::num::wrapping_add_usize(book_place(desk), cell as usize));
+    let value = get(
+        engine,
+        std::num::wrapping_add_usize(book_place(desk), cell as usize),
+    );
     let due = get(book, cell as usize);
     if value != due {
         differ(world, 20001, value, due);

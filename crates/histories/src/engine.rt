@@ -1,18 +1,13 @@
 // The engine's calls on its side.
+use crate::side::Answered;
+use crate::side::HANDED;
+use crate::side::OUT;
+use crate::side::REPLIES;
 use crate::side::awaited_at;
 use crate::side::book_place;
 use crate::side::put_answer;
 use crate::side::put_state;
 use crate::side::record_place;
-use crate::side::Answered;
-use crate::side::HANDED;
-use crate::side::OUT;
-use crate::side::REPLIES;
-use crate::world::frame_of;
-use crate::world::load;
-use crate::world::params_at;
-use crate::world::plan_of;
-use crate::world::store;
 use crate::world::BOOK_SIZE;
 use crate::world::CLIENT;
 use crate::world::DESK;
@@ -21,6 +16,11 @@ use crate::world::PARAMS;
 use crate::world::RECORDS;
 use crate::world::REPLY_SIZE;
 use crate::world::TRANSACTION;
+use crate::world::frame_of;
+use crate::world::load;
+use crate::world::params_at;
+use crate::world::plan_of;
+use crate::world::store;
 use conflict::ClassAnswer;
 use conveyor::Desk;
 use conveyor::DeskAnswer;
@@ -28,9 +28,6 @@ use conveyor::RequestAnswer;
 use conveyor::VisitAnswer;
 use conveyor::VisitResult;
 use harness::Requested;
-use model::get;
-use model::narrow;
-use model::put;
 use model::ELSEWHERE;
 use model::FREE;
 use model::GLOBAL;
@@ -39,16 +36,27 @@ use model::PASSED;
 use model::REFUSED;
 use model::REPLIED;
 use model::WAITS;
+use model::get;
+use model::narrow;
+use model::put;
 use queue::Request;
 
 // A refusal as an answer.
 fn refused(question: u32) -> Answered {
-    Answered { tag: REFUSED, first: question, second: 0 }
+    Answered {
+        tag: REFUSED,
+        first: question,
+        second: 0,
+    }
 }
 
 // The state that is handed in.
 fn handed(side: &[u32]) -> Desk {
-    Desk { desk: get(side, HANDED), waiting: get(side, HANDED + 1), awaited: awaited_at(side, HANDED) }
+    Desk {
+        desk: get(side, HANDED),
+        waiting: get(side, HANDED + 1),
+        awaited: awaited_at(side, HANDED),
+    }
 }
 
 // Record i of a desk's row.
@@ -100,11 +108,27 @@ pub fn verdict(world: &[u32]) -> u32 {
 
 // The classifier's answer.
 pub fn class_answer(world: &[u32]) -> Answered {
-    let answer = conflict::classify(plan_of(world), get(world, TRANSACTION), params_at(world, PARAMS));
+    let answer = conflict::classify(
+        plan_of(world),
+        get(world, TRANSACTION),
+        params_at(world, PARAMS),
+    );
     match answer {
-        ClassAnswer::Free => Answered { tag: FREE, first: 0, second: 0 },
-        ClassAnswer::Local(desk) => Answered { tag: LOCAL, first: desk, second: 0 },
-        ClassAnswer::Global(desk) => Answered { tag: GLOBAL, first: desk, second: 0 },
+        ClassAnswer::Free => Answered {
+            tag: FREE,
+            first: 0,
+            second: 0,
+        },
+        ClassAnswer::Local(desk) => Answered {
+            tag: LOCAL,
+            first: desk,
+            second: 0,
+        },
+        ClassAnswer::Global(desk) => Answered {
+            tag: GLOBAL,
+            first: desk,
+            second: 0,
+        },
         ClassAnswer::Refused(question) => refused(question),
     }
 }
@@ -120,7 +144,14 @@ pub fn new_desk(world: &[u32], side: &mut [u32]) {
     match answer {
         DeskAnswer::Opened(state) => {
             put_state(side, HANDED, state.desk, state.waiting, state.awaited);
-            put_answer(side, Answered { tag: REPLIED, first: 0, second: 0 });
+            put_answer(
+                side,
+                Answered {
+                    tag: REPLIED,
+                    first: 0,
+                    second: 0,
+                },
+            );
         }
         DeskAnswer::Refused(question) => put_answer(side, refused(question)),
     }
@@ -137,7 +168,11 @@ fn start(out: &mut [u32], size: usize) -> Answered {
 // The answer to a call for the starting frame.
 fn start_answer(answer: token::StartAnswer) -> Answered {
     match answer {
-        token::StartAnswer::Written => Answered { tag: REPLIED, first: 0, second: 0 },
+        token::StartAnswer::Written => Answered {
+            tag: REPLIED,
+            first: 0,
+            second: 0,
+        },
         token::StartAnswer::Refused(question) => refused(question),
     }
 }
@@ -155,7 +190,14 @@ pub fn starting_frame(world: &[u32], side: &mut [u32]) {
 pub fn frame_visit(world: &[u32], side: &mut [u32]) {
     let answer = token::frame_visit(plan_of(world), frame_of(world));
     match answer {
-        token::VisitAnswer::Visit(number) => put_answer(side, Answered { tag: REPLIED, first: number, second: 0 }),
+        token::VisitAnswer::Visit(number) => put_answer(
+            side,
+            Answered {
+                tag: REPLIED,
+                first: number,
+                second: 0,
+            },
+        ),
         token::VisitAnswer::Refused(question) => put_answer(side, refused(question)),
     }
 }
@@ -172,10 +214,22 @@ fn request_answer(answer: RequestAnswer) -> Answered {
     match answer {
         RequestAnswer::Replied(reply) => {
             let done: u32 = if reply.done { 1 } else { 0 };
-            Answered { tag: REPLIED, first: done, second: reply.number }
+            Answered {
+                tag: REPLIED,
+                first: done,
+                second: reply.number,
+            }
         }
-        RequestAnswer::Waits => Answered { tag: WAITS, first: 0, second: 0 },
-        RequestAnswer::Elsewhere(desk) => Answered { tag: ELSEWHERE, first: desk, second: 0 },
+        RequestAnswer::Waits => Answered {
+            tag: WAITS,
+            first: 0,
+            second: 0,
+        },
+        RequestAnswer::Elsewhere(desk) => Answered {
+            tag: ELSEWHERE,
+            first: desk,
+            second: 0,
+        },
         RequestAnswer::Refused(question) => refused(question),
     }
 }
@@ -208,7 +262,16 @@ fn request_on(world: &[u32], side: &mut [u32], cells: &mut [u32]) {
     let plan = plan_of(world);
     let client = get(world, CLIENT);
     let transaction = get(world, TRANSACTION);
-    let requested = harness::request_of(plan, state, &mut cells[..size], row, lent, client, transaction, params);
+    let requested = harness::request_of(
+        plan,
+        state,
+        &mut cells[..size],
+        row,
+        lent,
+        client,
+        transaction,
+        params,
+    );
     put_requested(side, desk, requested);
 }
 
@@ -228,14 +291,27 @@ fn put_visited(side: &mut [u32], result: VisitResult) {
     put_state(side, HANDED, state.desk, state.waiting, state.awaited);
     match answer {
         VisitAnswer::Passed(words, replies) => {
-            put_answer(side, Answered { tag: PASSED, first: narrow(words), second: narrow(replies) })
+            put_answer(
+                side,
+                Answered {
+                    tag: PASSED,
+                    first: narrow(words),
+                    second: narrow(replies),
+                },
+            )
         }
         VisitAnswer::Refused(question) => put_answer(side, refused(question)),
     }
 }
 
 // A visit with buffers of the sizes at hand, of which more words are there.
-fn visit_on(world: &[u32], side: &mut [u32], cells: &mut [u32], out: &mut [u32], replies: &mut [u32]) {
+fn visit_on(
+    world: &[u32],
+    side: &mut [u32],
+    cells: &mut [u32],
+    out: &mut [u32],
+    replies: &mut [u32],
+) {
     let size = get(world, BOOK_SIZE) as usize;
     let lent = get(world, RECORDS) as usize;
     let out_size = get(world, OUT_SIZE) as usize;
@@ -256,7 +332,16 @@ fn visit_on(world: &[u32], side: &mut [u32], cells: &mut [u32], out: &mut [u32],
     let row = records(side, get(world, DESK));
     let plan = plan_of(world);
     let frame = frame_of(world);
-    let result = harness::visit_of(plan, state, &mut cells[..size], row, lent, frame, &mut out[..out_size], &mut replies[..reply_size]);
+    let result = harness::visit_of(
+        plan,
+        state,
+        &mut cells[..size],
+        row,
+        lent,
+        frame,
+        &mut out[..out_size],
+        &mut replies[..reply_size],
+    );
     put_visited(side, result);
 }
 

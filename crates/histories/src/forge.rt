@@ -21,13 +21,21 @@ fn extend(world: &mut [u32], word: u32) {
 
 // The desk of update i: one after the other in a big frame, at times one that does not exist in another.
 fn update_desk(world: &mut [u32], i: u32, big: bool) -> u32 {
-    if big { remainder(i, get(world, DESKS)) } else { any_desk(world) }
+    if big {
+        remainder(i, get(world, DESKS))
+    } else {
+        any_desk(world)
+    }
 }
 
 // Any desk, at times one that does not exist.
 fn any_desk(world: &mut [u32]) -> u32 {
     let usual = draw(world, get(world, DESKS));
-    if chance(world, 32) { draw(world, 16) } else { usual }
+    if chance(world, 32) {
+        draw(world, 16)
+    } else {
+        usual
+    }
 }
 
 // The number of cells of an update: the most in a big frame, at times too many in another.
@@ -60,7 +68,10 @@ fn forge_cells(world: &mut [u32], cells: u32) {
 fn forge_update(world: &mut [u32], i: u32, big: bool) {
     let desk = update_desk(world, i, big);
     let cells = update_cells(world, big);
-    extend(world, 0xA000_0000 + desk % 16 * 0x100_0000 + cells % 16 * 0x10_0000);
+    extend(
+        world,
+        0xA000_0000 + desk % 16 * 0x100_0000 + cells % 16 * 0x10_0000,
+    );
     forge_cells(world, cells);
 }
 
@@ -87,7 +98,11 @@ fn some_updates(world: &mut [u32], big: bool) -> u32 {
 fn close(world: &mut [u32], desk: u32, number: u32) {
     let words = add(get(world, FRAME_WORDS), 2);
     put(world, FRAME_WORDS, words);
-    put(world, FRAME, 0x9000_0000 + desk % 16 * 0x100_0000 + words % 0x1_0000);
+    put(
+        world,
+        FRAME,
+        0x9000_0000 + desk % 16 * 0x100_0000 + words % 0x1_0000,
+    );
     put(world, FRAME + 1, number);
     sum_again(world);
 }

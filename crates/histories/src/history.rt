@@ -41,7 +41,11 @@ fn requests_in_hundred(pace: u32) -> u32 {
 
 // Whether call i is one of the burst.
 fn in_burst(world: &[u32], i: u32) -> bool {
-    if get(world, BURST) == 0 { false } else { i < 35 }
+    if get(world, BURST) == 0 {
+        false
+    } else {
+        i < 35
+    }
 }
 
 // The form of an odd call; where frames are forged, mostly a forged one.
@@ -84,7 +88,11 @@ fn note_call(world: &mut [u32], i: u32) {
 // Call i.
 fn one_call(world: &mut [u32], tables: &mut [u32], engine: &mut [u32], second: &mut [u32], i: u32) {
     note_call(world, i);
-    if in_burst(world, i) { burst_request(world, tables, engine, second) } else { any_call(world, tables, engine, second) }
+    if in_burst(world, i) {
+        burst_request(world, tables, engine, second)
+    } else {
+        any_call(world, tables, engine, second)
+    }
 }
 
 // All calls.
@@ -102,14 +110,26 @@ fn sow(world: &mut [u32], seed: u32) {
 }
 
 // The plan and the desks of a seed.
-fn begin_history(world: &mut [u32], tables: &mut [u32], engine: &mut [u32], second: &mut [u32], seed: u32) {
+fn begin_history(
+    world: &mut [u32],
+    tables: &mut [u32],
+    engine: &mut [u32],
+    second: &mut [u32],
+    seed: u32,
+) {
     sow(world, seed);
     plan_history(world, tables, engine, second);
     open_history(world, tables, engine, second);
 }
 
 // The history of a seed.
-pub fn history(world: &mut [u32], tables: &mut [u32], engine: &mut [u32], second: &mut [u32], seed: u32) {
+pub fn history(
+    world: &mut [u32],
+    tables: &mut [u32],
+    engine: &mut [u32],
+    second: &mut [u32],
+    seed: u32,
+) {
     begin_history(world, tables, engine, second, seed);
     choose_ways(world, tables);
     all_calls(world, tables, engine, second);

@@ -92,16 +92,32 @@ fn damaged(world: &mut [u32], second: &[u32], desk: u32) -> Handed {
     let form = damage_form(world, desks);
     if form == 1 {
         let more = draw(world, 3);
-        return Handed { desk: desk, waiting: add(33, more), awaited: awaited };
+        return Handed {
+            desk: desk,
+            waiting: add(33, more),
+            awaited: awaited,
+        };
     }
     if form == 2 {
-        return Handed { desk: desk, waiting: waiting, awaited: after(awaited) };
+        return Handed {
+            desk: desk,
+            waiting: waiting,
+            awaited: after(awaited),
+        };
     }
     if form == 3 {
         let more = draw(world, 3);
-        return Handed { desk: desk, waiting: add(waiting, add(more, 1)), awaited: awaited };
+        return Handed {
+            desk: desk,
+            waiting: add(waiting, add(more, 1)),
+            awaited: awaited,
+        };
     }
-    Handed { desk: add(desk, desks), waiting: waiting, awaited: awaited }
+    Handed {
+        desk: add(desk, desks),
+        waiting: waiting,
+        awaited: awaited,
+    }
 }
 
 // The form of a damage; with one desk every awaited number will do, so that another form takes its place.
@@ -148,14 +164,30 @@ fn damaged_visit(world: &mut [u32], tables: &mut [u32], engine: &mut [u32], seco
 }
 
 // Hands in a desk's state with another awaited number.
-fn hand_awaited(world: &mut [u32], engine: &mut [u32], second: &mut [u32], desk: u32, awaited: u64) {
+fn hand_awaited(
+    world: &mut [u32],
+    engine: &mut [u32],
+    second: &mut [u32],
+    desk: u32,
+    awaited: u64,
+) {
     ready(world, engine, second, desk);
-    let state = Handed { desk: desk, waiting: get(second, HANDED + 1), awaited: awaited };
+    let state = Handed {
+        desk: desk,
+        waiting: get(second, HANDED + 1),
+        awaited: awaited,
+    };
     hand(world, engine, second, state);
 }
 
 // A visit with no update.
-fn empty_visit(world: &mut [u32], tables: &mut [u32], engine: &mut [u32], second: &mut [u32], number: u32) {
+fn empty_visit(
+    world: &mut [u32],
+    tables: &mut [u32],
+    engine: &mut [u32],
+    second: &mut [u32],
+    number: u32,
+) {
     let desk = remainder(number, get(world, DESKS));
     take_empty(world, desk, number);
     run_visit(world, tables, engine, second);
@@ -186,7 +218,10 @@ fn word_rest(desks: u32) -> u32 {
 // A number that with 2^32 added is congruent to a desk.
 fn rest_for(world: &mut [u32], desk: u32) -> u32 {
     let desks = get(world, DESKS);
-    let least = remainder(std::num::wrapping_sub_u32(add(desk, desks), word_rest(desks)), desks);
+    let least = remainder(
+        std::num::wrapping_sub_u32(add(desk, desks), word_rest(desks)),
+        desks,
+    );
     let rounds = draw(world, 3);
     add(least, times(desks, rounds))
 }
@@ -200,7 +235,13 @@ fn past_a_word(world: &mut [u32], tables: &mut [u32], engine: &mut [u32], second
 }
 
 // Buffers and states that are not fit, and the ends of the visit numbers.
-pub fn odd_loan(world: &mut [u32], tables: &mut [u32], engine: &mut [u32], second: &mut [u32], form: u32) {
+pub fn odd_loan(
+    world: &mut [u32],
+    tables: &mut [u32],
+    engine: &mut [u32],
+    second: &mut [u32],
+    form: u32,
+) {
     if form == 10 {
         return unfit_visit(world, tables, engine, second);
     }

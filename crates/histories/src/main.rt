@@ -39,7 +39,11 @@ fn run_histories(world: &mut [u32], tables: &mut [u32], engine: &mut [u32], seco
 
 // Writes the first difference, or the counts.
 fn write_report(world: &[u32]) {
-    if get(world, world::DIFFERENCE) > 0 { report::report_difference(world) } else { report::report(world) }
+    if get(world, world::DIFFERENCE) > 0 {
+        report::report_difference(world)
+    } else {
+        report::report(world)
+    }
 }
 
 fn main() {

@@ -36,7 +36,11 @@ pub fn any_desk(world: &mut [u32]) -> u32 {
 fn spoil(world: &mut [u32], tables: &[u32], form: u32) {
     if form == 0 {
         let more = draw(world, 3);
-        return put(world, TRANSACTION, add(model::transactions_of(tables), more));
+        return put(
+            world,
+            TRANSACTION,
+            add(model::transactions_of(tables), more),
+        );
     }
     if model::parameters(tables, get(world, TRANSACTION) as usize) < 4 {
         let some = draw(world, 5);
@@ -47,7 +51,13 @@ fn spoil(world: &mut [u32], tables: &[u32], form: u32) {
 }
 
 // A request that question 7 or 8 refuses.
-fn odd_request(world: &mut [u32], tables: &mut [u32], engine: &mut [u32], second: &mut [u32], form: u32) {
+fn odd_request(
+    world: &mut [u32],
+    tables: &mut [u32],
+    engine: &mut [u32],
+    second: &mut [u32],
+    form: u32,
+) {
     make_operation(world, tables);
     spoil(world, tables, form);
     let desk = any_desk(world);
@@ -81,7 +91,10 @@ fn choose_desk(world: &mut [u32], form: u32) -> u32 {
 fn renumber(world: &mut [u32]) {
     let rounds = draw(world, 3);
     let more = draw(world, 2);
-    let number = add(get(world, FRAME + 1), add(times(get(world, DESKS), rounds), more));
+    let number = add(
+        get(world, FRAME + 1),
+        add(times(get(world, DESKS), rounds), more),
+    );
     put(world, FRAME + 1, number);
     sum_again(world);
 }
@@ -113,7 +126,13 @@ fn change_frame(world: &mut [u32], form: u32) {
 }
 
 // A visit with a frame repeated, misdirected, cut, altered or renumbered.
-fn odd_frame(world: &mut [u32], tables: &mut [u32], engine: &mut [u32], second: &mut [u32], form: u32) {
+fn odd_frame(
+    world: &mut [u32],
+    tables: &mut [u32],
+    engine: &mut [u32],
+    second: &mut [u32],
+    form: u32,
+) {
     choose_frame(world, form);
     let desk = choose_desk(world, form);
     change_frame(world, form);
@@ -122,12 +141,20 @@ fn odd_frame(world: &mut [u32], tables: &mut [u32], engine: &mut [u32], second: 
 
 // The number of a forged frame: the latest frame's at its own desk, or else what the desk awaits.
 fn forged_number(world: &[u32], second: &[u32], desk: u32, usual: bool) -> u32 {
-    if usual { get(world, FRAME + 1) } else { get(second, state_place(desk) % 64 + 2) }
+    if usual {
+        get(world, FRAME + 1)
+    } else {
+        get(second, state_place(desk) % 64 + 2)
+    }
 }
 
 // The desk of a forged frame: the latest frame's, or else any.
 fn forged_desk(world: &mut [u32], usual: bool) -> u32 {
-    if usual { addressed(world) } else { any_desk(world) }
+    if usual {
+        addressed(world)
+    } else {
+        any_desk(world)
+    }
 }
 
 // A visit with a forged frame.
@@ -149,7 +176,13 @@ fn forged_visit(world: &mut [u32], tables: &mut [u32], engine: &mut [u32], secon
 }
 
 // An odd call by its form.
-pub fn odd_call(world: &mut [u32], tables: &mut [u32], engine: &mut [u32], second: &mut [u32], form: u32) {
+pub fn odd_call(
+    world: &mut [u32],
+    tables: &mut [u32],
+    engine: &mut [u32],
+    second: &mut [u32],
+    form: u32,
+) {
     if form < 2 {
         return odd_request(world, tables, engine, second, form);
     }

@@ -28,8 +28,8 @@ use crate::world::LATEST;
 use crate::world::LOGGED;
 use crate::world::OUT_SIZE;
 use crate::world::PLAN;
-use crate::world::PLANS;
 use crate::world::PLAN_WORDS;
+use crate::world::PLANS;
 use crate::world::RECORDS;
 use crate::world::REPLY_SIZE;
 use crate::world::SLOTS;
@@ -183,7 +183,11 @@ fn start_value(world: &mut [u32], form: u32, cell: usize) -> u32 {
     if form == 0 {
         return 0;
     }
-    if form == 1 { narrow(cell % 11) } else { draw(world, 64) }
+    if form == 1 {
+        narrow(cell % 11)
+    } else {
+        draw(world, 64)
+    }
 }
 
 // The starting book.
@@ -207,7 +211,11 @@ fn furnish(world: &[u32], side: &mut [u32]) {
 fn give_book(world: &[u32], side: &mut [u32], desk: u32) {
     let at = book_place(desk);
     for cell in 0..1024usize {
-        put(side, std::num::wrapping_add_usize(at, cell), get(world, START + cell));
+        put(
+            side,
+            std::num::wrapping_add_usize(at, cell),
+            get(world, START + cell),
+        );
     }
 }
 

@@ -26,7 +26,11 @@ fn make_parameter(world: &mut [u32]) -> u32 {
     if form < 30 {
         return draw(world, 32);
     }
-    if form == 30 { draw(world, 40) } else { draw_word(world) }
+    if form == 30 {
+        draw(world, 40)
+    } else {
+        draw_word(world)
+    }
 }
 
 // The first so many parameters.
@@ -43,12 +47,19 @@ pub fn make_operation(world: &mut [u32], tables: &[u32]) {
     let none = [0u32; 4];
     put(world, TRANSACTION, transaction);
     put_params(world, PARAMS, none);
-    make_parameters(world, model::parameters(tables, transaction as usize) as usize);
+    make_parameters(
+        world,
+        model::parameters(tables, transaction as usize) as usize,
+    );
 }
 
 // The desk of the operation at hand.
 pub fn own_desk(world: &[u32], tables: &[u32]) -> u32 {
-    model::desk_of(tables, get(world, TRANSACTION) as usize, params_at(world, PARAMS))
+    model::desk_of(
+        tables,
+        get(world, TRANSACTION) as usize,
+        params_at(world, PARAMS),
+    )
 }
 
 // The desk where the operation at hand is asked for.
@@ -61,7 +72,12 @@ fn asked_desk(world: &mut [u32], tables: &[u32]) -> u32 {
 }
 
 // A request, mostly at the operation's own desk.
-pub fn usual_request(world: &mut [u32], tables: &mut [u32], engine: &mut [u32], second: &mut [u32]) {
+pub fn usual_request(
+    world: &mut [u32],
+    tables: &mut [u32],
+    engine: &mut [u32],
+    second: &mut [u32],
+) {
     make_operation(world, tables);
     let desk = asked_desk(world, tables);
     ready(world, engine, second, desk);
@@ -104,7 +120,12 @@ pub fn choose_burst(world: &mut [u32], tables: &[u32]) {
 }
 
 // A request of the burst.
-pub fn burst_request(world: &mut [u32], tables: &mut [u32], engine: &mut [u32], second: &mut [u32]) {
+pub fn burst_request(
+    world: &mut [u32],
+    tables: &mut [u32],
+    engine: &mut [u32],
+    second: &mut [u32],
+) {
     let params = params_at(world, BURST_PARAMS);
     put(world, TRANSACTION, get(world, BURST_TRANSACTION));
     put_params(world, PARAMS, params);

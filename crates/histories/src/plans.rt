@@ -72,7 +72,11 @@ fn any_row(world: &mut [u32], theme: Theme) -> u32 {
 
 // Source and fixed row in a table.
 fn row_of(world: &mut [u32], table: u32, theme: Theme) -> u32 {
-    if table == theme.base { home_row(world, theme) } else { any_row(world, theme) }
+    if table == theme.base {
+        home_row(world, theme)
+    } else {
+        any_row(world, theme)
+    }
 }
 
 // A read or write step.
@@ -86,7 +90,11 @@ fn cell_step(world: &mut [u32], kind: u32, theme: Theme) -> u32 {
 // A fixed number, mostly a small one.
 fn fixed_number(world: &mut [u32]) -> u32 {
     let small = draw(world, 8);
-    if chance(world, 16) { draw(world, 0x100_0000) } else { small }
+    if chance(world, 16) {
+        draw(world, 0x100_0000)
+    } else {
+        small
+    }
 }
 
 // A set, add, need or take step.
@@ -142,7 +150,11 @@ fn make_partition(world: &mut [u32], shape: u32, params: u32) -> u32 {
     if shape == 2 {
         return 15;
     }
-    if draw(world, 5) > 0 { draw(world, params) } else { 15 }
+    if draw(world, 5) > 0 {
+        draw(world, params)
+    } else {
+        15
+    }
 }
 
 // The number of a theme: 0 the first table, 1 the second, 2 any, 3 any and only read.
@@ -172,9 +184,21 @@ fn make_transaction(world: &mut [u32], shape: u32) {
     let partition = make_partition(world, shape, params);
     let number = make_theme(world);
     let steps = make_length(world, shape);
-    append(world, 0x2000_0000 + params % 16 * 0x100_0000 + steps % 16 * 0x10_0000 + partition % 16 * 0x1_0000);
+    append(
+        world,
+        0x2000_0000 + params % 16 * 0x100_0000 + steps % 16 * 0x10_0000 + partition % 16 * 0x1_0000,
+    );
     let base: u32 = if has_own_cells(shape) { 2 } else { 0 };
-    make_steps(world, Theme { base: base, number: number, params: params, partition: partition }, steps);
+    make_steps(
+        world,
+        Theme {
+            base: base,
+            number: number,
+            params: params,
+            partition: partition,
+        },
+        steps,
+    );
 }
 
 // The transactions from `made` on.
@@ -236,14 +260,22 @@ fn make_count(world: &mut [u32], shape: u32) -> u32 {
 // The transactions that the shape begins with, and how many they are.
 fn begin_plan(world: &mut [u32], shape: u32) -> u32 {
     put(world, PLAN_WORDS, 1);
-    if has_own_cells(shape) { append_own_cells(world) } else { 0 }
+    if has_own_cells(shape) {
+        append_own_cells(world)
+    } else {
+        0
+    }
 }
 
 // Puts the head word before the transactions.
 fn put_head(world: &mut [u32], desks: u32, total: u32) {
     let words = get(world, PLAN_WORDS);
     put(world, DESKS, desks);
-    put(world, PLAN, 0x1000_0000 + desks % 16 * 0x100_0000 + total % 256 * 0x1_0000 + words % 0x1_0000);
+    put(
+        world,
+        PLAN,
+        0x1000_0000 + desks % 16 * 0x100_0000 + total % 256 * 0x1_0000 + words % 0x1_0000,
+    );
 }
 
 // Makes the plan's words.

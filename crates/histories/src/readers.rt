@@ -4,8 +4,6 @@ use crate::engine;
 use crate::operations::make_operation;
 use crate::second;
 use crate::side::OUT;
-use crate::world::OUT_SIZE;
-use crate::world::fill_part;
 use crate::slots::addressed;
 use crate::slots::alter_and_sum;
 use crate::slots::alter_word;
@@ -13,10 +11,12 @@ use crate::slots::take_latest;
 use crate::visits::call_visit;
 use crate::world::CLASSES;
 use crate::world::DESK;
+use crate::world::OUT_SIZE;
 use crate::world::TRANSACTION;
 use crate::world::chance;
 use crate::world::count;
 use crate::world::draw;
+use crate::world::fill_part;
 use model::put;
 
 // At times any transaction number in place of the one at hand.
@@ -80,7 +80,13 @@ pub fn start_both(world: &mut [u32], engine: &mut [u32], second: &mut [u32], siz
 }
 
 // A new desk on both sides, with what it hands back.
-pub fn open_both(world: &mut [u32], tables: &[u32], engine: &mut [u32], second: &mut [u32], desk: u32) {
+pub fn open_both(
+    world: &mut [u32],
+    tables: &[u32],
+    engine: &mut [u32],
+    second: &mut [u32],
+    desk: u32,
+) {
     put(world, DESK, desk);
     engine::new_desk(world, engine);
     second::new_desk(world, tables, second);
@@ -104,7 +110,13 @@ fn twice(world: &mut [u32], tables: &mut [u32], engine: &mut [u32], second: &mut
 }
 
 // Calls that change nothing, and a frame twice.
-pub fn odd_reader(world: &mut [u32], tables: &mut [u32], engine: &mut [u32], second: &mut [u32], form: u32) {
+pub fn odd_reader(
+    world: &mut [u32],
+    tables: &mut [u32],
+    engine: &mut [u32],
+    second: &mut [u32],
+    form: u32,
+) {
     if form == 16 {
         return odd_class(world, tables, engine, second);
     }

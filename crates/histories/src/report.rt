@@ -36,8 +36,14 @@ fn report_visits(world: &[u32]) {
     line(b"visits with several waiting", get(world, COUNTS + 11));
     line(b"globals", get(world, COUNTS + 12));
     line(b"altered frames accepted", get(world, COUNTS + 13));
-    line(b"words of the longest frame accepted", get(world, COUNTS + 14));
-    line(b"words of the longest frame written", get(world, COUNTS + 15));
+    line(
+        b"words of the longest frame accepted",
+        get(world, COUNTS + 14),
+    );
+    line(
+        b"words of the longest frame written",
+        get(world, COUNTS + 15),
+    );
     line(b"histories with the premise", get(world, COUNTS + 16));
     line(b"histories without the premise", get(world, COUNTS + 17));
 }

@@ -30,7 +30,11 @@ use model::put;
 // Counts a run that was made at once.
 fn count_run(world: &mut [u32], tables: &[u32], done: u32) {
     let class = model::class_of(tables, get(world, TRANSACTION), params_at(world, PARAMS));
-    let which = if class.tag == FREE { FREE_RUNS } else { LOCAL_RUNS };
+    let which = if class.tag == FREE {
+        FREE_RUNS
+    } else {
+        LOCAL_RUNS
+    };
     count(world, which, 1);
     count(world, DECLINED, std::num::wrapping_sub_u32(1, done));
 }
@@ -54,7 +58,14 @@ fn count_request(world: &mut [u32], tables: &[u32], side: &[u32]) {
 fn log_operation(world: &mut [u32], tables: &mut [u32]) -> usize {
     let entry = get(world, LOGGED);
     let params = params_at(world, PARAMS);
-    model::note_operation(tables, entry as usize, get(world, DESK), get(world, CLIENT), get(world, TRANSACTION), params);
+    model::note_operation(
+        tables,
+        entry as usize,
+        get(world, DESK),
+        get(world, CLIENT),
+        get(world, TRANSACTION),
+        params,
+    );
     put(world, LOGGED, add(entry, 1));
     entry as usize
 }
@@ -63,7 +74,15 @@ fn log_operation(world: &mut [u32], tables: &mut [u32]) -> usize {
 fn log_run(world: &mut [u32], tables: &mut [u32], side: &[u32]) {
     let entry = log_operation(world, tables);
     let g = get(world, done_place(get(world, DESK)));
-    model::note_finished(tables, entry, g, 1, model::narrow(entry), get(side, ANSWER + 1), get(side, ANSWER + 2));
+    model::note_finished(
+        tables,
+        entry,
+        g,
+        1,
+        model::narrow(entry),
+        get(side, ANSWER + 1),
+        get(side, ANSWER + 2),
+    );
 }
 
 // Logs a global that waits.

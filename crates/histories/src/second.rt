@@ -1,17 +1,13 @@
 // The model's calls on its side. A plan that is refused is refused by every call, and nothing changes.
+use crate::side::Answered;
+use crate::side::HANDED;
+use crate::side::OUT;
+use crate::side::REPLIES;
 use crate::side::awaited_at;
 use crate::side::book_place;
 use crate::side::put_answer;
 use crate::side::put_state;
 use crate::side::row_place;
-use crate::side::Answered;
-use crate::side::HANDED;
-use crate::side::OUT;
-use crate::side::REPLIES;
-use crate::world::frame_of;
-use crate::world::load;
-use crate::world::params_at;
-use crate::world::store;
 use crate::world::BOOK_SIZE;
 use crate::world::CLIENT;
 use crate::world::DESK;
@@ -21,29 +17,51 @@ use crate::world::RECORDS;
 use crate::world::REPLY_SIZE;
 use crate::world::TRANSACTION;
 use crate::world::VERDICT;
+use crate::world::frame_of;
+use crate::world::load;
+use crate::world::params_at;
+use crate::world::store;
+use model::Answer;
+use model::REFUSED;
+use model::REPLIED;
+use model::State;
 use model::get;
 use model::narrow;
 use model::put;
-use model::Answer;
-use model::State;
-use model::REFUSED;
-use model::REPLIED;
 
 // A refusal.
 fn refuse(side: &mut [u32], question: u32) {
-    put_answer(side, Answered { tag: REFUSED, first: question, second: 0 });
+    put_answer(
+        side,
+        Answered {
+            tag: REFUSED,
+            first: question,
+            second: 0,
+        },
+    );
 }
 
 // The state that is handed in.
 fn handed(side: &[u32]) -> State {
-    State { desk: get(side, HANDED), waiting: get(side, HANDED + 1), awaited: awaited_at(side, HANDED) }
+    State {
+        desk: get(side, HANDED),
+        waiting: get(side, HANDED + 1),
+        awaited: awaited_at(side, HANDED),
+    }
 }
 
 // Notes an answer and the state that is handed back.
 fn put_result(side: &mut [u32], answer: Answer) {
     let state = answer.state;
     put_state(side, HANDED, state.desk, state.waiting, state.awaited);
-    put_answer(side, Answered { tag: answer.tag, first: answer.first, second: answer.second });
+    put_answer(
+        side,
+        Answered {
+            tag: answer.tag,
+            first: answer.first,
+            second: answer.second,
+        },
+    );
 }
 
 // Classifies the operation at hand.
@@ -52,7 +70,14 @@ pub fn classify(world: &[u32], tables: &[u32], side: &mut [u32]) {
         return refuse(side, get(world, VERDICT));
     }
     let class = model::class_of(tables, get(world, TRANSACTION), params_at(world, PARAMS));
-    put_answer(side, Answered { tag: class.tag, first: class.number, second: 0 });
+    put_answer(
+        side,
+        Answered {
+            tag: class.tag,
+            first: class.number,
+            second: 0,
+        },
+    );
 }
 
 // A new desk, whose state is handed back.
@@ -62,12 +87,20 @@ pub fn new_desk(world: &[u32], tables: &[u32], side: &mut [u32]) {
     }
     let desk = get(world, DESK);
     let answer = model::new_desk(tables, desk);
-    if answer.tag == REFUSED { refuse(side, answer.first) } else { put_result(side, answer) }
+    if answer.tag == REFUSED {
+        refuse(side, answer.first)
+    } else {
+        put_result(side, answer)
+    }
 }
 
 // The starting frame in a buffer of some size.
 fn start(out: &mut [u32], size: usize) -> u32 {
-    if size <= out.len() { model::starting_frame(&mut out[..size]) } else { 0 }
+    if size <= out.len() {
+        model::starting_frame(&mut out[..size])
+    } else {
+        0
+    }
 }
 
 // The starting frame in the outgoing buffer.
@@ -77,7 +110,14 @@ pub fn starting_frame(world: &[u32], side: &mut [u32]) {
     let question = start(&mut out, get(world, OUT_SIZE) as usize);
     store(side, OUT, &out);
     let tag: u32 = if question > 0 { REFUSED } else { REPLIED };
-    put_answer(side, Answered { tag: tag, first: question, second: 0 });
+    put_answer(
+        side,
+        Answered {
+            tag: tag,
+            first: question,
+            second: 0,
+        },
+    );
 }
 
 // Questions 1 to 4 and 10 to 12.
@@ -94,7 +134,14 @@ pub fn frame_visit(world: &[u32], tables: &[u32], side: &mut [u32]) {
     if question > 0 {
         return refuse(side, question);
     }
-    put_answer(side, Answered { tag: REPLIED, first: get(frame_of(world), 1), second: 0 });
+    put_answer(
+        side,
+        Answered {
+            tag: REPLIED,
+            first: get(frame_of(world), 1),
+            second: 0,
+        },
+    );
 }
 
 // The words of a frame from word 2 to the sums.
@@ -125,7 +172,16 @@ fn request_on(world: &[u32], tables: &[u32], side: &mut [u32], cells: &mut [u32]
     let client = get(world, CLIENT);
     let transaction = get(world, TRANSACTION);
     if size <= cells.len() {
-        let answer = model::request(tables, state, &mut cells[..size], row, lent, client, transaction, params);
+        let answer = model::request(
+            tables,
+            state,
+            &mut cells[..size],
+            row,
+            lent,
+            client,
+            transaction,
+            params,
+        );
         put_result(side, answer);
     }
 }
@@ -146,22 +202,55 @@ pub fn request(world: &[u32], tables: &[u32], side: &mut [u32]) {
 }
 
 // A visit with a book and a row, and with parts of the outgoing buffer and of the replies.
-fn visit_in(world: &[u32], tables: &[u32], side: &mut [u32], cells: &mut [u32], row: &[u32], out: &mut [u32], replies: &mut [u32]) {
+fn visit_in(
+    world: &[u32],
+    tables: &[u32],
+    side: &mut [u32],
+    cells: &mut [u32],
+    row: &[u32],
+    out: &mut [u32],
+    replies: &mut [u32],
+) {
     let state = handed(side);
     let lent = get(world, RECORDS) as usize;
-    let answer = model::visit(tables, state, cells, row, lent, frame_of(world), out, replies);
+    let answer = model::visit(
+        tables,
+        state,
+        cells,
+        row,
+        lent,
+        frame_of(world),
+        out,
+        replies,
+    );
     put_result(side, answer);
 }
 
 // A visit with buffers of the sizes at hand, of which more words are there.
-fn visit_on(world: &[u32], tables: &[u32], side: &mut [u32], cells: &mut [u32], row: &[u32], out: &mut [u32], replies: &mut [u32]) {
+fn visit_on(
+    world: &[u32],
+    tables: &[u32],
+    side: &mut [u32],
+    cells: &mut [u32],
+    row: &[u32],
+    out: &mut [u32],
+    replies: &mut [u32],
+) {
     let size = get(world, BOOK_SIZE) as usize;
     let out_size = get(world, OUT_SIZE) as usize;
     let reply_size = get(world, REPLY_SIZE) as usize;
     if size <= cells.len() {
         if out_size <= out.len() {
             if reply_size <= replies.len() {
-                visit_in(world, tables, side, &mut cells[..size], row, &mut out[..out_size], &mut replies[..reply_size]);
+                visit_in(
+                    world,
+                    tables,
+                    side,
+                    &mut cells[..size],
+                    row,
+                    &mut out[..out_size],
+                    &mut replies[..reply_size],
+                );
             }
         }
     }
@@ -181,7 +270,15 @@ pub fn visit(world: &[u32], tables: &[u32], side: &mut [u32]) {
     load(side, row_place(desk), &mut row);
     load(side, OUT, &mut out);
     load(side, REPLIES, &mut replies);
-    visit_on(world, tables, side, &mut cells, &row, &mut out, &mut replies);
+    visit_on(
+        world,
+        tables,
+        side,
+        &mut cells,
+        &row,
+        &mut out,
+        &mut replies,
+    );
     store(side, book_place(desk), &cells);
     store(side, OUT, &out);
     store(side, REPLIES, &replies);

@@ -6,12 +6,19 @@ use model::narrow;
 use model::put;
 
 pub const ANSWER: usize = 0;
+
 pub const HANDED: usize = 4;
+
 pub const STATES: usize = 8;
+
 pub const BOOKS: usize = 40;
+
 pub const ROWS: usize = 8240;
+
 pub const OUT: usize = 9824;
+
 pub const REPLIES: usize = 16240;
+
 pub const SIDE: usize = 16340;
 
 // An answer: its tag and two numbers.
@@ -59,8 +66,16 @@ pub fn awaited_at(side: &[u32], at: usize) -> u64 {
 pub fn put_state(side: &mut [u32], at: usize, desk: u32, waiting: u32, awaited: u64) {
     put(side, at, desk);
     put(side, std::num::wrapping_add_usize(at, 1), waiting);
-    put(side, std::num::wrapping_add_usize(at, 2), (awaited % 0x1_0000_0000) as u32);
-    put(side, std::num::wrapping_add_usize(at, 3), (awaited / 0x1_0000_0000) as u32);
+    put(
+        side,
+        std::num::wrapping_add_usize(at, 2),
+        (awaited % 0x1_0000_0000) as u32,
+    );
+    put(
+        side,
+        std::num::wrapping_add_usize(at, 3),
+        (awaited / 0x1_0000_0000) as u32,
+    );
 }
 
 // The place of the first difference of two sides, or their length.

@@ -2,8 +2,8 @@
 use crate::damage::alter;
 use crate::world::DESKS;
 use crate::world::FRAME;
-use crate::world::FRAMES;
 use crate::world::FRAME_WORDS;
+use crate::world::FRAMES;
 use crate::world::SIZES;
 use crate::world::SLOTS;
 use crate::world::draw;
@@ -81,7 +81,9 @@ fn is_slot(world: &[u32], slot: u32) -> bool {
     let from = slot_place(slot);
     let end = size as usize;
     for i in 0..end {
-        if get(world, std::num::wrapping_add_usize(from, i)) != get(world, std::num::wrapping_add_usize(FRAME, i)) {
+        if get(world, std::num::wrapping_add_usize(from, i))
+            != get(world, std::num::wrapping_add_usize(FRAME, i))
+        {
             return false;
         }
     }

@@ -74,12 +74,23 @@ fn finish_entry(world: &mut [u32], tables: &mut [u32], side: &[u32], i: usize, k
     let done = get(side, reply_place(k, 0)) % 2;
     model::note_finished(tables, i, number, 0, 0, done, get(side, reply_place(k, 2)));
     if get(side, reply_place(k, 1)) != model::logged(tables, i, 5) {
-        differ(world, 20002, get(side, reply_place(k, 1)), model::logged(tables, i, 5));
+        differ(
+            world,
+            20002,
+            get(side, reply_place(k, 1)),
+            model::logged(tables, i, 5),
+        );
     }
 }
 
 // Finishes entry i if it waits at the desk, and gives the number of the next reply.
-fn finish_if_waiting(world: &mut [u32], tables: &mut [u32], side: &[u32], i: usize, k: usize) -> usize {
+fn finish_if_waiting(
+    world: &mut [u32],
+    tables: &mut [u32],
+    side: &[u32],
+    i: usize,
+    k: usize,
+) -> usize {
     if model::logged(tables, i, 0) == 1 {
         return k;
     }
@@ -162,7 +173,13 @@ fn note_passed(world: &mut [u32], tables: &mut [u32], engine: &[u32]) {
 }
 
 // A visit at a desk with its own state and fit buffers.
-pub fn call_visit(world: &mut [u32], tables: &mut [u32], engine: &mut [u32], second: &mut [u32], desk: u32) {
+pub fn call_visit(
+    world: &mut [u32],
+    tables: &mut [u32],
+    engine: &mut [u32],
+    second: &mut [u32],
+    desk: u32,
+) {
     ready(world, engine, second, desk);
     let out = draw(world, 3);
     let replies = draw(world, 3);

@@ -12,8 +12,11 @@ use crate::mark::touched_elsewhere;
 use crate::words::param;
 
 pub const FREE: u32 = 0;
+
 pub const LOCAL: u32 = 1;
+
 pub const GLOBAL: u32 = 2;
+
 pub const REFUSED: u32 = 3;
 
 // A class with its desk (0 for a free one), or a refusal with its question.
@@ -81,21 +84,39 @@ fn is_apart(tables: &[u32], k: usize, params: [u32; 4]) -> bool {
 // Questions 7 and 8, and then the class.
 pub fn class_of(tables: &[u32], transaction: u32, params: [u32; 4]) -> Class {
     if transaction >= transactions_of(tables) {
-        return Class { tag: REFUSED, number: 7 };
+        return Class {
+            tag: REFUSED,
+            number: 7,
+        };
     }
     let k = transaction as usize;
     if !unused_zero(tables, k, params) {
-        return Class { tag: REFUSED, number: 8 };
+        return Class {
+            tag: REFUSED,
+            number: 8,
+        };
     }
     if !rows_fit(tables, k, params) {
-        return Class { tag: REFUSED, number: 8 };
+        return Class {
+            tag: REFUSED,
+            number: 8,
+        };
     }
     if is_free(tables, k, params) {
-        return Class { tag: FREE, number: 0 };
+        return Class {
+            tag: FREE,
+            number: 0,
+        };
     }
     let desk = desk_of(tables, k, params);
     if is_apart(tables, k, params) {
-        return Class { tag: LOCAL, number: desk };
+        return Class {
+            tag: LOCAL,
+            number: desk,
+        };
     }
-    Class { tag: GLOBAL, number: desk }
+    Class {
+        tag: GLOBAL,
+        number: desk,
+    }
 }

@@ -12,7 +12,9 @@ use crate::words::get;
 use crate::words::put;
 
 pub const REPLIED: u32 = 4;
+
 pub const WAITS: u32 = 5;
+
 pub const ELSEWHERE: u32 = 6;
 
 // A desk's state.
@@ -33,16 +35,30 @@ pub struct Answer {
 
 // A new desk: 0, or question 6. Its state has none waiting and awaits its own number.
 pub fn new_desk(tables: &[u32], desk: u32) -> Answer {
-    let state = State { desk: desk, waiting: 0, awaited: desk as u64 };
+    let state = State {
+        desk: desk,
+        waiting: 0,
+        awaited: desk as u64,
+    };
     if desk < desks_of(tables) {
-        return Answer { tag: REPLIED, first: 0, second: 0, state: state };
+        return Answer {
+            tag: REPLIED,
+            first: 0,
+            second: 0,
+            state: state,
+        };
     }
     refused(6, state)
 }
 
 // A refusal.
 pub fn refused(question: u32, state: State) -> Answer {
-    Answer { tag: REFUSED, first: question, second: 0, state: state }
+    Answer {
+        tag: REFUSED,
+        first: question,
+        second: 0,
+        state: state,
+    }
 }
 
 // Word f of record i: client, transaction, four parameters.
@@ -63,7 +79,12 @@ fn record_place(i: u32, f: usize) -> usize {
 
 // The four parameters of record i.
 pub fn record_params(row: &[u32], i: u32) -> [u32; 4] {
-    [record(row, i, 2), record(row, i, 3), record(row, i, 4), record(row, i, 5)]
+    [
+        record(row, i, 2),
+        record(row, i, 3),
+        record(row, i, 4),
+        record(row, i, 5),
+    ]
 }
 
 // Puts a request into record i.
@@ -118,7 +139,12 @@ fn run_now(tables: &[u32], state: State, book: &mut [u32], k: usize, params: [u3
     let result = run(tables, k, params, book, &mut update);
     apply(&update, result.cells, book);
     let done: u32 = if result.done { 1 } else { 0 };
-    Answer { tag: REPLIED, first: done, second: result.number, state: state }
+    Answer {
+        tag: REPLIED,
+        first: done,
+        second: result.number,
+        state: state,
+    }
 }
 
 // Question 9, and then the request joins the row.
@@ -127,12 +153,27 @@ fn join(state: State, row: &mut [u32], client: u32, transaction: u32, params: [u
         return refused(9, state);
     }
     store_record(row, state.waiting, client, transaction, params);
-    let after = State { desk: state.desk, waiting: add(state.waiting, 1), awaited: state.awaited };
-    Answer { tag: WAITS, first: 0, second: 0, state: after }
+    let after = State {
+        desk: state.desk,
+        waiting: add(state.waiting, 1),
+        awaited: state.awaited,
+    };
+    Answer {
+        tag: WAITS,
+        first: 0,
+        second: 0,
+        state: after,
+    }
 }
 
 // Questions 5 and 6 of a request, 0 if both are answered with yes.
-fn request_question(tables: &[u32], state: State, book: &[u32], row: &[u32], records: usize) -> u32 {
+fn request_question(
+    tables: &[u32],
+    state: State,
+    book: &[u32],
+    row: &[u32],
+    records: usize,
+) -> u32 {
     if book.len() != 1024 {
         return 5;
     }
@@ -165,7 +206,12 @@ pub fn request(
         return run_now(tables, state, book, transaction as usize, params);
     }
     if class.number != state.desk {
-        return Answer { tag: ELSEWHERE, first: class.number, second: 0, state: state };
+        return Answer {
+            tag: ELSEWHERE,
+            first: class.number,
+            second: 0,
+            state: state,
+        };
     }
     if class.tag == LOCAL {
         return run_now(tables, state, book, transaction as usize, params);

@@ -22,7 +22,10 @@ pub fn frame_sums(words: &[u32], end: usize) -> Sums {
         first = add(first, get(words, i));
         second = add(second, first);
     }
-    Sums { first: first, second: second }
+    Sums {
+        first: first,
+        second: second,
+    }
 }
 
 // The place of the first sum in a frame.
@@ -93,17 +96,29 @@ fn entry_fits(word: u32, left: u32) -> bool {
     if left % 2 == 1 {
         return true;
     }
-    if kind(word) != 11 { false } else { part(word, 1024, 0x4_0000) == 0 }
+    if kind(word) != 11 {
+        false
+    } else {
+        part(word, 1024, 0x4_0000) == 0
+    }
 }
 
 // How many words are due of an update after one more of its words.
 pub fn left_after(word: u32, left: u32) -> u32 {
-    if left == 0 { update_rest(word) } else { std::num::wrapping_sub_u32(left, 1) }
+    if left == 0 {
+        update_rest(word)
+    } else {
+        std::num::wrapping_sub_u32(left, 1)
+    }
 }
 
 // Question 12 for one word between header and sums, of an update of which `left` words are due.
 fn word_fits(word: u32, left: u32, desks: u32, counts: &mut [u32]) -> bool {
-    if left == 0 { update_fits(word, desks, counts) } else { entry_fits(word, left) }
+    if left == 0 {
+        update_fits(word, desks, counts)
+    } else {
+        entry_fits(word, left)
+    }
 }
 
 // Question 12 for the words between header and sums, with the updates of each desk counted.
@@ -143,7 +158,11 @@ pub fn frame_question(desks: u32, frame: &[u32]) -> u32 {
 // Writes header and sums around the updates that end at a place, and gives the number of words.
 pub fn seal(out: &mut [u32], desk: u32, visit: u32, end: usize) -> usize {
     let total = next(next(end));
-    put(out, 0, 0x9000_0000 + desk % 16 * 0x100_0000 + narrow(total) % 0x1_0000);
+    put(
+        out,
+        0,
+        0x9000_0000 + desk % 16 * 0x100_0000 + narrow(total) % 0x1_0000,
+    );
     put(out, 1, visit);
     let sums = frame_sums(out, end);
     put(out, end, sums.first);

@@ -21,13 +21,21 @@ use crate::words::with_param;
 // The desk of an operation of transaction k.
 pub fn desk_of(tables: &[u32], k: usize, params: [u32; 4]) -> u32 {
     let partition = partitioning(tables, k);
-    if partition > 3 { 0 } else { remainder(param(params, partition), desks_of(tables)) }
+    if partition > 3 {
+        0
+    } else {
+        remainder(param(params, partition), desks_of(tables))
+    }
 }
 
 // The row of a read or write step.
 pub fn row_of(tables: &[u32], k: usize, j: usize, params: [u32; 4]) -> u32 {
     let source = step_source(tables, k, j);
-    if source > 3 { step_fixed(tables, k, j) } else { param(params, source) }
+    if source > 3 {
+        step_fixed(tables, k, j)
+    } else {
+        param(params, source)
+    }
 }
 
 // The cell of a read or write step.

@@ -32,7 +32,11 @@ pub fn transaction_fits(word: u32) -> bool {
         return false;
     }
     let partition = part(word, 0x1_0000, 16);
-    if partition <= 3 { true } else { partition == 15 }
+    if partition <= 3 {
+        true
+    } else {
+        partition == 15
+    }
 }
 
 // Question 3 for a source and the fixed field that goes with it.
@@ -69,7 +73,15 @@ fn enter_transaction(tables: &mut [u32], k: usize, word: u32) {
 }
 
 // Enters the fields of a step into the table.
-fn enter_fields(tables: &mut [u32], k: usize, j: usize, table: u32, column: u32, source: u32, fixed: u32) {
+fn enter_fields(
+    tables: &mut [u32],
+    k: usize,
+    j: usize,
+    table: u32,
+    column: u32,
+    source: u32,
+    fixed: u32,
+) {
     put(tables, step_place(k, j, 1), table);
     put(tables, step_place(k, j, 2), column);
     put(tables, step_place(k, j, 3), source);
@@ -80,11 +92,27 @@ fn enter_fields(tables: &mut [u32], k: usize, j: usize, table: u32, column: u32,
 fn enter_step(tables: &mut [u32], k: usize, j: usize, word: u32) {
     put(tables, step_place(k, j, 0), kind(word));
     if kind(word) > 4 {
-        enter_fields(tables, k, j, 0, 0, part(word, 0x200_0000, 8), part(word, 1, 0x200_0000));
+        enter_fields(
+            tables,
+            k,
+            j,
+            0,
+            0,
+            part(word, 0x200_0000, 8),
+            part(word, 1, 0x200_0000),
+        );
     } else {
         let table = part(word, 0x200_0000, 8);
         let column = part(word, 0x80_0000, 4);
-        enter_fields(tables, k, j, table, column, part(word, 0x10_0000, 8), part(word, 1, 32));
+        enter_fields(
+            tables,
+            k,
+            j,
+            table,
+            column,
+            part(word, 0x10_0000, 8),
+            part(word, 1, 32),
+        );
     }
 }
 
@@ -93,7 +121,11 @@ pub fn word_fits(word: u32, left: u32, k: usize, transactions: u32) -> bool {
     if left > 0 {
         return step_fits(word);
     }
-    if narrow(k) == transactions { false } else { transaction_fits(word) }
+    if narrow(k) == transactions {
+        false
+    } else {
+        transaction_fits(word)
+    }
 }
 
 // Where a walk over the plan stands: transactions begun, steps seen of the last, steps of it still due.
@@ -107,15 +139,32 @@ struct Walk {
 fn enter_word(tables: &mut [u32], walk: Walk, word: u32) -> Walk {
     if walk.left == 0 {
         enter_transaction(tables, walk.begun, word);
-        return Walk { begun: next(walk.begun), seen: 0, left: part(word, 0x10_0000, 16) };
+        return Walk {
+            begun: next(walk.begun),
+            seen: 0,
+            left: part(word, 0x10_0000, 16),
+        };
     }
-    enter_step(tables, std::num::wrapping_sub_usize(walk.begun, 1), walk.seen, word);
-    Walk { begun: walk.begun, seen: next(walk.seen), left: std::num::wrapping_sub_u32(walk.left, 1) }
+    enter_step(
+        tables,
+        std::num::wrapping_sub_usize(walk.begun, 1),
+        walk.seen,
+        word,
+    );
+    Walk {
+        begun: walk.begun,
+        seen: next(walk.seen),
+        left: std::num::wrapping_sub_u32(walk.left, 1),
+    }
 }
 
 // Question 3: walks the plan word by word and fills the table.
 fn decode(plan: &[u32], transactions: u32, tables: &mut [u32]) -> bool {
-    let mut walk = Walk { begun: 0, seen: 0, left: 0 };
+    let mut walk = Walk {
+        begun: 0,
+        seen: 0,
+        left: 0,
+    };
     for at in 1..plan.len() {
         let word = get(plan, at);
         if !word_fits(word, walk.left, walk.begun, transactions) {
@@ -123,7 +172,11 @@ fn decode(plan: &[u32], transactions: u32, tables: &mut [u32]) -> bool {
         }
         walk = enter_word(tables, walk, word);
     }
-    if walk.left > 0 { false } else { narrow(walk.begun) == transactions }
+    if walk.left > 0 {
+        false
+    } else {
+        narrow(walk.begun) == transactions
+    }
 }
 
 // Whether a source, or a partitioning parameter, is a parameter that does not exist.

@@ -23,7 +23,12 @@ pub fn note(tables: &mut [u32], i: usize, f: usize, word: u32) {
 
 // The four parameters of entry i.
 fn logged_params(tables: &[u32], i: usize) -> [u32; 4] {
-    [logged(tables, i, 7), logged(tables, i, 8), logged(tables, i, 9), logged(tables, i, 10)]
+    [
+        logged(tables, i, 7),
+        logged(tables, i, 8),
+        logged(tables, i, 9),
+        logged(tables, i, 10),
+    ]
 }
 
 // Notes the four parameters of entry i.
@@ -35,7 +40,14 @@ fn note_params(tables: &mut [u32], i: usize, params: [u32; 4]) {
 }
 
 // Notes an operation and its client in entry i, not finished and not run.
-pub fn note_operation(tables: &mut [u32], i: usize, desk: u32, client: u32, transaction: u32, params: [u32; 4]) {
+pub fn note_operation(
+    tables: &mut [u32],
+    i: usize,
+    desk: u32,
+    client: u32,
+    transaction: u32,
+    params: [u32; 4],
+) {
     note(tables, i, 0, 0);
     note(tables, i, 3, desk);
     note(tables, i, 5, client);
@@ -45,7 +57,15 @@ pub fn note_operation(tables: &mut [u32], i: usize, desk: u32, client: u32, tran
 }
 
 // Notes that entry i is finished: global number g or, if `apart`, a local or free run after global g; and the reply that it got.
-pub fn note_finished(tables: &mut [u32], i: usize, g: u32, apart: u32, order: u32, done: u32, number: u32) {
+pub fn note_finished(
+    tables: &mut [u32],
+    i: usize,
+    g: u32,
+    apart: u32,
+    order: u32,
+    done: u32,
+    number: u32,
+) {
     note(tables, i, 0, 1);
     note(tables, i, 1, g);
     note(tables, i, 2, apart);
@@ -71,7 +91,11 @@ fn precedes(tables: &[u32], i: usize, j: usize) -> bool {
 
 // Whether entry i is finished and has not run serially.
 fn is_due(tables: &[u32], i: usize) -> bool {
-    if logged(tables, i, 0) == 0 { false } else { logged(tables, i, 13) == 0 }
+    if logged(tables, i, 0) == 0 {
+        false
+    } else {
+        logged(tables, i, 13) == 0
+    }
 }
 
 // Whether entry i is due before the best found so far, `count` standing for none.
@@ -79,7 +103,11 @@ fn is_better(tables: &[u32], i: usize, best: usize, count: usize) -> bool {
     if !is_due(tables, i) {
         return false;
     }
-    if best == count { true } else { precedes(tables, i, best) }
+    if best == count {
+        true
+    } else {
+        precedes(tables, i, best)
+    }
 }
 
 // The first entry in serial order of those that are due, or `count`.
@@ -96,17 +124,31 @@ fn first_due(tables: &[u32], count: usize) -> usize {
 // Runs entry i on the book, and says whether the reply due is the one that was given.
 fn run_entry(tables: &mut [u32], i: usize, book: &mut [u32]) -> bool {
     let mut update = [0u32; 24];
-    let result = run(tables, logged(tables, i, 6) as usize, logged_params(tables, i), book, &mut update);
+    let result = run(
+        tables,
+        logged(tables, i, 6) as usize,
+        logged_params(tables, i),
+        book,
+        &mut update,
+    );
     apply(&update, result.cells, book);
     note(tables, i, 13, 1);
     let done: u32 = if result.done { 1 } else { 0 };
-    if logged(tables, i, 11) != done { false } else { logged(tables, i, 12) == result.number }
+    if logged(tables, i, 11) != done {
+        false
+    } else {
+        logged(tables, i, 12) == result.number
+    }
 }
 
 // Runs the first entry that is due, and says whether there is none or its reply is the one due.
 fn run_first(tables: &mut [u32], count: usize, book: &mut [u32]) -> bool {
     let i = first_due(tables, count);
-    if i < count { run_entry(tables, i, book) } else { true }
+    if i < count {
+        run_entry(tables, i, book)
+    } else {
+        true
+    }
 }
 
 // Runs all finished operations of a log in serial order, and says whether each reply is the one due.

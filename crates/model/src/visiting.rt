@@ -91,16 +91,39 @@ fn put_reply(replies: &mut [u32], i: u32, done: bool, client: u32, number: u32) 
 }
 
 // Runs waiting request i, applies its update, writes it at a place of the outgoing frame, replies, and gives the place after it.
-fn run_record(tables: &[u32], own: u32, book: &mut [u32], row: &[u32], i: u32, out: &mut [u32], at: usize, replies: &mut [u32]) -> usize {
+fn run_record(
+    tables: &[u32],
+    own: u32,
+    book: &mut [u32],
+    row: &[u32],
+    i: u32,
+    out: &mut [u32],
+    at: usize,
+    replies: &mut [u32],
+) -> usize {
     let mut update = [0u32; 24];
-    let result = run(tables, record(row, i, 1) as usize, record_params(row, i), book, &mut update);
+    let result = run(
+        tables,
+        record(row, i, 1) as usize,
+        record_params(row, i),
+        book,
+        &mut update,
+    );
     apply(&update, result.cells, book);
     put_reply(replies, i, result.done, record(row, i, 0), result.number);
     write_update(&update, result.cells, own, out, at)
 }
 
 // Runs all waiting requests in order, and gives the place after their updates.
-fn run_row(tables: &[u32], state: State, book: &mut [u32], row: &[u32], out: &mut [u32], start: usize, replies: &mut [u32]) -> usize {
+fn run_row(
+    tables: &[u32],
+    state: State,
+    book: &mut [u32],
+    row: &[u32],
+    out: &mut [u32],
+    start: usize,
+    replies: &mut [u32],
+) -> usize {
     let waiting = state.waiting;
     let own = state.desk;
     let mut at = start;
@@ -118,7 +141,11 @@ fn buffers_fit(book: &[u32], records: usize, out: &[u32], replies: &[u32]) -> bo
     if records != 32 {
         return false;
     }
-    if out.len() < 6404 { false } else { replies.len() >= 96 }
+    if out.len() < 6404 {
+        false
+    } else {
+        replies.len() >= 96
+    }
 }
 
 // Questions 10 to 15, 0 if all are answered with yes.
@@ -137,7 +164,15 @@ fn token_question(desks: u32, state: State, frame: &[u32]) -> u32 {
 }
 
 // What a visit does once all questions are answered with yes.
-fn pass(tables: &[u32], state: State, book: &mut [u32], row: &[u32], frame: &[u32], out: &mut [u32], replies: &mut [u32]) -> Answer {
+fn pass(
+    tables: &[u32],
+    state: State,
+    book: &mut [u32],
+    row: &[u32],
+    frame: &[u32],
+    out: &mut [u32],
+    replies: &mut [u32],
+) -> Answer {
     let desks = desks_of(tables);
     let number = get(frame, 1);
     apply_others(frame, state.desk, book);
@@ -145,8 +180,17 @@ fn pass(tables: &[u32], state: State, book: &mut [u32], row: &[u32], frame: &[u3
     let end = run_row(tables, state, book, row, out, copied, replies);
     let following = add(number, 1);
     let total = seal(out, remainder(following, desks), following, end);
-    let after = State { desk: state.desk, waiting: 0, awaited: number as u64 + desks as u64 };
-    Answer { tag: PASSED, first: narrow(total), second: state.waiting, state: after }
+    let after = State {
+        desk: state.desk,
+        waiting: 0,
+        awaited: number as u64 + desks as u64,
+    };
+    Answer {
+        tag: PASSED,
+        first: narrow(total),
+        second: state.waiting,
+        state: after,
+    }
 }
 
 // A visit with a plan that is accepted.
