@@ -1,4 +1,5 @@
 // What requests and visits have in common: the state handed in, the comparison, and what is kept afterwards.
+use crate::parts::move_part;
 use crate::side::ANSWER;
 use crate::side::HANDED;
 use crate::side::compare;
@@ -12,7 +13,6 @@ use crate::world::DONE_AT;
 use crate::world::RECORDS;
 use crate::world::count;
 use crate::world::count_refusals;
-use crate::world::move_part;
 use model::REFUSED;
 use model::get;
 use model::put;

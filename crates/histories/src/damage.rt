@@ -1,9 +1,9 @@
 // Damages of words and of plans.
-use crate::plans::append;
+use crate::draws::draw;
+use crate::draws::draw_word;
+use crate::steps::append;
 use crate::world::PLAN;
 use crate::world::PLAN_WORDS;
-use crate::world::draw;
-use crate::world::draw_word;
 use model::add;
 use model::get;
 use model::part;

@@ -1,4 +1,5 @@
 // The end of a history: its replies and cells against the serial run.
+use crate::parts::load;
 use crate::side::book_place;
 use crate::world::CLEAN;
 use crate::world::LATEST;
@@ -8,7 +9,6 @@ use crate::world::WITH_PREMISE;
 use crate::world::WITHOUT_PREMISE;
 use crate::world::count;
 use crate::world::differ;
-use crate::world::load;
 use model::get;
 
 // Compares the cells of the engine's books with a book of serial values.

@@ -1,12 +1,12 @@
 // Frames that no desk has written, with right sums, at times of the largest size.
+use crate::draws::chance;
+use crate::draws::draw;
+use crate::draws::times;
 use crate::slots::frame_place;
 use crate::slots::sum_again;
 use crate::world::DESKS;
 use crate::world::FRAME;
 use crate::world::FRAME_WORDS;
-use crate::world::chance;
-use crate::world::draw;
-use crate::world::times;
 use model::add;
 use model::get;
 use model::put;

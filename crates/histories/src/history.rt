@@ -1,4 +1,6 @@
 // One history: a plan, new desks, sixty calls, and the serial run at its end.
+use crate::draws::chance;
+use crate::draws::draw;
 use crate::ending::finish;
 use crate::odd::odd_call;
 use crate::openings::open_history;
@@ -14,8 +16,6 @@ use crate::world::FORGING;
 use crate::world::PACE;
 use crate::world::SEED;
 use crate::world::STATE;
-use crate::world::chance;
-use crate::world::draw;
 use model::get;
 use model::put;
 

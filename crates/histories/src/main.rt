@@ -1,6 +1,7 @@
 // Random histories of the engine against the second model: every call compared whole, and every history with its serial run.
 mod calls;
 mod damage;
+mod draws;
 mod ending;
 mod engine;
 mod forge;
@@ -9,13 +10,18 @@ mod loans;
 mod odd;
 mod openings;
 mod operations;
+mod parts;
 mod plans;
 mod readers;
+mod reading;
+mod records;
 mod report;
 mod requests;
 mod second;
 mod side;
 mod slots;
+mod states;
+mod steps;
 mod visits;
 mod world;
 

@@ -1,5 +1,7 @@
 // Odd calls: what the questions refuse, and calls that change nothing.
 use crate::calls::ready;
+use crate::draws::draw;
+use crate::draws::times;
 use crate::forge::forge;
 use crate::loans::odd_loan;
 use crate::operations::make_operation;
@@ -20,8 +22,6 @@ use crate::world::FORGING;
 use crate::world::FRAME;
 use crate::world::PARAMS;
 use crate::world::TRANSACTION;
-use crate::world::draw;
-use crate::world::times;
 use model::add;
 use model::get;
 use model::put;

@@ -1,7 +1,12 @@
 // The opening of a history: its plan, at times tried damaged first, new desks, the starting frame and the starting book.
 use crate::calls::settle;
 use crate::damage::damage;
+use crate::draws::chance;
+use crate::draws::draw;
 use crate::engine;
+use crate::parts::fill_part;
+use crate::parts::move_part;
+use crate::parts::plan_of;
 use crate::plans::make_plan;
 use crate::readers::classify_both;
 use crate::readers::open_both;
@@ -35,14 +40,9 @@ use crate::world::REPLY_SIZE;
 use crate::world::SLOTS;
 use crate::world::START;
 use crate::world::VERDICT;
-use crate::world::chance;
 use crate::world::count;
 use crate::world::count_refusals;
 use crate::world::differ;
-use crate::world::draw;
-use crate::world::fill_part;
-use crate::world::move_part;
-use crate::world::plan_of;
 use model::add;
 use model::get;
 use model::narrow;

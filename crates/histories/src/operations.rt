@@ -1,5 +1,8 @@
 // Operations to ask for: mostly such that pass questions 7 and 8, and mostly at their own desk.
 use crate::calls::ready;
+use crate::draws::chance;
+use crate::draws::draw;
+use crate::draws::draw_word;
 use crate::requests::call_request;
 use crate::world::BURST;
 use crate::world::BURST_DESK;
@@ -8,9 +11,6 @@ use crate::world::BURST_TRANSACTION;
 use crate::world::DESKS;
 use crate::world::PARAMS;
 use crate::world::TRANSACTION;
-use crate::world::chance;
-use crate::world::draw;
-use crate::world::draw_word;
 use crate::world::params_at;
 use crate::world::put_params;
 use model::GLOBAL;

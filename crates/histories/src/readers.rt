@@ -1,8 +1,11 @@
 // Calls that change no desk: classifier, frame reader, new desk and starting frame; and a frame twice.
 use crate::calls::settle;
+use crate::draws::chance;
+use crate::draws::draw;
 use crate::engine;
 use crate::operations::make_operation;
-use crate::second;
+use crate::parts::fill_part;
+use crate::reading;
 use crate::side::OUT;
 use crate::slots::addressed;
 use crate::slots::alter_and_sum;
@@ -13,10 +16,7 @@ use crate::world::CLASSES;
 use crate::world::DESK;
 use crate::world::OUT_SIZE;
 use crate::world::TRANSACTION;
-use crate::world::chance;
 use crate::world::count;
-use crate::world::draw;
-use crate::world::fill_part;
 use model::put;
 
 // At times any transaction number in place of the one at hand.
@@ -30,7 +30,7 @@ fn any_transaction(world: &mut [u32]) {
 // The operation at hand classified on both sides.
 pub fn classify_both(world: &mut [u32], tables: &[u32], engine: &mut [u32], second: &mut [u32]) {
     engine::classify(world, engine);
-    second::classify(world, tables, second);
+    reading::classify(world, tables, second);
     settle(world, engine, second);
 }
 
@@ -56,9 +56,9 @@ fn change_read(world: &mut [u32]) {
 // Both calls of the frame reader on both sides.
 pub fn read_both(world: &mut [u32], tables: &[u32], engine: &mut [u32], second: &mut [u32]) {
     engine::frame_visit(world, engine);
-    second::frame_visit(world, tables, second);
+    reading::frame_visit(world, tables, second);
     engine::read_frame(world, engine);
-    second::read_frame(world, tables, second);
+    reading::read_frame(world, tables, second);
     settle(world, engine, second);
 }
 
@@ -75,7 +75,7 @@ pub fn start_both(world: &mut [u32], engine: &mut [u32], second: &mut [u32], siz
     fill_part(engine, OUT, 16, 0xAAAA_AAAA);
     fill_part(second, OUT, 16, 0xAAAA_AAAA);
     engine::starting_frame(world, engine);
-    second::starting_frame(world, second);
+    reading::starting_frame(world, second);
     settle(world, engine, second);
 }
 
@@ -89,7 +89,7 @@ pub fn open_both(
 ) {
     put(world, DESK, desk);
     engine::new_desk(world, engine);
-    second::new_desk(world, tables, second);
+    reading::new_desk(world, tables, second);
     settle(world, engine, second);
 }
 

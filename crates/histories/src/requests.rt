@@ -2,6 +2,7 @@
 use crate::calls::done_place;
 use crate::calls::keep;
 use crate::calls::settle;
+use crate::draws::draw;
 use crate::engine;
 use crate::second;
 use crate::side::ANSWER;
@@ -18,7 +19,6 @@ use crate::world::REQUESTS;
 use crate::world::TRANSACTION;
 use crate::world::WAITS;
 use crate::world::count;
-use crate::world::draw;
 use crate::world::params_at;
 use model::ELSEWHERE;
 use model::FREE;

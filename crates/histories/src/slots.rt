@@ -1,14 +1,14 @@
 // The frames of a history: slot 0 has the starting frame, each other what an accepted visit wrote.
 use crate::damage::alter;
+use crate::draws::draw;
+use crate::parts::frame_of;
+use crate::parts::move_part;
 use crate::world::DESKS;
 use crate::world::FRAME;
 use crate::world::FRAME_WORDS;
 use crate::world::FRAMES;
 use crate::world::SIZES;
 use crate::world::SLOTS;
-use crate::world::draw;
-use crate::world::frame_of;
-use crate::world::move_part;
 use model::add;
 use model::get;
 use model::next;

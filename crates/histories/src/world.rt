@@ -4,7 +4,6 @@ use model::add;
 use model::get;
 use model::next;
 use model::put;
-use model::remainder;
 
 pub const STATE: usize = 0;
 
@@ -120,41 +119,6 @@ pub const WITH_PREMISE: usize = 16;
 
 pub const WITHOUT_PREMISE: usize = 17;
 
-// The generator's number after x.
-fn stir(x: u32) -> u32 {
-    ((x as u64 * 1664525 + 1013904223) % 0x1_0000_0000) as u32
-}
-
-// A word times a constant, modulo 2^32.
-fn stretch(x: u32) -> u32 {
-    (x as u64 * 73244475 % 0x1_0000_0000) as u32
-}
-
-// Carries the high bits of a number of the generator into the low ones.
-fn scramble(x: u32) -> u32 {
-    let y = stretch(x ^ (x / 0x1_0000));
-    y ^ (y / 0x1_0000)
-}
-
-// A drawn number below n.
-pub fn draw(world: &mut [u32], n: u32) -> u32 {
-    let state = stir(get(world, STATE));
-    put(world, STATE, state);
-    remainder(scramble(state), n)
-}
-
-// A drawn word.
-pub fn draw_word(world: &mut [u32]) -> u32 {
-    let high = draw(world, 0x1_0000);
-    let low = draw(world, 0x1_0000);
-    high % 0x1_0000 * 0x1_0000 + low % 0x1_0000
-}
-
-// Whether a drawn number below n is 0.
-pub fn chance(world: &mut [u32], n: u32) -> bool {
-    draw(world, n) == 0
-}
-
 // Adds to count k.
 pub fn count(world: &mut [u32], k: usize, more: u32) {
     let at = COUNTS + k % 32;
@@ -175,15 +139,6 @@ pub fn count_refusals(world: &mut [u32], question: u32, more: u32) {
     put(world, at, add(get(world, at), more));
 }
 
-// n times k, for a small k.
-pub fn times(n: u32, k: u32) -> u32 {
-    let mut sum: u32 = 0;
-    for _turn in 0..k {
-        sum = add(sum, n);
-    }
-    sum
-}
-
 // Stores four parameters at a place of the world.
 pub fn put_params(world: &mut [u32], at: usize, params: [u32; 4]) {
     put(world, at, params[0]);
@@ -202,60 +157,11 @@ pub fn params_at(world: &[u32], at: usize) -> [u32; 4] {
     ]
 }
 
-// The plan's words.
-pub fn plan_of(world: &[u32]) -> &[u32] {
-    let end = PLAN + (get(world, PLAN_WORDS) % 512) as usize;
-    if end <= world.len() {
-        &world[PLAN..end]
-    } else {
-        &world[..0]
-    }
-}
-
-// The words of the frame at hand.
-pub fn frame_of(world: &[u32]) -> &[u32] {
-    let end = FRAME + (get(world, FRAME_WORDS) % 8192) as usize;
-    if end <= world.len() {
-        &world[FRAME..end]
-    } else {
-        &world[..0]
-    }
-}
-
 // Notes the first difference: place 0 is the serial run's, the others are those of the sides, plus one.
 pub fn differ(world: &mut [u32], place: u32, of_engine: u32, of_model: u32) {
     if get(world, DIFFERENCE) == 0 {
         put(world, DIFFERENCE, add(place, 1));
         put(world, OF_ENGINE, of_engine);
         put(world, OF_MODEL, of_model);
-    }
-}
-
-// Copies the words of a slice from a place on into another slice.
-pub fn load(from: &[u32], at: usize, into: &mut [u32]) {
-    for i in 0..into.len() {
-        put(into, i, get(from, std::num::wrapping_add_usize(at, i)));
-    }
-}
-
-// Copies a slice into another from a place on.
-pub fn store(into: &mut [u32], at: usize, from: &[u32]) {
-    for i in 0..from.len() {
-        put(into, std::num::wrapping_add_usize(at, i), get(from, i));
-    }
-}
-
-// Makes so many words of a slice from a place on the word given.
-pub fn fill_part(into: &mut [u32], at: usize, size: usize, word: u32) {
-    for i in 0..size {
-        put(into, std::num::wrapping_add_usize(at, i), word);
-    }
-}
-
-// Copies words within a slice.
-pub fn move_part(world: &mut [u32], from: usize, to: usize, size: usize) {
-    for i in 0..size {
-        let word = get(world, std::num::wrapping_add_usize(from, i));
-        put(world, std::num::wrapping_add_usize(to, i), word);
     }
 }

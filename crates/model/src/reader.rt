@@ -7,6 +7,7 @@ use crate::decode::steps;
 use crate::decode::transaction_place;
 use crate::decode::transactions_of;
 use crate::words::get;
+use crate::words::in_range;
 use crate::words::kind;
 use crate::words::narrow;
 use crate::words::next;
@@ -222,11 +223,6 @@ fn head_fits(plan: &[u32]) -> bool {
         return false;
     }
     part(get(plan, 0), 1, 0x1_0000) == narrow(plan.len())
-}
-
-// Whether a number is from 1 to the most that is allowed.
-fn in_range(number: u32, most: u32) -> bool {
-    if number == 0 { false } else { number <= most }
 }
 
 // Questions 1 to 4: the number of the first that is answered with no, or 0. The table is the plan's where the answer is 0.

@@ -1,6 +1,7 @@
 // The serial run of a history: finished operations by the paper's order, one after another on one book. The log lies behind the
-// marks, with 16 words an operation: 0 whether it is finished, 1 the number of globals before it or its own, 2 whether it is none of them, 3 the desk, 4 its
-// order of running, 5 client, 6 transaction, 7-10 parameters, 11 done, 12 number as replied, 13 whether it has run serially.
+// marks, with 16 words an operation: 0 whether it is finished, 1 the number of globals before it or its own, 2 whether it is none of
+// them, 3 the desk, 4 its order of running, 5 client, 6 transaction, 7-10 parameters, 11 done, 12 number as replied, 13 whether it has
+// run serially.
 use crate::run::apply;
 use crate::run::run;
 use crate::words::get;

@@ -68,3 +68,8 @@ pub fn with_param(params: [u32; 4], k: u32, value: u32) -> [u32; 4] {
     }
     changed
 }
+
+// Whether a number is from 1 to the most that is allowed.
+pub fn in_range(number: u32, most: u32) -> bool {
+    if number == 0 { false } else { number <= most }
+}

@@ -1,9 +1,9 @@
--- `histories::engine::records` is safe and ends.
+-- `histories::records::records` is safe and ends.
 -- Assumes nothing.
 use Prim.Native.Nat.{_-_, _≤_}
 use borrow.Author.Needs.{needs}
-use Rattle.histories.proofs.engine.records.Statement.{statement}
-use Rattle.histories.proofs.engine.records.Tie as tie
+use Rattle.histories.proofs.records.records.Statement.{statement}
+use Rattle.histories.proofs.records.records.Tie as tie
 
 abbrev Inv-loop : tie.InvT-loop
 Inv-loop side desk row₀ i₀ row i = i ≤ 33

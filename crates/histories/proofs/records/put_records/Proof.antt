@@ -1,11 +1,11 @@
--- `histories::engine::put_records` is safe and ends.
+-- `histories::records::put_records` is safe and ends.
 -- Assumes nothing.
 use Prim.Native.Nat.{_-_, _≤_}
 use mathlib.Core.Path.{_≡_}
 use lib.ListN.{length}
 use borrow.Author.Needs.{needs}
-use Rattle.histories.proofs.engine.put_records.Statement.{statement}
-use Rattle.histories.proofs.engine.put_records.Tie as tie
+use Rattle.histories.proofs.records.put_records.Statement.{statement}
+use Rattle.histories.proofs.records.put_records.Tie as tie
 
 abbrev Inv-loop : tie.InvT-loop
 Inv-loop side₀ desk row i₀ side i = (i ≤ 33) × (length side ≡ length side₀)

@@ -1,11 +1,11 @@
--- `histories::world::fill_part` is safe and ends.
+-- `histories::parts::fill_part` is safe and ends.
 -- Assumes nothing.
 use Prim.Native.Nat.{_-_, _≤_}
 use mathlib.Core.Path.{_≡_}
 use lib.ListN.{length}
 use borrow.Author.Needs.{needs}
-use Rattle.histories.proofs.world.fill_part.Statement.{statement}
-use Rattle.histories.proofs.world.fill_part.Tie as tie
+use Rattle.histories.proofs.parts.fill_part.Statement.{statement}
+use Rattle.histories.proofs.parts.fill_part.Tie as tie
 
 abbrev Inv-loop : tie.InvT-loop
 Inv-loop into₀ at size word i₀ into i = (i ≤ size) × (length into ≡ length into₀)

@@ -1,11 +1,11 @@
--- `histories::plans::make_steps` is safe and ends.
+-- `histories::steps::make_steps` is safe and ends.
 -- Assumes nothing.
 use Prim.Native.Nat.{_-_, _≤_}
 use mathlib.Core.Path.{_≡_}
 use lib.ListN.{length}
 use borrow.Author.Needs.{needs}
-use Rattle.histories.proofs.plans.make_steps.Statement.{statement}
-use Rattle.histories.proofs.plans.make_steps.Tie as tie
+use Rattle.histories.proofs.steps.make_steps.Statement.{statement}
+use Rattle.histories.proofs.steps.make_steps.Tie as tie
 
 abbrev Inv-loop : tie.InvT-loop
 Inv-loop world₀ theme steps j₀ world j = (j ≤ steps) × (length world ≡ length world₀)

@@ -1,11 +1,11 @@
--- `histories::world::load` is safe and ends.
+-- `histories::parts::load` is safe and ends.
 -- Assumes nothing.
 use Prim.Native.Nat.{_-_, _≤_}
 use mathlib.Core.Path.{_≡_}
 use lib.ListN.{length}
 use borrow.Author.Needs.{needs}
-use Rattle.histories.proofs.world.load.Statement.{statement}
-use Rattle.histories.proofs.world.load.Tie as tie
+use Rattle.histories.proofs.parts.load.Statement.{statement}
+use Rattle.histories.proofs.parts.load.Tie as tie
 
 abbrev Inv-loop : tie.InvT-loop
 Inv-loop from at into₀ i₀ i-end into i = (i ≤ i-end) × (length into ≡ length into₀)

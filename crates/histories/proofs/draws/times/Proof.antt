@@ -1,9 +1,9 @@
--- `histories::world::times` is safe and ends.
+-- `histories::draws::times` is safe and ends.
 -- Assumes nothing.
 use Prim.Native.Nat.{_-_, _≤_}
 use borrow.Author.Needs.{needs}
-use Rattle.histories.proofs.world.times.Statement.{statement}
-use Rattle.histories.proofs.world.times.Tie as tie
+use Rattle.histories.proofs.draws.times.Statement.{statement}
+use Rattle.histories.proofs.draws.times.Tie as tie
 
 abbrev Inv-loop : tie.InvT-loop
 Inv-loop n k sum₀ -turn₀ sum -turn = -turn ≤ k

@@ -1,12 +1,12 @@
--- `histories::second::start` is safe and ends.
+-- `histories::reading::start` is safe and ends.
 -- Assumes nothing.
 use native.Mathlib.Omega.{arith}
 use lib.ListN.{length}
 use lib.Seq.{length-take-le}
 use mathlib.Core.Path.{sym}
 use borrow.Author.Needs.{needs}
-use Rattle.histories.proofs.second.start.Statement.{statement}
-use Rattle.histories.proofs.second.start.Tie as tie
+use Rattle.histories.proofs.reading.start.Statement.{statement}
+use Rattle.histories.proofs.reading.start.Tie as tie
 
 -- src/second.rt:70:50
 slice-relend-prefix-starting-frame : tie.Need-slice-relend-prefix-starting-frame
