@@ -1,0 +1,43 @@
+-- `comparison::reading::start` is safe and ends.
+-- Assumes nothing.
+use native.Mathlib.Omega.{arith}
+use lib.ListN.{length}
+use lib.Seq.{length-take-le}
+use mathlib.Core.Path.{sym}
+use borrow.Author.Needs.{needs}
+use Rattle.comparison.proofs.reading.start.Statement.{statement}
+use Rattle.comparison.proofs.reading.start.Tie as tie
+
+-- src/second.rt:70:50
+slice-relend-prefix-starting-frame : tie.Need-slice-relend-prefix-starting-frame
+slice-relend-prefix-starting-frame c = search needs
+
+slice-aggregate-starting-frame : tie.Need-slice-aggregate-starting-frame
+slice-aggregate-starting-frame c = sym (length-take-le _ _ (omega arith))
+
+-- src/second.rt:70:28
+starting-frame-requires : tie.Need-starting-frame-requires
+starting-frame-requires c κs = search needs
+
+-- src/second.rt:69:1
+same-length : tie.Need-same-length
+same-length c = search needs
+
+-- src/second.rt:69:1
+returns : tie.Need-returns
+returns c = search needs
+
+-- src/second.rt:69:1
+returns-2 : tie.Need-returns-2
+returns-2 c = search needs
+
+pub start-spec : {M : Type 1} → statement M
+start-spec =
+    tie.close
+    (tie.spec
+    slice-relend-prefix-starting-frame
+    slice-aggregate-starting-frame
+    starting-frame-requires
+    same-length
+    returns
+    returns-2)

@@ -1,0 +1,7 @@
+// The two sides that are compared, the engine and the second model, and the calls made on both.
+pub mod calls;
+pub mod engine;
+pub mod reading;
+pub mod records;
+pub mod second;
+pub mod side;

@@ -1,0 +1,53 @@
+-- `histories::openings::furnish` is safe and ends.
+-- Assumes nothing.
+use Prim.Native.Nat.{_-_, _≤_}
+use mathlib.Core.Path.{_≡_}
+use lib.ListN.{length}
+use borrow.Author.Needs.{needs}
+use Rattle.histories.proofs.openings.furnish.Statement.{statement}
+use Rattle.histories.proofs.openings.furnish.Tie as tie
+
+abbrev Inv-loop : tie.InvT-loop
+Inv-loop world side₀ desk₀ side desk = (desk ≤ 8) × (length side ≡ length side₀)
+
+abbrev μ-loop : tie.MeasureT-loop
+μ-loop world side₀ desk₀ side desk = 8 - desk
+
+fill-part-requires : tie.Need-fill-part-requires Inv-loop μ-loop
+fill-part-requires c κs = search needs
+
+loop-holds : tie.Need-loop-holds Inv-loop μ-loop
+loop-holds c = search needs
+
+give-book-requires : tie.Need-give-book-requires Inv-loop μ-loop
+give-book-requires c κs = search needs
+
+add-desk : tie.Need-add-desk Inv-loop μ-loop
+add-desk c = search needs
+
+loop-less : tie.Need-loop-less Inv-loop μ-loop
+loop-less c = search needs
+
+loop-again : tie.Need-loop-again Inv-loop μ-loop
+loop-again c = search needs
+
+same-length : tie.Need-same-length Inv-loop μ-loop
+same-length c = search needs
+
+returns : tie.Need-returns Inv-loop μ-loop
+returns c = search needs
+
+pub furnish-spec : {M : Type 1} → statement M
+furnish-spec =
+    tie.close
+    (tie.spec
+    Inv-loop
+    μ-loop
+    fill-part-requires
+    loop-holds
+    give-book-requires
+    add-desk
+    loop-less
+    loop-again
+    same-length
+    returns)

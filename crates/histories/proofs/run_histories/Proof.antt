@@ -1,0 +1,91 @@
+-- `histories::run_histories` is safe and ends.
+-- Assumes nothing.
+use Prim.Native.Nat.{_-_, _≤_}
+use mathlib.Core.Path.{_≡_}
+use lib.ListN.{length}
+use borrow.Author.Needs.{needs}
+use Rattle.histories.proofs.run_histories.Statement.{statement}
+use Rattle.histories.proofs.run_histories.Tie as tie
+
+abbrev Inv-loop : tie.InvT-loop
+Inv-loop world₀ tables₀ engine₀ second₀ seed₀ histories -turn₀ world tables engine second seed -turn =
+    (-turn ≤ histories) × (length world ≡ length world₀) × (length tables ≡ length tables₀) × (length engine ≡ length engine₀)
+    × (length second ≡ length second₀)
+
+abbrev μ-loop : tie.MeasureT-loop
+μ-loop world₀ tables₀ engine₀ second₀ seed₀ histories -turn₀ world tables engine second seed -turn = histories - -turn
+
+loop-holds : tie.Need-loop-holds Inv-loop μ-loop
+loop-holds c = search needs
+
+history-requires : tie.Need-history-requires Inv-loop μ-loop
+history-requires c κs = search needs
+
+get-requires : tie.Need-get-requires Inv-loop μ-loop
+get-requires c κs = search needs
+
+same-length : tie.Need-same-length Inv-loop μ-loop
+same-length c = search needs
+
+same-length-2 : tie.Need-same-length-2 Inv-loop μ-loop
+same-length-2 c = search needs
+
+same-length-3 : tie.Need-same-length-3 Inv-loop μ-loop
+same-length-3 c = search needs
+
+same-length-4 : tie.Need-same-length-4 Inv-loop μ-loop
+same-length-4 c = search needs
+
+returns : tie.Need-returns Inv-loop μ-loop
+returns c = search needs
+
+add-requires : tie.Need-add-requires Inv-loop μ-loop
+add-requires c κs = search needs
+
+add--turn : tie.Need-add--turn Inv-loop μ-loop
+add--turn c = search needs
+
+loop-less : tie.Need-loop-less Inv-loop μ-loop
+loop-less c = search needs
+
+loop-again : tie.Need-loop-again Inv-loop μ-loop
+loop-again c = search needs
+
+same-length-5 : tie.Need-same-length-5 Inv-loop μ-loop
+same-length-5 c = search needs
+
+same-length-6 : tie.Need-same-length-6 Inv-loop μ-loop
+same-length-6 c = search needs
+
+same-length-7 : tie.Need-same-length-7 Inv-loop μ-loop
+same-length-7 c = search needs
+
+same-length-8 : tie.Need-same-length-8 Inv-loop μ-loop
+same-length-8 c = search needs
+
+returns-2 : tie.Need-returns-2 Inv-loop μ-loop
+returns-2 c = search needs
+
+pub run-histories-spec : {M : Type 1} → statement M
+run-histories-spec =
+    tie.close
+    (tie.spec
+    Inv-loop
+    μ-loop
+    loop-holds
+    history-requires
+    get-requires
+    same-length
+    same-length-2
+    same-length-3
+    same-length-4
+    returns
+    add-requires
+    add--turn
+    loop-less
+    loop-again
+    same-length-5
+    same-length-6
+    same-length-7
+    same-length-8
+    returns-2)
