@@ -200,7 +200,7 @@ fn make_book(world: &mut [u32]) {
 }
 
 // Gives every desk of a side the starting book and a row of no request.
-fn furnish(world: &[u32], side: &mut [u32]) {
+fn fill_desks(world: &[u32], side: &mut [u32]) {
     fill_part(side, ROWS, 1584, 0xFFFF_FFFF);
     for desk in 0..8u32 {
         give_book(world, side, desk);
@@ -234,6 +234,6 @@ pub fn open_history(world: &mut [u32], tables: &[u32], engine: &mut [u32], secon
     open_desks(world, tables, engine, second);
     first_frame(world, tables, engine, second);
     make_book(world);
-    furnish(world, engine);
-    furnish(world, second);
+    fill_desks(world, engine);
+    fill_desks(world, second);
 }

@@ -43,7 +43,6 @@ pub use serial::serial_run;
 pub use visiting::PASSED;
 pub use visiting::visit;
 pub use words::add;
-pub use words::fill;
 pub use words::get;
 pub use words::narrow;
 pub use words::next;

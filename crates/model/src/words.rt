@@ -12,13 +12,6 @@ pub fn put(a: &mut [u32], i: usize, word: u32) {
     }
 }
 
-// Makes every word of a slice the one given.
-pub fn fill(a: &mut [u32], word: u32) {
-    for i in 0..a.len() {
-        put(a, i, word);
-    }
-}
-
 // The bits of a word from the one worth `unit` on, as many as make numbers below `span`.
 pub fn part(word: u32, unit: u32, span: u32) -> u32 {
     if unit == 0 {

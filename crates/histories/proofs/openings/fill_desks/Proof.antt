@@ -1,11 +1,11 @@
--- `histories::openings::furnish` is safe and ends.
+-- `histories::openings::fill_desks` is safe and ends.
 -- Assumes nothing.
 use Prim.Native.Nat.{_-_, _≤_}
 use mathlib.Core.Path.{_≡_}
 use lib.ListN.{length}
 use borrow.Author.Needs.{needs}
-use Rattle.histories.proofs.openings.furnish.Statement.{statement}
-use Rattle.histories.proofs.openings.furnish.Tie as tie
+use Rattle.histories.proofs.openings.fill_desks.Statement.{statement}
+use Rattle.histories.proofs.openings.fill_desks.Tie as tie
 
 abbrev Inv-loop : tie.InvT-loop
 Inv-loop world side₀ desk₀ side desk = (desk ≤ 8) × (length side ≡ length side₀)
@@ -37,8 +37,8 @@ same-length c = search needs
 returns : tie.Need-returns Inv-loop μ-loop
 returns c = search needs
 
-pub furnish-spec : {M : Type 1} → statement M
-furnish-spec =
+pub fill_desks-spec : {M : Type 1} → statement M
+fill_desks-spec =
     tie.close
     (tie.spec
     Inv-loop
