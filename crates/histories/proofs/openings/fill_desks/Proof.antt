@@ -37,8 +37,8 @@ same-length c = search needs
 returns : tie.Need-returns Inv-loop μ-loop
 returns c = search needs
 
-pub fill_desks-spec : {M : Type 1} → statement M
-fill_desks-spec =
+pub fill-desks-spec : {M : Type 1} → statement M
+fill-desks-spec =
     tie.close
     (tie.spec
     Inv-loop
