@@ -18,11 +18,13 @@ use Rattle.operation.specs.Operation.{Operation, transactionOf, deskOf, readSet
 use Rattle.operation.specs.Admission.{IsOperation}
 use Rattle.operation.proofs.Cells.{names-of, of-names}
 use Rattle.conflict.specs.Mask.{some}
-use Rattle.conflict.specs.Touch.{touchMask, writeMask}
+use Rattle.conflict.specs.Touch.{deskMask}
+use Rattle.conflict.specs.Written.{written}
 use Rattle.conflict.specs.Class.{OtherDesk, Free, Local, Global, WriteConflict, ReadsFrom, Class, free, local, global, isWrite}
-use Rattle.conflict.specs.Class.{onesAre, classBy, classOf}
+use Rattle.conflict.specs.Class.{oneDeskEach, classBy, classOf}
 use Rattle.conflict.proofs.Some.{member-some, some-member}
-use Rattle.conflict.proofs.MaskMeaning.{desk-low, one-desk, no-writer}
+use Rattle.conflict.proofs.MaskMeaning.{desk-low, one-desk}
+use Rattle.conflict.proofs.WrittenMeaning.{written-gives, gives-written}
 use Rattle.conflict.proofs.Touching.{some-desk}
 
 -- ---- a write step and a written cell
@@ -60,23 +62,24 @@ module _ (ws : List ℕ) (e : planVerdict ws ≡ accepted) (o : Operation) (i : 
 
   -- ---- the two computed tests
 
-  unwritten : onesAre 0 (writeMask (planOf ws)) (readSet (planOf ws) o) ≡ true → Unwritten
-  unwritten h c m =
-      no-writer ws e c .0 (eqb-true _ _ (every-member (λ c. eqb (ones (writeMask (planOf ws) c)) 0) (readSet (planOf ws) o) c h m))
+  unwritten : some (written (planOf ws)) (readSet (planOf ws) o) ≡ false → Unwritten
+  unwritten h c m o′ i′ w =
+      false≢true (sym h ∙ member-some (written (planOf ws)) c (readSet (planOf ws) o) m (gives-written ws e c (o′, i′, w)))
 
-  of-unwritten : Unwritten → onesAre 0 (writeMask (planOf ws)) (readSet (planOf ws) o) ≡ true
-  of-unwritten h =
-      member-every (λ c. eqb (ones (writeMask (planOf ws) c)) 0) (readSet (planOf ws) o) (λ c m. eq-eqb _ _ (no-writer ws e c .1 (h c m)))
+  of-unwritten : Unwritten → some (written (planOf ws)) (readSet (planOf ws) o) ≡ true → ⊥
+  of-unwritten h r =
+      let m = some-member (written (planOf ws)) (readSet (planOf ws) o) r in
+      let w = written-gives ws e (m .0) (m .2) in h (m .0) (m .1) (w .0) (w .1) (w .2)
 
-  alone : onesAre 1 (touchMask (planOf ws)) (writeSet (planOf ws) o) ≡ true → Alone
+  alone : oneDeskEach (deskMask (planOf ws)) (writeSet (planOf ws) o) ≡ true → Alone
   alone h c m o′ i′ other t =
-      let k = one-desk ws e c .0 (eqb-true _ _ (every-member (λ c. eqb (ones (touchMask (planOf ws) c)) 1)
+      let k = one-desk ws e c .0 (eqb-true _ _ (every-member (λ c. eqb (ones (deskMask (planOf ws) c)) 1)
       (writeSet (planOf ws) o) c h m)) in
       other (k .1 .1 o′ i′ t ∙ sym (k .1 .1 o i (inr m)))
 
-  of-alone : Alone → onesAre 1 (touchMask (planOf ws)) (writeSet (planOf ws) o) ≡ true
+  of-alone : Alone → oneDeskEach (deskMask (planOf ws)) (writeSet (planOf ws) o) ≡ true
   of-alone h =
-      member-every (λ c. eqb (ones (touchMask (planOf ws) c)) 1) (writeSet (planOf ws) o)
+      member-every (λ c. eqb (ones (deskMask (planOf ws) c)) 1) (writeSet (planOf ws) o)
       (λ c m. eq-eqb _ _ (one-desk ws e c .1 (
         deskOf (planOf ws) o,
         ((o, i, refl, inr m), λ o′ i′ t. same c m o′ i′ t (ℕ-discrete (deskOf (planOf ws) o′) (deskOf (planOf ws) o))),
@@ -97,17 +100,17 @@ module _ (ws : List ℕ) (e : planVerdict ws ≡ accepted) (o : Operation) (i : 
   pub class-means : Means (classOf (planOf ws) o)
   unfolding classBy
   class-means =
-      go (some isWrite (transactionOf (planOf ws) o .steps)) (onesAre 1 (touchMask (planOf ws)) (writeSet (planOf ws) o))
-      (onesAre 0 (writeMask (planOf ws)) (readSet (planOf ws) o)) refl refl refl
+      go (some isWrite (transactionOf (planOf ws) o .steps)) (oneDeskEach (deskMask (planOf ws)) (writeSet (planOf ws) o))
+      (some (written (planOf ws)) (readSet (planOf ws) o)) refl refl refl
     where
       go : (w a q : Bool) → some isWrite (transactionOf (planOf ws) o .steps) ≡ w
-          → onesAre 1 (touchMask (planOf ws)) (writeSet (planOf ws) o) ≡ a
-          → onesAre 0 (writeMask (planOf ws)) (readSet (planOf ws) o) ≡ q → Means (cond w (cond a local global) (cond q free local))
+          → oneDeskEach (deskMask (planOf ws)) (writeSet (planOf ws) o) ≡ a
+          → some (written (planOf ws)) (readSet (planOf ws) o) ≡ q → Means (cond w (cond a local global) (cond q local free))
       go true true q ew ea eq = (λ f. f .0 (writes-some (planOf ws) o ew .0) (writes-some (planOf ws) o ew .1), alone ea)
       go true false q ew ea eq =
           (λ f. f .0 (writes-some (planOf ws) o ew .0) (writes-some (planOf ws) o ew .1), λ l. false≢true (sym ea ∙ of-alone (l .1)))
-      go false a true ew ea eq = (writes-none (planOf ws) o ew, unwritten eq)
-      go false a false ew ea eq = (λ f. false≢true (sym eq ∙ of-unwritten (f .1)), λ c m. absurd (writes-none (planOf ws) o ew c m))
+      go false a false ew ea eq = (writes-none (planOf ws) o ew, unwritten eq)
+      go false a true ew ea eq = (λ f. of-unwritten (f .1) eq, λ c m. absurd (writes-none (planOf ws) o ew c m))
 
   -- the three exclude each other
   only-free : (k : Class) → Means k → Free (planOf ws) o → k ≡ free

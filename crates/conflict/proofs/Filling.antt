@@ -28,28 +28,28 @@ use Rattle.conflict.proofs.Tables.{whole-table}
 -- ---- by the words that are left
 
 -- k transactions are left in the words ws
-pub record Left (least n k : ℕ) (ws l : List ℕ) (goal : ℕ → ℕ) : Type 0 where
+pub record Left (n k : ℕ) (ws l : List ℕ) (goal : ℕ → ℕ) : Type 0 where
   pub long : length l ≡ 1024
   pub form : wellFormed k ws ≡ true
-  pub cells : (c : ℕ) → c < 1024 → bitOr (getD l c 0) (maskOf n (transactionsTouch least n (transactionsOf k ws) c)) ≡ goal c
+  pub cells : (c : ℕ) → c < 1024 → bitOr (getD l c 0) (maskOf n (transactionsTouch n (transactionsOf k ws) c)) ≡ goal c
 
 -- m steps of a transaction are left, and k transactions behind it
-pub record LeftIn (least n : ℕ) (q : Partitioning) (m k : ℕ) (ws l : List ℕ) (goal : ℕ → ℕ) : Type 0 where
+pub record LeftIn (n : ℕ) (q : Partitioning) (m k : ℕ) (ws l : List ℕ) (goal : ℕ → ℕ) : Type 0 where
   pub long : length l ≡ 1024
   pub enough : m ≤ length ws
   pub steps : every stepFormed (take m ws) ≡ true
   pub form : wellFormed k (drop m ws) ≡ true
   pub cells : (c : ℕ) → c < 1024
-      → bitOr (getD l c 0) (maskOf n (λ d. stepsTouch least n q (map stepOf (take m ws)) c d || transactionsTouch least n
+      → bitOr (getD l c 0) (maskOf n (λ d. stepsTouch n q (map stepOf (take m ws)) c d || transactionsTouch n
       (transactionsOf k (drop m ws)) c d)) ≡ goal c
 
-module _ (least n : ℕ) (goal : ℕ → ℕ) where
-  left-nil : (k : ℕ) (l : List ℕ) → Left least n (suc k) [] l goal → ⊥
+module _ (n : ℕ) (goal : ℕ → ℕ) where
+  left-nil : (k : ℕ) (l : List ℕ) → Left n (suc k) [] l goal → ⊥
   unfolding wellFormed
   left-nil k l f = let e = f .form in let z : _≡_ {A = ℕ} 0 1 = cc in omega arith
 
-  left-enter : (k w : ℕ) (ws l : List ℕ) → Left least n (suc k) (w ∷ ws) l goal
-      → LeftIn least n (partBy (partitioningField w)) (stepCount w) k ws l goal
+  left-enter : (k w : ℕ) (ws l : List ℕ) → Left n (suc k) (w ∷ ws) l goal
+      → LeftIn n (partBy (partitioningField w)) (stepCount w) k ws l goal
   unfolding wellFormed transactionsOf some
   left-enter k w ws l f =
       let a = and-snd (transactionFormed w) _ (f .form) in
@@ -62,16 +62,12 @@ module _ (least n : ℕ) (goal : ℕ → ℕ) where
         cells = f .cells;
       }
 
-  left-done : (ws l : List ℕ) → Left least n 0 ws l goal → (c : ℕ) → c < 1024 → getD l c 0 ≡ goal c
+  left-done : (ws l : List ℕ) → Left n 0 ws l goal → (c : ℕ) → c < 1024 → getD l c 0 ≡ goal c
   unfolding transactionsOf some
   left-done ws l f c h = sym (ap (bitOr (getD l c 0)) (mask-none n) ∙ or-zero-r (getD l c 0)) ∙ f .cells c h
 
-  in-form : (q : Partitioning) (m k w : ℕ) (ws l : List ℕ) → LeftIn least n q (suc m) k (w ∷ ws) l goal → stepFormed w ≡ true
-  unfolding every
-  in-form q m k w ws l f = and-fst (stepFormed w) _ (f .steps)
-
-  in-step : (q : Partitioning) (m k w : ℕ) (ws l l′ : List ℕ) → LeftIn least n q (suc m) k (w ∷ ws) l goal
-      → Joined l l′ (λ c. maskOf n (stepTouches least n q (stepOf w) c)) → LeftIn least n q m k ws l′ goal
+  in-step : (q : Partitioning) (m k w : ℕ) (ws l l′ : List ℕ) → LeftIn n q (suc m) k (w ∷ ws) l goal
+      → Joined l l′ (λ c. maskOf n (stepTouches n q (stepOf w) c)) → LeftIn n q m k ws l′ goal
   unfolding every some
   in-step q m k w ws l l′ f j = record {
     long = j .long;
@@ -79,27 +75,27 @@ module _ (least n : ℕ) (goal : ℕ → ℕ) where
     steps = and-snd (stepFormed w) _ (f .steps);
     form = f .form;
     cells = λ c h.
-        ap (λ (x : ℕ). bitOr x (maskOf n (λ d. stepsTouch least n q (map stepOf (take m ws)) c d || transactionsTouch least n
+        ap (λ (x : ℕ). bitOr x (maskOf n (λ d. stepsTouch n q (map stepOf (take m ws)) c d || transactionsTouch n
         (transactionsOf k (drop m ws)) c d))) (j .cells c h)
-        ∙ sym (mask-split (getD l c 0) n (stepTouches least n q (stepOf w) c)
-        (λ d. stepsTouch least n q (map stepOf (take m ws)) c d || transactionsTouch least n (transactionsOf k (drop m ws)) c d))
+        ∙ sym (mask-split (getD l c 0) n (stepTouches n q (stepOf w) c)
+        (λ d. stepsTouch n q (map stepOf (take m ws)) c d || transactionsTouch n (transactionsOf k (drop m ws)) c d))
         ∙ ap (bitOr (getD l c 0)) (mask-ext n _ _ (λ d. sym
-        (or-assoc (stepTouches least n q (stepOf w) c d) (stepsTouch least n q (map stepOf (take m ws)) c d)
-        (transactionsTouch least n (transactionsOf k (drop m ws)) c d))))
+        (or-assoc (stepTouches n q (stepOf w) c d) (stepsTouch n q (map stepOf (take m ws)) c d)
+        (transactionsTouch n (transactionsOf k (drop m ws)) c d))))
         ∙ f .cells c h;
   }
 
-  in-leave : (q : Partitioning) (k : ℕ) (ws l : List ℕ) → LeftIn least n q 0 k ws l goal → Left least n k ws l goal
+  in-leave : (q : Partitioning) (k : ℕ) (ws l : List ℕ) → LeftIn n q 0 k ws l goal → Left n k ws l goal
   unfolding some
   in-leave q k ws l f = record { long = f .long; form = f .form; cells = f .cells }
 
 -- ---- by the place in the plan
 
-pub record Filling (least : ℕ) (plan : List ℕ) (n txs t at : ℕ) (l : List ℕ) : Type 0 where
-  pub left : Left least n (txs - t) (drop at plan) l (deskMask least (planOf plan))
+pub record Filling (plan : List ℕ) (n txs t at : ℕ) (l : List ℕ) : Type 0 where
+  pub left : Left n (txs - t) (drop at plan) l (deskMask (planOf plan))
 
-pub record FillingIn (least : ℕ) (plan : List ℕ) (n part steps s txs t at : ℕ) (l : List ℕ) : Type 0 where
-  pub left : LeftIn least n (partBy part) (steps - s) (txs - (t + 1)) (drop at plan) l (deskMask least (planOf plan))
+pub record FillingIn (plan : List ℕ) (n part steps s txs t at : ℕ) (l : List ℕ) : Type 0 where
+  pub left : LeftIn n (partBy part) (steps - s) (txs - (t + 1)) (drop at plan) l (deskMask (planOf plan))
 
 -- a place past the words, or the word there and those behind it
 at-place : (plan : List ℕ) (at : ℕ) → (drop at plan ≡ []) ⊎ ((at < length plan) × (drop at plan ≡ getD plan at 0 ∷ drop (at + 1) plan))
@@ -107,10 +103,10 @@ at-place plan at =
     ⊎-elim (λ (h : at < length plan). inr (h, rw (add-one, drop-cons plan at 0 h)))
     (λ (h : length plan ≤ at). inl (drop-of-length-le plan h)) (lt-or-ge at (length plan))
 
-pub start : (least : ℕ) (plan : List ℕ) → planVerdict plan ≡ accepted
-    → Filling least plan (headDesks (headOf plan)) (headTransactions (headOf plan)) 0 1 (replicate 1024 0)
+pub start : (plan : List ℕ) → planVerdict plan ≡ accepted
+    → Filling plan (headDesks (headOf plan)) (headTransactions (headOf plan)) 0 1 (replicate 1024 0)
 unfolding deskMask planOf
-start least plan e = record {
+start plan e = record {
   left = record {
     long = length-replicate {A = ℕ} 1024 0;
     form = rw sub-zero (accepted-gives plan e .form);
@@ -118,17 +114,17 @@ start least plan e = record {
   };
 }
 
-module _ (least : ℕ) (plan : List ℕ) (n txs t at : ℕ) (l : List ℕ) (f : Filling least plan n txs t at l) where
+module _ (plan : List ℕ) (n txs t at : ℕ) (l : List ℕ) (f : Filling plan n txs t at l) where
   enter-both : t < txs
-      → (at < length plan) × LeftIn least n (partBy (partitioningField (getD plan at 0))) (stepCount (getD plan at 0)) (txs - (t + 1))
-      (drop (at + 1) plan) l (deskMask least (planOf plan))
+      → (at < length plan) × LeftIn n (partBy (partitioningField (getD plan at 0))) (stepCount (getD plan at 0)) (txs - (t + 1))
+      (drop (at + 1) plan) l (deskMask (planOf plan))
   enter-both h =
       ⊎-elim
-      (λ (e : drop at plan ≡ []). absurd (left-nil least n (deskMask least (planOf plan)) (txs - (t + 1)) l
+      (λ (e : drop at plan ≡ []). absurd (left-nil n (deskMask (planOf plan)) (txs - (t + 1)) l
       (rw (left-suc txs t h, e) at (f .left))))
       (λ (e : (at < length plan) × (drop at plan ≡ getD plan at 0 ∷ drop (at + 1) plan)). (
         e .0,
-        left-enter least n (deskMask least (planOf plan)) (txs - (t + 1)) (getD plan at 0) (drop (at + 1) plan) l
+        left-enter n (deskMask (planOf plan)) (txs - (t + 1)) (getD plan at 0) (drop (at + 1) plan) l
             (rw (left-suc txs t h, e .1) at (f .left)),
       ))
       (at-place plan at)
@@ -136,19 +132,19 @@ module _ (least : ℕ) (plan : List ℕ) (n txs t at : ℕ) (l : List ℕ) (f : 
   pub enter-here : t < txs → at < length plan
   enter-here h = enter-both h .0
 
-  pub enter : t < txs → FillingIn least plan n (partitioningField (getD plan at 0)) (stepCount (getD plan at 0)) 0 txs t (at + 1) l
+  pub enter : t < txs → FillingIn plan n (partitioningField (getD plan at 0)) (stepCount (getD plan at 0)) 0 txs t (at + 1) l
   enter h = record { left = rw sub-zero (enter-both h .1) }
 
-  pub done : txs ≤ t → l ≡ maskTable least (planOf plan)
+  pub done : txs ≤ t → l ≡ maskTable (planOf plan)
   done h =
       let e : txs - t ≡ 0 = omega arith in
-      whole-table (deskMask least (planOf plan)) l (f .left .long)
-      (left-done least n (deskMask least (planOf plan)) (drop at plan) l (rw e at (f .left)))
+      whole-table (deskMask (planOf plan)) l (f .left .long)
+      (left-done n (deskMask (planOf plan)) (drop at plan) l (rw e at (f .left)))
 
-module _ (least : ℕ) (plan : List ℕ) (n part steps s txs t at : ℕ) (l : List ℕ) (f : FillingIn least plan n part steps s txs t at l) where
+module _ (plan : List ℕ) (n part steps s txs t at : ℕ) (l : List ℕ) (f : FillingIn plan n part steps s txs t at l) where
   at-step : s < steps
-      → (at < length plan) × LeftIn least n (partBy part) (suc (steps - (s + 1))) (txs - (t + 1))
-      (getD plan at 0 ∷ drop (at + 1) plan) l (deskMask least (planOf plan))
+      → (at < length plan) × LeftIn n (partBy part) (suc (steps - (s + 1))) (txs - (t + 1))
+      (getD plan at 0 ∷ drop (at + 1) plan) l (deskMask (planOf plan))
   at-step h =
       ⊎-elim
       (λ (e : drop at plan ≡ []). absurd (omega (arith, f .left .enough, ap length e)))
@@ -159,21 +155,16 @@ module _ (least : ℕ) (plan : List ℕ) (n part steps s txs t at : ℕ) (l : Li
   pub step-here : s < steps → at < length plan
   step-here h = at-step h .0
 
-  pub step-is-formed : s < steps → stepFormed (getD plan at 0) ≡ true
-  step-is-formed h =
-      in-form least n (deskMask least (planOf plan)) (partBy part) (steps - (s + 1)) (txs - (t + 1)) (getD plan at 0)
-      (drop (at + 1) plan) l (at-step h .1)
-
-  pub step-on : (l′ : List ℕ) → s < steps → Joined l l′ (λ c. maskOf n (stepTouches least n (partBy part) (stepOf (getD plan at 0)) c))
-      → FillingIn least plan n part steps (s + 1) txs t (at + 1) l′
+  pub step-on : (l′ : List ℕ) → s < steps → Joined l l′ (λ c. maskOf n (stepTouches n (partBy part) (stepOf (getD plan at 0)) c))
+      → FillingIn plan n part steps (s + 1) txs t (at + 1) l′
   step-on l′ h j = record {
-    left = in-step least n (deskMask least (planOf plan)) (partBy part) (steps - (s + 1)) (txs - (t + 1)) (getD plan at 0)
+    left = in-step n (deskMask (planOf plan)) (partBy part) (steps - (s + 1)) (txs - (t + 1)) (getD plan at 0)
         (drop (at + 1) plan) l l′ (at-step h .1) j;
   }
 
-  pub leave : steps ≤ s → Filling least plan n txs (t + 1) at l
+  pub leave : steps ≤ s → Filling plan n txs (t + 1) at l
   leave h = record {
-    left = in-leave least n (deskMask least (planOf plan)) (partBy part) (txs - (t + 1)) (drop at plan) l
-        (subst (λ (m : ℕ). LeftIn least n (partBy part) m (txs - (t + 1)) (drop at plan) l (deskMask least (planOf plan))) (omega arith)
+    left = in-leave n (deskMask (planOf plan)) (partBy part) (txs - (t + 1)) (drop at plan) l
+        (subst (λ (m : ℕ). LeftIn n (partBy part) m (txs - (t + 1)) (drop at plan) l (deskMask (planOf plan))) (omega arith)
         (f .left));
   }

@@ -1,3 +1,4 @@
+pub mod Some
 pub mod Masks
 pub mod Ones
 pub mod RowMasks
@@ -7,8 +8,9 @@ pub mod Filling
 pub mod Named
 pub mod Tabled
 pub mod Classified
-pub mod Some
 pub mod Witness
 pub mod Touching
 pub mod MaskMeaning
+pub mod WrittenMeaning
+pub mod WriteWords
 pub mod Classes

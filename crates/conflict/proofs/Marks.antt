@@ -19,46 +19,28 @@ use Rattle.plan.specs.Admission.{stepFormed}
 use Rattle.plan.proofs.Words.{step-kind-low}
 use Rattle.plan.proofs.Places.{lt-or-ge}
 use Rattle.conflict.specs.Mask.{maskOf}
-use Rattle.conflict.specs.Touch.{counted, rowTouched, cellTouched, stepTouches, Joined}
+use Rattle.conflict.specs.Touch.{rowTouched, cellTouched, stepTouches, Joined}
 use Rattle.conflict.proofs.Masks.{mask-ext, mask-none}
 
 -- ---- what a step touches, by its kind
 
-counted-kind : (least k : ℕ) → 3 ≤ k → k ≤ 4 → counted least (accessBy k) ≡ leb least k
-unfolding accessBy
-counted-kind least k lo hi = go (eqb k 3) refl
-  where
-    go : (b : Bool) → eqb k 3 ≡ b → counted least (accessBy k) ≡ leb least k
-    go true e = simp (eqb-true k 3 e)
-    go false e = let f : k ≡ 4 = omega (arith, eqb-false k 3 e) in simp f
-
-step-cell : (least n : ℕ) (q : Partitioning) (w c d : ℕ) → stepFormed w ≡ true → kindOf w ≤ 4
-    → stepTouches least n q (stepOf w) c d ≡ (leb least (kindOf w) && cellTouched n q (tableField w) (columnField w) (rowOf w) c d)
+step-cell : (n : ℕ) (q : Partitioning) (w c d : ℕ) → kindOf w ≤ 4
+    → stepTouches n q (stepOf w) c d ≡ cellTouched n q (tableField w) (columnField w) (rowOf w) c d
 unfolding stepOf stepTouches
-step-cell least n q w c d f hi =
-    rw (le-leb (kindOf w) 4 hi)
-    (ap (λ (b : Bool). b && cellTouched n q (tableField w) (columnField w) (rowOf w) c d)
-    (counted-kind least (kindOf w) (step-kind-low w f) hi))
+step-cell n q w c d hi = rw (le-leb (kindOf w) 4 hi)
 
-step-operand : (least n : ℕ) (q : Partitioning) (w c d : ℕ) → 4 < kindOf w → stepTouches least n q (stepOf w) c d ≡ false
+step-operand : (n : ℕ) (q : Partitioning) (w c d : ℕ) → 4 < kindOf w → stepTouches n q (stepOf w) c d ≡ false
 unfolding stepOf stepTouches
-step-operand least n q w c d h = rw (lt-leb (kindOf w) 4 h)
+step-operand n q w c d h = rw (lt-leb (kindOf w) 4 h)
 
-unmarked : (least n : ℕ) (q : Partitioning) (w c x : ℕ) → ((d : ℕ) → stepTouches least n q (stepOf w) c d ≡ false)
-    → x ≡ bitOr x (maskOf n (stepTouches least n q (stepOf w) c))
-unmarked least n q w c x h =
-    sym (ap (bitOr x) (mask-ext n (stepTouches least n q (stepOf w) c) (λ d. false) h ∙ mask-none n) ∙ or-zero-r x)
+unmarked : (n : ℕ) (q : Partitioning) (w c x : ℕ) → ((d : ℕ) → stepTouches n q (stepOf w) c d ≡ false)
+    → x ≡ bitOr x (maskOf n (stepTouches n q (stepOf w) c))
+unmarked n q w c x h =
+    sym (ap (bitOr x) (mask-ext n (stepTouches n q (stepOf w) c) (λ d. false) h ∙ mask-none n) ∙ or-zero-r x)
 
-module _ (least n : ℕ) (q : Partitioning) (w : ℕ) (l : List ℕ) (long : length l ≡ 1024) where
-  pub operand-marks-none : 4 < kindOf w → Joined l l (λ c. maskOf n (stepTouches least n q (stepOf w) c))
-  operand-marks-none h = record { long = long; cells = λ c k. unmarked least n q w c (getD l c 0) (λ d. step-operand least n q w c d h) }
-
-  pub uncounted-marks-none : stepFormed w ≡ true → kindOf w ≤ 4 → kindOf w < least
-      → Joined l l (λ c. maskOf n (stepTouches least n q (stepOf w) c))
-  uncounted-marks-none f hi h = record {
-    long = long;
-    cells = λ c k. unmarked least n q w c (getD l c 0) (λ d. step-cell least n q w c d f hi ∙ simp (lt-leb least (kindOf w) h));
-  }
+module _ (n : ℕ) (q : Partitioning) (w : ℕ) (l : List ℕ) (long : length l ≡ 1024) where
+  pub operand-marks-none : 4 < kindOf w → Joined l l (λ c. maskOf n (stepTouches n q (stepOf w) c))
+  operand-marks-none h = record { long = long; cells = λ c k. unmarked n q w c (getD l c 0) (λ d. step-operand n q w c d h) }
 
 -- ---- the rows
 
@@ -80,17 +62,16 @@ marked-none l n q w e = record {
       ∙ or-zero-r (getD l c 0));
 }
 
-pub marked-all : (least : ℕ) (l₀ l : List ℕ) (n : ℕ) (q : Partitioning) (w row : ℕ) → stepFormed w ≡ true → kindOf w ≤ 4
-    → least ≤ kindOf w → 32 ≤ row
-    → Marked l₀ l n q w row → Joined l₀ l (λ c. maskOf n (stepTouches least n q (stepOf w) c))
+pub marked-all : (l₀ l : List ℕ) (n : ℕ) (q : Partitioning) (w row : ℕ) → kindOf w ≤ 4 → 32 ≤ row
+    → Marked l₀ l n q w row → Joined l₀ l (λ c. maskOf n (stepTouches n q (stepOf w) c))
 unfolding rowsMask
-marked-all least l₀ l n q w row f hi lo r m = record {
+marked-all l₀ l n q w row hi r m = record {
   long = m .long;
   cells = λ c h.
       m .cells c h
       ∙ ap (bitOr (getD l₀ c 0))
       (mask-ext n _ _ (λ d. simp (lt-ltb (c / 4 % 32) row (omega arith))
-      (sym (step-cell least n q w c d f hi ∙ simp (le-leb least (kindOf w) lo)))));
+      (sym (step-cell n q w c d hi))));
 }
 
 -- the cell of this row

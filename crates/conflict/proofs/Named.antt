@@ -21,7 +21,7 @@ use Rattle.operation.specs.Operation.{sameAccess, valueOf, cellNumber, cellsNam
 use Rattle.operation.specs.Admission.{rowInRange, parametersPass, unusedZero}
 use Rattle.operation.proofs.StepKinds.{row-bound}
 use Rattle.conflict.specs.Mask.{some}
-use Rattle.conflict.specs.Class.{isWrite, onesAre}
+use Rattle.conflict.specs.Class.{isWrite, oneDeskEach}
 
 -- ---- one step
 
@@ -87,34 +87,64 @@ module _ (ws : List ℕ) (at : ℕ) (p : StandsAt ws at) where
       row-bound ps (getD ws (at + 1 + s) 0) k
       (every-step (rowInRange ps) ws at p (and-snd (unusedZero (transactionFrom ws at .params) ps) _ e) s h)
 
-  module _ (ps : List ℕ) (k : ℕ) (low : 3 ≤ k) (high : k ≤ 4) (n : ℕ) (mask : ℕ → ℕ) (s : ℕ) where
-    ones-here : s < stepCount (getD ws at 0) → kindOf (getD ws (at + 1 + s) 0) ≡ k
-        → onesAre n mask (cellsNamed (accessBy k) ps (stepsFrom ws at s))
-        ≡ (eqb (ones (mask (cellOf ps (getD ws (at + 1 + s) 0)))) n && onesAre n mask
-        (cellsNamed (accessBy k) ps (stepsFrom ws at (s + 1))))
-    unfolding every
-    ones-here h e =
-        ap (λ (ss : List Step). onesAre n mask (cellsNamed (accessBy k) ps ss)) (steps-cons ws at s p h)
-        ∙ ap (onesAre n mask) (named-here k low high ps (getD ws (at + 1 + s) 0) (stepsFrom ws at (s + 1)) (step-formed ws at s p h) e)
+  -- the masks of the cells that the steps from s on may write
+  module _ (ps : List ℕ) (mask : ℕ → ℕ) (s : ℕ) where
+    one-here : s < stepCount (getD ws at 0) → kindOf (getD ws (at + 1 + s) 0) ≡ 4
+        → oneDeskEach mask (cellsNamed writes ps (stepsFrom ws at s))
+        ≡ (eqb (ones (mask (cellOf ps (getD ws (at + 1 + s) 0)))) 1 && oneDeskEach mask (cellsNamed writes ps (stepsFrom ws at (s + 1))))
+    unfolding every accessBy
+    one-here h e =
+        ap (λ (ss : List Step). oneDeskEach mask (cellsNamed writes ps ss)) (steps-cons ws at s p h)
+        ∙ ap (oneDeskEach mask) (named-here 4 (omega arith) (omega arith) ps (getD ws (at + 1 + s) 0) (stepsFrom ws at (s + 1))
+        (step-formed ws at s p h) e)
 
-    module _ (h : s < stepCount (getD ws at 0)) (e : kindOf (getD ws (at + 1 + s) 0) ≡ k) (c x : ℕ)
+    module _ (h : s < stepCount (getD ws at 0)) (e : kindOf (getD ws (at + 1 + s) 0) ≡ 4) (c x : ℕ)
         (i : c ≡ cellOf ps (getD ws (at + 1 + s) 0))
         (q : x ≡ ones (mask c)) where
-      pub ones-fail : (x ≡ n → ⊥) → onesAre n mask (cellsNamed (accessBy k) ps (stepsFrom ws at s)) ≡ false
-      ones-fail f = ones-here h e ∙ rw (← i, ← q, ne-eqb x n f)
+      pub one-fails : (x ≡ 1 → ⊥) → oneDeskEach mask (cellsNamed writes ps (stepsFrom ws at s)) ≡ false
+      one-fails f = one-here h e ∙ rw (← i, ← q, ne-eqb x 1 f)
 
-      pub ones-pass : x ≡ n
-          → onesAre n mask (cellsNamed (accessBy k) ps (stepsFrom ws at s))
-          ≡ onesAre n mask (cellsNamed (accessBy k) ps (stepsFrom ws at (s + 1)))
-      ones-pass f = ones-here h e ∙ rw (← i, ← q, eq-eqb x n f)
+      pub one-passes : x ≡ 1
+          → oneDeskEach mask (cellsNamed writes ps (stepsFrom ws at s)) ≡ oneDeskEach mask (cellsNamed writes ps (stepsFrom ws at (s + 1)))
+      one-passes f = one-here h e ∙ rw (← i, ← q, eq-eqb x 1 f)
 
-    pub ones-other : s < stepCount (getD ws at 0) → (kindOf (getD ws (at + 1 + s) 0) ≡ k → ⊥)
-        → onesAre n mask (cellsNamed (accessBy k) ps (stepsFrom ws at s))
-        ≡ onesAre n mask (cellsNamed (accessBy k) ps (stepsFrom ws at (s + 1)))
-    ones-other h e =
-        ap (λ (ss : List Step). onesAre n mask (cellsNamed (accessBy k) ps ss)) (steps-cons ws at s p h)
-        ∙ ap (onesAre n mask) (named-other k low high ps (getD ws (at + 1 + s) 0) (stepsFrom ws at (s + 1)) (step-formed ws at s p h) e)
+    pub one-other : s < stepCount (getD ws at 0) → (kindOf (getD ws (at + 1 + s) 0) ≡ 4 → ⊥)
+        → oneDeskEach mask (cellsNamed writes ps (stepsFrom ws at s)) ≡ oneDeskEach mask (cellsNamed writes ps (stepsFrom ws at (s + 1)))
+    unfolding accessBy
+    one-other h e =
+        ap (λ (ss : List Step). oneDeskEach mask (cellsNamed writes ps ss)) (steps-cons ws at s p h)
+        ∙ ap (oneDeskEach mask) (named-other 4 (omega arith) (omega arith) ps (getD ws (at + 1 + s) 0) (stepsFrom ws at (s + 1))
+        (step-formed ws at s p h) e)
 
-    pub ones-done : stepCount (getD ws at 0) ≤ s → onesAre n mask (cellsNamed (accessBy k) ps (stepsFrom ws at s)) ≡ true
+    pub one-done : stepCount (getD ws at 0) ≤ s → oneDeskEach mask (cellsNamed writes ps (stepsFrom ws at s)) ≡ true
     unfolding every cellsNamed
-    ones-done h = ap (λ (ss : List Step). onesAre n mask (cellsNamed (accessBy k) ps ss)) (steps-none ws at s h)
+    one-done h = ap (λ (ss : List Step). oneDeskEach mask (cellsNamed writes ps ss)) (steps-none ws at s h)
+
+  -- a test of the cells that the steps from s on may read
+  module _ (ps : List ℕ) (f : ℕ → Bool) (s : ℕ) where
+    read-here : s < stepCount (getD ws at 0) → kindOf (getD ws (at + 1 + s) 0) ≡ 3
+        → some f (cellsNamed reads ps (stepsFrom ws at s))
+        ≡ (f (cellOf ps (getD ws (at + 1 + s) 0)) || some f (cellsNamed reads ps (stepsFrom ws at (s + 1))))
+    unfolding some accessBy
+    read-here h e =
+        ap (λ (ss : List Step). some f (cellsNamed reads ps ss)) (steps-cons ws at s p h)
+        ∙ ap (some f) (named-here 3 (omega arith) (omega arith) ps (getD ws (at + 1 + s) 0) (stepsFrom ws at (s + 1))
+        (step-formed ws at s p h) e)
+
+    -- the same, by what was found of its cell
+    pub read-found : s < stepCount (getD ws at 0) → kindOf (getD ws (at + 1 + s) 0) ≡ 3 → (c : ℕ) (b : Bool)
+        → c ≡ cellOf ps (getD ws (at + 1 + s) 0) → b ≡ f c
+        → some f (cellsNamed reads ps (stepsFrom ws at s)) ≡ (b || some f (cellsNamed reads ps (stepsFrom ws at (s + 1))))
+    read-found h e c b i q = read-here h e ∙ rw (← i, ← q)
+
+    pub read-other : s < stepCount (getD ws at 0) → (kindOf (getD ws (at + 1 + s) 0) ≡ 3 → ⊥)
+        → some f (cellsNamed reads ps (stepsFrom ws at s)) ≡ some f (cellsNamed reads ps (stepsFrom ws at (s + 1)))
+    unfolding accessBy
+    read-other h e =
+        ap (λ (ss : List Step). some f (cellsNamed reads ps ss)) (steps-cons ws at s p h)
+        ∙ ap (some f) (named-other 3 (omega arith) (omega arith) ps (getD ws (at + 1 + s) 0) (stepsFrom ws at (s + 1))
+        (step-formed ws at s p h) e)
+
+    pub read-done : stepCount (getD ws at 0) ≤ s → some f (cellsNamed reads ps (stepsFrom ws at s)) ≡ false
+    unfolding some cellsNamed
+    read-done h = ap (λ (ss : List Step). some f (cellsNamed reads ps ss)) (steps-none ws at s h)

@@ -7,7 +7,7 @@ use Prim.Native.Nat.{ℕ}
 use lib.Count.{ones}
 use lib.Dec.{eqb}
 use lib.ListN.{getD}
-use Rattle.plan.specs.Plan.{Access, reads, writes, Step, cell, operand, Plan}
+use Rattle.plan.specs.Plan.{reads, writes, Step, cell, operand, Plan}
 use Rattle.plan.specs.Admission.{every}
 use Rattle.plan.specs.Place.{transactionFrom}
 use Rattle.plan.proofs.Bool.{and-snd}
@@ -15,21 +15,21 @@ use Rattle.plan.proofs.Every.{every-same}
 use Rattle.operation.specs.Operation.{cellsNamed}
 use Rattle.operation.specs.Admission.{parametersPass, unusedZero}
 use Rattle.operation.proofs.Bounds.{transaction-fits, cells-low}
-use Rattle.conflict.specs.Touch.{deskMask, writeMask, maskTable}
+use Rattle.conflict.specs.Touch.{deskMask, maskTable}
+use Rattle.conflict.specs.Written.{written}
 use Rattle.conflict.specs.Mask.{some}
-use Rattle.conflict.specs.Class.{onesAre, isWrite, free, local, global, classBy, isFree, isGlobal}
+use Rattle.conflict.specs.Class.{oneDeskEach, isWrite, free, local, global, classBy, isFree, isGlobal}
 use Rattle.conflict.proofs.Tables.{getD-tabulate}
 
-pub ones-tabled : (least : ℕ) (p : Plan) (k : ℕ) (a : Access) (ws : List ℕ) (at : ℕ) (ps : List ℕ)
-    → parametersPass (transactionFrom ws at) ps ≡ true
-    → onesAre k (λ c. getD (maskTable least p) c 0) (cellsNamed a ps (transactionFrom ws at .steps))
-    ≡ onesAre k (deskMask least p) (cellsNamed a ps (transactionFrom ws at .steps))
+pub one-tabled : (p : Plan) (ws : List ℕ) (at : ℕ) (ps : List ℕ) → parametersPass (transactionFrom ws at) ps ≡ true
+    → oneDeskEach (λ c. getD (maskTable p) c 0) (cellsNamed writes ps (transactionFrom ws at .steps))
+    ≡ oneDeskEach (deskMask p) (cellsNamed writes ps (transactionFrom ws at .steps))
 unfolding parametersPass
-ones-tabled least p k a ws at ps e =
-    every-same _ _ (cellsNamed a ps (transactionFrom ws at .steps))
-    (λ c m. ap (λ (x : ℕ). eqb (ones x) k)
-    (getD-tabulate 1024 (deskMask least p) c
-    (cells-low a ps (transactionFrom ws at .steps) (transaction-fits ws at)
+one-tabled p ws at ps e =
+    every-same _ _ (cellsNamed writes ps (transactionFrom ws at .steps))
+    (λ c m. ap (λ (x : ℕ). eqb (ones x) 1)
+    (getD-tabulate 1024 (deskMask p) c
+    (cells-low writes ps (transactionFrom ws at .steps) (transaction-fits ws at)
     (and-snd (unusedZero (transactionFrom ws at .params) ps) _ e) c m)))
 
 no-cells : (ps : List ℕ) (ss : List Step) → some isWrite ss ≡ false → cellsNamed writes ps ss ≡ []
@@ -42,58 +42,58 @@ no-cells ps (operand f v ∷ ss) e = no-cells ps ss e
 -- ---- the class, by what the two tests found
 
 module _ (ws : List ℕ) (at : ℕ) (ps : List ℕ) (e : parametersPass (transactionFrom ws at) ps ≡ true) (p : Plan) where
-  pub class-writing : (b : Bool) (l : List ℕ) → l ≡ maskTable 3 p → some isWrite (transactionFrom ws at .steps) ≡ true
-      → b ≡ onesAre 1 (λ c. getD l c 0) (cellsNamed writes ps (transactionFrom ws at .steps))
+  pub class-writing : (b : Bool) (l : List ℕ) → l ≡ maskTable p → some isWrite (transactionFrom ws at .steps) ≡ true
+      → b ≡ oneDeskEach (λ c. getD l c 0) (cellsNamed writes ps (transactionFrom ws at .steps))
       → cond b local global ≡ classBy p (transactionFrom ws at) ps
   unfolding classBy
   class-writing b l t w h =
       rw w (ap (λ (x : Bool). cond x local global)
-      (h ∙ ap (λ (m : List ℕ). onesAre 1 (λ c. getD m c 0) (cellsNamed writes ps (transactionFrom ws at .steps))) t
-      ∙ ones-tabled 3 p 1 writes ws at ps e))
+      (h ∙ ap (λ (m : List ℕ). oneDeskEach (λ c. getD m c 0) (cellsNamed writes ps (transactionFrom ws at .steps))) t
+      ∙ one-tabled p ws at ps e))
 
   pub class-reading : (b : Bool) → some isWrite (transactionFrom ws at .steps) ≡ false
-      → b ≡ onesAre 0 (writeMask p) (cellsNamed reads ps (transactionFrom ws at .steps))
-      → cond b free local ≡ classBy p (transactionFrom ws at) ps
+      → b ≡ some (written p) (cellsNamed reads ps (transactionFrom ws at .steps))
+      → cond b local free ≡ classBy p (transactionFrom ws at) ps
   unfolding classBy
-  class-reading b w h = rw w (ap (λ (x : Bool). cond x free local) h)
+  class-reading b w h = rw w (ap (λ (x : Bool). cond x local free) h)
 
   -- ---- free and global, by one test each
 
   pub writing-not-free : some isWrite (transactionFrom ws at .steps) ≡ true → isFree (classBy p (transactionFrom ws at) ps) ≡ false
   unfolding classBy
-  writing-not-free w = rw w (neither (onesAre 1 (deskMask 3 p) (cellsNamed writes ps (transactionFrom ws at .steps))))
+  writing-not-free w = rw w (neither (oneDeskEach (deskMask p) (cellsNamed writes ps (transactionFrom ws at .steps))))
     where
       neither : (b : Bool) → isFree (cond b local global) ≡ false
       neither true = refl
       neither false = refl
 
   pub reading-free : (b : Bool) → some isWrite (transactionFrom ws at .steps) ≡ false
-      → b ≡ onesAre 0 (writeMask p) (cellsNamed reads ps (transactionFrom ws at .steps))
-      → b ≡ isFree (classBy p (transactionFrom ws at) ps)
-  reading-free b w h = same b ∙ ap isFree (class-reading b w h)
+      → b ≡ some (written p) (cellsNamed reads ps (transactionFrom ws at .steps))
+      → not b ≡ isFree (classBy p (transactionFrom ws at) ps)
+  reading-free b w h = other b ∙ ap isFree (class-reading b w h)
     where
-      same : (b : Bool) → b ≡ isFree (cond b free local)
-      same true = refl
-      same false = refl
+      other : (b : Bool) → not b ≡ isFree (cond b local free)
+      other true = refl
+      other false = refl
 
   pub reading-not-global : some isWrite (transactionFrom ws at .steps) ≡ false → isGlobal (classBy p (transactionFrom ws at) ps) ≡ false
   unfolding classBy
-  reading-not-global w = rw w (neither (onesAre 0 (deskMask 4 p) (cellsNamed reads ps (transactionFrom ws at .steps))))
+  reading-not-global w = rw w (neither (some (written p) (cellsNamed reads ps (transactionFrom ws at .steps))))
     where
-      neither : (b : Bool) → isGlobal (cond b free local) ≡ false
+      neither : (b : Bool) → isGlobal (cond b local free) ≡ false
       neither true = refl
       neither false = refl
 
   -- an operation that writes nothing has no cell to be tested
   reading-global : (b : Bool) (l : List ℕ) → some isWrite (transactionFrom ws at .steps) ≡ false
-      → b ≡ onesAre 1 (λ c. getD l c 0) (cellsNamed writes ps (transactionFrom ws at .steps))
+      → b ≡ oneDeskEach (λ c. getD l c 0) (cellsNamed writes ps (transactionFrom ws at .steps))
       → not b ≡ isGlobal (classBy p (transactionFrom ws at) ps)
   unfolding every
   reading-global b l w h =
-      ap not (h ∙ ap (onesAre 1 (λ c. getD l c 0)) (no-cells ps (transactionFrom ws at .steps) w)) ∙ sym (reading-not-global w)
+      ap not (h ∙ ap (oneDeskEach (λ c. getD l c 0)) (no-cells ps (transactionFrom ws at .steps) w)) ∙ sym (reading-not-global w)
 
-  writing-global : (b : Bool) (l : List ℕ) → l ≡ maskTable 3 p → some isWrite (transactionFrom ws at .steps) ≡ true
-      → b ≡ onesAre 1 (λ c. getD l c 0) (cellsNamed writes ps (transactionFrom ws at .steps))
+  writing-global : (b : Bool) (l : List ℕ) → l ≡ maskTable p → some isWrite (transactionFrom ws at .steps) ≡ true
+      → b ≡ oneDeskEach (λ c. getD l c 0) (cellsNamed writes ps (transactionFrom ws at .steps))
       → not b ≡ isGlobal (classBy p (transactionFrom ws at) ps)
   writing-global b l t w h = other b ∙ ap isGlobal (class-writing b l t w h)
     where
@@ -101,8 +101,8 @@ module _ (ws : List ℕ) (at : ℕ) (ps : List ℕ) (e : parametersPass (transac
       other true = refl
       other false = refl
 
-  pub global-tabled : (b : Bool) (l : List ℕ) → l ≡ maskTable 3 p
-      → b ≡ onesAre 1 (λ c. getD l c 0) (cellsNamed writes ps (transactionFrom ws at .steps))
+  pub global-tabled : (b : Bool) (l : List ℕ) → l ≡ maskTable p
+      → b ≡ oneDeskEach (λ c. getD l c 0) (cellsNamed writes ps (transactionFrom ws at .steps))
       → not b ≡ isGlobal (classBy p (transactionFrom ws at) ps)
   global-tabled b l t h = go (some isWrite (transactionFrom ws at .steps)) refl
     where

@@ -25,27 +25,26 @@ use Rattle.operation.specs.Admission.{IsOperation, rowInRange}
 use Rattle.operation.proofs.Admitted.{transaction-below, rows-passed, is-operation}
 use Rattle.operation.proofs.Cells.{names-of, of-names}
 use Rattle.operation.proofs.Bounds.{FieldsFit, AllFit, transaction-fits}
-use Rattle.conflict.specs.Touch.{counted, rowTouched, cellTouched, stepTouches, stepsTouch, transactionsTouch}
+use Rattle.conflict.specs.Touch.{rowTouched, cellTouched, stepTouches, stepsTouch, transactionsTouch}
 use Rattle.conflict.proofs.Some.{member-some, some-member, index-some, some-index}
 use Rattle.conflict.proofs.Witness.{witness, witness-four, witness-low, witness-passes, desk-below, witness-row, witness-desk}
 
--- an operation of desk d names the cell by an access that counts
-pub record Accesses (least : ℕ) (p : Plan) (d c : ℕ) : Type 0 where
+-- an operation of desk d names the cell by this access
+pub record Accesses (a : Access) (p : Plan) (d c : ℕ) : Type 0 where
   pub op : Operation
   pub is : IsOperation p op
   pub desk : deskOf p op ≡ d
-  pub access : Access
-  pub counts : counted least access ≡ true
-  pub names : List·Memᴰ c (cellsNamed access (op .params) (transactionOf p op .steps))
+  pub names : List·Memᴰ c (cellsNamed a (op .params) (transactionOf p op .steps))
 
 -- ---- what an accepted plan says of each of its transactions
 
-record Sound (t : Transaction) : Type 0 where
+pub record Sound (t : Transaction) : Type 0 where
   pub few : t .params ≤ 4
   pub fits : AllFit (t .steps)
   pub exist : parametersExist t ≡ true
 
-sound-at : (ws : List ℕ) → planVerdict ws ≡ accepted → (k : ℕ) → k < length (planOf ws .transactions) → Sound (transactionAt (planOf ws) k)
+pub sound-at : (ws : List ℕ) → planVerdict ws ≡ accepted → (k : ℕ) → k < length (planOf ws .transactions)
+    → Sound (transactionAt (planOf ws) k)
 sound-at ws e k h =
     let l : k < headTransactions (headOf ws) = omega (arith, transaction-count ws e) in
     let s = stands-at ws e k l in
@@ -58,7 +57,7 @@ sound-at ws e k h =
 
 -- ---- an operation's cell is found by the test
 
-cell-parts : (t v k : ℕ) → v < 32 → k < 4
+pub cell-parts : (t v k : ℕ) → v < 32 → k < 4
     → (cellNumber t v k / 128 ≡ t) × (cellNumber t v k % 4 ≡ k) × (cellNumber t v k / 4 % 32 ≡ v)
 cell-parts t v k hv hk = (omega arith, omega arith, omega arith)
 
@@ -74,7 +73,7 @@ row-found n (byParam q) (param i) ps d h e = go (eqb i q) refl
 row-found n unpartitioned (fixed v) ps d h e = simp (eq-eqb v v refl) (eq-eqb d 0 (sym e))
 row-found n unpartitioned (param i) ps d h e = eq-eqb d 0 (sym e)
 
-value-low : (ps : List ℕ) (a : Access) (t k : ℕ) (r : Source) → FieldsFit (cell a t k r) → rowInRange ps (cell a t k r) ≡ true
+pub value-low : (ps : List ℕ) (a : Access) (t k : ℕ) (r : Source) → FieldsFit (cell a t k r) → rowInRange ps (cell a t k r) ≡ true
     → (k < 4) × (valueOf ps r < 32)
 unfolding rowInRange
 value-low ps a t k (param i) f e = let h = leb-true (getD ps i 0) 31 e in (f .1, omega arith)
@@ -89,35 +88,32 @@ cell-found n q t k r ps d c h b e s =
 
 -- ---- an operation is made for each cell that the test finds
 
-record CellStep (least n : ℕ) (t : Transaction) (d c : ℕ) : Type 0 where
-  pub access : Access
+pub record CellStep (a : Access) (n : ℕ) (t : Transaction) (d c : ℕ) : Type 0 where
   pub table : ℕ
   pub column : ℕ
   pub row : Source
-  pub step : List·Memᴰ (cell access table column row) (t .steps)
-  pub counts : counted least access ≡ true
+  pub step : List·Memᴰ (cell a table column row) (t .steps)
   pub in-table : c / 128 ≡ table
   pub in-column : c % 4 ≡ column
   pub in-row : rowTouched n (t .part) row (c / 4 % 32) d ≡ true
 
-step-of : (least n : ℕ) (t : Transaction) (d c : ℕ) (s : Step) → List·Memᴰ s (t .steps) → stepTouches least n (t .part) s c d ≡ true
-    → CellStep least n t d c
+step-of : (n : ℕ) (t : Transaction) (d c : ℕ) (s : Step) → List·Memᴰ s (t .steps) → stepTouches n (t .part) s c d ≡ true
+    → (a : Access) × CellStep a n t d c
 unfolding stepTouches cellTouched
-step-of least n t d c (cell a tab col r) m e =
-    let f = and-snd (counted least a) _ e in
-    let g = and-snd (eqb (c / 128) tab) _ f in
-    record {
-      access = a;
-      table = tab;
-      column = col;
-      row = r;
-      step = m;
-      counts = and-fst (counted least a) _ e;
-      in-table = eqb-true (c / 128) tab (and-fst _ _ f);
-      in-column = eqb-true (c % 4) col (and-fst _ _ g);
-      in-row = and-snd (eqb (c % 4) col) _ g;
-    }
-step-of least n t d c (operand f v) m e = absurd (false≢true e)
+step-of n t d c (cell a tab col r) m e =
+    let g = and-snd (eqb (c / 128) tab) _ e in (
+      a,
+      record {
+        table = tab;
+        column = col;
+        row = r;
+        step = m;
+        in-table = eqb-true (c / 128) tab (and-fst _ _ e);
+        in-column = eqb-true (c % 4) col (and-fst _ _ g);
+        in-row = and-snd (eqb (c % 4) col) _ g;
+      },
+    )
+step-of n t d c (operand f v) m e = absurd (false≢true e)
 
 cell-back : (c t k r : ℕ) → c / 128 ≡ t → c % 4 ≡ k → c / 4 % 32 ≡ r → c ≡ cellNumber t r k
 cell-back c t k r a b e = omega arith
@@ -133,12 +129,12 @@ part-exists : (t : Transaction) → parametersExist t ≡ true → partExists (t
 unfolding parametersExist
 part-exists t e = and-fst (partExists (t .params) (t .part)) _ e
 
-module _ (least : ℕ) (p : Plan) (k d c : ℕ) (lo : 1 ≤ p .desks) (hi : p .desks ≤ 8) (below : k < length (p .transactions)) where
-  made : Sound (transactionAt p k) → CellStep least (p .desks) (transactionAt p k) d c → Accesses least p d c
-  made s m =
+module _ (p : Plan) (k d c : ℕ) (lo : 1 ≤ p .desks) (hi : p .desks ≤ 8) (below : k < length (p .transactions)) where
+  pub made : (a : Access) → Sound (transactionAt p k) → CellStep a (p .desks) (transactionAt p k) d c → Accesses a p d c
+  made a s m =
       let t = transactionAt p k in
       let l : d < 32 = omega (arith, desk-below (p .desks) (t .part) (m .row) (c / 4 % 32) d lo (m .in-row)) in
-      let rn = source-exists t (m .access) (m .table) (m .column) (m .row) (s .exist) (m .step) in
+      let rn = source-exists t a (m .table) (m .column) (m .row) (s .exist) (m .step) in
       let pn = part-exists t (s .exist) in
       let ps = witness (t .part) (m .row) (c / 4 % 32) d in
       record {
@@ -147,48 +143,45 @@ module _ (least : ℕ) (p : Plan) (k d c : ℕ) (lo : 1 ≤ p .desks) (hi : p .d
             (λ i. omega (arith, witness-low (t .part) (m .row) (c / 4 % 32) d (omega arith) l i)) below
             (witness-passes t (m .row) (c / 4 % 32) d rn pn (omega arith) l);
         desk = witness-desk (p .desks) (t .params) (t .part) (m .row) (c / 4 % 32) d (s .few) pn lo (m .in-row);
-        access = m .access;
-        counts = m .counts;
-        names = subst (λ (x : ℕ). List·Memᴰ x (cellsNamed (m .access) ps (t .steps)))
+        names = subst (λ (x : ℕ). List·Memᴰ x (cellsNamed a ps (t .steps)))
             (sym (cell-back c (m .table) (m .column) (valueOf ps (m .row)) (m .in-table) (m .in-column)
             (sym (witness-row (p .desks) (t .params) (t .part) (m .row) (c / 4 % 32) d (s .few) rn (m .in-row)))))
-            (of-names (m .access) ps (t .steps) (m .table) (m .column) (m .row) (m .step));
+            (of-names a ps (t .steps) (m .table) (m .column) (m .row) (m .step));
       }
 
 -- ---- the theorem
 
 -- whether an operation of desk d may access the cell, as the mask has it
-abbrev pub touched : ℕ → Plan → ℕ → ℕ → Bool
-touched least p c d = transactionsTouch least (p .desks) (p .transactions) c d
+abbrev pub touched : Plan → ℕ → ℕ → Bool
+touched p c d = transactionsTouch (p .desks) (p .transactions) c d
 
 module _ (ws : List ℕ) (e : planVerdict ws ≡ accepted) where
   pub some-desk : 1 ≤ planOf ws .desks
   some-desk = omega (arith, desk-count ws, accepted-gives ws e .desks-low)
 
-  few-desks : planOf ws .desks ≤ 8
+  pub few-desks : planOf ws .desks ≤ 8
   few-desks = omega (arith, desk-count ws, accepted-gives ws e .desks-high)
 
-  module _ (least d c : ℕ) where
-    pub touched-gives : touched least (planOf ws) c d ≡ true → Accesses least (planOf ws) d c
+  module _ (d c : ℕ) where
+    pub touched-gives : touched (planOf ws) c d ≡ true → (a : Access) × Accesses a (planOf ws) d c
     touched-gives h =
-        let i = some-index (λ t. stepsTouch least (planOf ws .desks) (t .part) (t .steps) c d) (planOf ws .transactions) noTransaction h in
+        let i = some-index (λ t. stepsTouch (planOf ws .desks) (t .part) (t .steps) c d) (planOf ws .transactions) noTransaction h in
         let t = transactionAt (planOf ws) (i .0) in
-        let j = some-member (λ s. stepTouches least (planOf ws .desks) (t .part) s c d) (t .steps) (i .2) in
-        made least (planOf ws) (i .0) d c some-desk few-desks (i .1) (sound-at ws e (i .0) (i .1))
-        (step-of least (planOf ws .desks) t d c (j .0) (j .1) (j .2))
+        let j = some-member (λ s. stepTouches (planOf ws .desks) (t .part) s c d) (t .steps) (i .2) in
+        let m = step-of (planOf ws .desks) t d c (j .0) (j .1) (j .2) in
+        (m .0, made (planOf ws) (i .0) d c some-desk few-desks (i .1) (m .0) (sound-at ws e (i .0) (i .1)) (m .1))
 
-    pub gives-touched : Accesses least (planOf ws) d c → touched least (planOf ws) c d ≡ true
+    pub gives-touched : (k : Access) → Accesses k (planOf ws) d c → touched (planOf ws) c d ≡ true
     unfolding stepTouches
-    gives-touched a =
+    gives-touched k a =
         let p = planOf ws in
         let t = transactionOf p (a .op) in
         let l = transaction-below p (a .op) (a .is) in
-        let n = names-of (a .access) (a .op .params) (t .steps) c (a .names) in
-        let v = value-low (a .op .params) (a .access) (n .table) (n .column) (n .row)
+        let n = names-of k (a .op .params) (t .steps) c (a .names) in
+        let v = value-low (a .op .params) k (n .table) (n .column) (n .row)
         (sound-at ws e (a .op .transaction) l .fits _ (n .step))
         (every-member (rowInRange (a .op .params)) (t .steps) _ (rows-passed p (a .op) (a .is)) (n .step)) in
-        index-some (λ t. stepsTouch least (p .desks) (t .part) (t .steps) c d) (p .transactions) (a .op .transaction) noTransaction l
-        (member-some (λ s. stepTouches least (p .desks) (t .part) s c d) (cell (a .access) (n .table) (n .column) (n .row)) (t .steps)
+        index-some (λ t. stepsTouch (p .desks) (t .part) (t .steps) c d) (p .transactions) (a .op .transaction) noTransaction l
+        (member-some (λ s. stepTouches (p .desks) (t .part) s c d) (cell k (n .table) (n .column) (n .row)) (t .steps)
         (n .step)
-        (and-true (counted least (a .access)) _ (a .counts)
-        (cell-found (p .desks) (t .part) (n .table) (n .column) (n .row) (a .op .params) d c some-desk v (a .desk) (n .is))))
+        (cell-found (p .desks) (t .part) (n .table) (n .column) (n .row) (a .op .params) d c some-desk v (a .desk) (n .is)))

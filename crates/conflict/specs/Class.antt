@@ -11,7 +11,8 @@ use Rattle.plan.specs.Admission.{every}
 use Rattle.operation.specs.Operation.{Operation, transactionOf, deskOf, cellsNamed, MayRead, MayWrite, MayTouch}
 use Rattle.operation.specs.Admission.{IsOperation}
 use Rattle.conflict.specs.Mask.{some}
-use Rattle.conflict.specs.Touch.{touchMask, writeMask}
+use Rattle.conflict.specs.Touch.{deskMask}
+use Rattle.conflict.specs.Written.{written}
 
 -- ---- over all operations
 
@@ -71,16 +72,16 @@ isWrite (cell reads table column row) = false
 isWrite (cell writes table column row) = true
 isWrite (operand f v) = false
 
--- "the number of desks is the count of ones in it": each of the cells has k ones in its mask
-abbrev pub onesAre : ℕ → (ℕ → ℕ) → List ℕ → Bool
-onesAre k mask cs = every (λ c. eqb (ones (mask c)) k) cs
+-- "the number of desks is the count of ones in it": each of the cells has one desk in its mask
+abbrev pub oneDeskEach : (ℕ → ℕ) → List ℕ → Bool
+oneDeskEach mask cs = every (λ c. eqb (ones (mask c)) 1) cs
 
--- writing: local if just one desk may touch each cell that it writes. Writing nothing: free if no desk may write what it reads
+-- writing: local if just one desk may touch each cell that it writes. Writing nothing: free unless some operation may write what it reads
 unfoldable pub classBy : Plan → Transaction → List ℕ → Class
 classBy p t ps =
     cond (some isWrite (t .steps))
-    (cond (onesAre 1 (touchMask p) (cellsNamed writes ps (t .steps))) local global)
-    (cond (onesAre 0 (writeMask p) (cellsNamed reads ps (t .steps))) free local)
+    (cond (oneDeskEach (deskMask p) (cellsNamed writes ps (t .steps))) local global)
+    (cond (some (written p) (cellsNamed reads ps (t .steps))) local free)
 
 abbrev pub classOf : Plan → Operation → Class
 classOf p o = classBy p (transactionOf p o) (o .params)

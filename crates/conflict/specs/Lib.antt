@@ -1,4 +1,5 @@
 pub mod Mask
 pub mod Touch
+pub mod Written
 pub mod Class
 pub mod Answer

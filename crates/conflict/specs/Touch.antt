@@ -1,23 +1,14 @@
 -- The mask of a cell, computed: "The desks whose operations may touch a cell form a mask".
--- `least` says which accesses count: from kind 3 on reads and writes, from kind 4 on writes alone.
 use Prim.Native.Nat.{ℕ, zero, suc, _/_, _%_, _<_}
 use mathlib.Core.Path.{_≡_}
 use mathlib.Core.Bool.{Bool, true, false, _&&_, cond}
 use mathlib.Core.List.{List, [], _∷_, _++_}
 use lib.Bits.{bitOr}
 use lib.ListN.{length, getD}
-use lib.Dec.{ltb, leb, eqb}
-use Rattle.plan.specs.Plan.{Source, param, fixed, Access, reads, writes, Step, cell, operand, Partitioning, byParam, unpartitioned}
+use lib.Dec.{ltb, eqb}
+use Rattle.plan.specs.Plan.{Source, param, fixed, Step, cell, operand, Partitioning, byParam, unpartitioned}
 use Rattle.plan.specs.Plan.{Transaction, Plan}
 use Rattle.conflict.specs.Mask.{maskOf, some}
-
--- "3 read, 4 write"
-abbrev pub accessKind : Access → ℕ
-accessKind reads = 3
-accessKind writes = 4
-
-abbrev pub counted : ℕ → Access → Bool
-counted least a = leb least (accessKind a)
 
 -- with n desks, some operation of desk d gives this row to the source: with no partitioning desk 0 alone has operations; where the
 -- row is the partitioning parameter, row r is at desk r mod n; else every desk has one
@@ -32,26 +23,20 @@ unfoldable pub cellTouched : ℕ → Partitioning → ℕ → ℕ → Source →
 cellTouched n part table column row c d =
     eqb (c / 128) table && (eqb (c % 4) column && rowTouched n part row (c / 4 % 32) d)
 
-unfoldable pub stepTouches : ℕ → ℕ → Partitioning → Step → ℕ → ℕ → Bool
-stepTouches least n part (cell a table column row) c d = counted least a && cellTouched n part table column row c d
-stepTouches least n part (operand f v) c d = false
+-- "Touching is either": a read and a write step alike
+unfoldable pub stepTouches : ℕ → Partitioning → Step → ℕ → ℕ → Bool
+stepTouches n part (cell a table column row) c d = cellTouched n part table column row c d
+stepTouches n part (operand f v) c d = false
 
-abbrev pub stepsTouch : ℕ → ℕ → Partitioning → List Step → ℕ → ℕ → Bool
-stepsTouch least n part ss c d = some (λ s. stepTouches least n part s c d) ss
+abbrev pub stepsTouch : ℕ → Partitioning → List Step → ℕ → ℕ → Bool
+stepsTouch n part ss c d = some (λ s. stepTouches n part s c d) ss
 
-abbrev pub transactionsTouch : ℕ → ℕ → List Transaction → ℕ → ℕ → Bool
-transactionsTouch least n ts c d = some (λ t. stepsTouch least n (t .part) (t .steps) c d) ts
+abbrev pub transactionsTouch : ℕ → List Transaction → ℕ → ℕ → Bool
+transactionsTouch n ts c d = some (λ t. stepsTouch n (t .part) (t .steps) c d) ts
 
--- the mask of the desks with an operation that may access the cell
-unfoldable pub deskMask : ℕ → Plan → ℕ → ℕ
-deskMask least p c = maskOf (p .desks) (transactionsTouch least (p .desks) (p .transactions) c)
-
--- who may touch a cell, and who may write it
-abbrev pub touchMask : Plan → ℕ → ℕ
-touchMask = deskMask 3
-
-abbrev pub writeMask : Plan → ℕ → ℕ
-writeMask = deskMask 4
+-- the mask of the desks with an operation that may touch the cell
+unfoldable pub deskMask : Plan → ℕ → ℕ
+deskMask p c = maskOf (p .desks) (transactionsTouch (p .desks) (p .transactions) c)
 
 -- the numbers f 0, f 1, .. f (n - 1)
 unfoldable pub tabulate : ℕ → (ℕ → ℕ) → List ℕ
@@ -59,8 +44,8 @@ tabulate zero f = []
 tabulate (suc n) f = tabulate n f ++ (f n ∷ [])
 
 -- "The masks fill a table of 1,024 entries"
-abbrev pub maskTable : ℕ → Plan → List ℕ
-maskTable least p = tabulate 1024 (deskMask least p)
+abbrev pub maskTable : Plan → List ℕ
+maskTable p = tabulate 1024 (deskMask p)
 
 -- the table l is l₀ with the mask m of each cell joined to it
 pub record Joined (l₀ l : List ℕ) (m : ℕ → ℕ) : Type 0 where

@@ -2,6 +2,7 @@
 mod class;
 mod mask;
 mod row;
+mod written;
 
 pub use class::ClassAnswer;
 pub use class::classify;

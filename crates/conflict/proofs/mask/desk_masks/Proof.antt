@@ -4,34 +4,34 @@ use Prim.Native.Nat.{_-_, _<_}
 use native.Mathlib.Omega.{arith}
 use lib.ListN.{length}
 use Rattle.plan.proofs.Accepted.{accepted-gives}
-use Rattle.conflict.proofs.Filling.{Filling, FillingIn, start, enter-here, enter, done, step-here, step-is-formed, step-on, leave}
+use Rattle.conflict.proofs.Filling.{Filling, FillingIn, start, enter-here, enter, done, step-here, step-on, leave}
 use borrow.Author.Needs.{needs}
 use Rattle.conflict.proofs.mask.desk_masks.Statement.{statement}
 use Rattle.conflict.proofs.mask.desk_masks.Tie as tie
 
 abbrev Inv-loop2 : tie.InvT-loop2
-Inv-loop2 plan least table₀ head desks transactions at₀ t word partitioning steps s₀ table at s =
-    FillingIn least plan desks partitioning steps s transactions t at table
+Inv-loop2 plan table₀ head desks transactions at₀ t word partitioning steps s₀ table at s =
+    FillingIn plan desks partitioning steps s transactions t at table
 
 abbrev μ-loop2 : tie.MeasureT-loop2
-μ-loop2 plan least table₀ head desks transactions at₀ t word partitioning steps s₀ table at s = steps - s
+μ-loop2 plan table₀ head desks transactions at₀ t word partitioning steps s₀ table at s = steps - s
 
 abbrev Inv-loop : tie.InvT-loop
-Inv-loop plan least table₀ head desks transactions at₀ t₀ table at t = Filling least plan desks transactions t at table
+Inv-loop plan table₀ head desks transactions at₀ t₀ table at t = Filling plan desks transactions t at table
 
 abbrev μ-loop : tie.MeasureT-loop
-μ-loop plan least table₀ head desks transactions at₀ t₀ table at t = transactions - t
+μ-loop plan table₀ head desks transactions at₀ t₀ table at t = transactions - t
 
 shared-slice-read-head : tie.Need-shared-slice-read-head Inv-loop2 μ-loop2 Inv-loop μ-loop
 shared-slice-read-head c = accepted-gives _ (c .before .before .pre) .words-low
 
 loop-holds : tie.Need-loop-holds Inv-loop2 μ-loop2 Inv-loop μ-loop
-loop-holds c = start _ _ (c .before .before .pre)
+loop-holds c = start _ (c .before .before .pre)
 
 -- the transaction's word stands within the plan, and so does the step's
 transaction-here : (c : tie.In-loop Inv-loop2 μ-loop2 Inv-loop μ-loop)
     → c .before .loop .at < length (c .before .before .before .before .args .plan .now)
-transaction-here c = enter-here _ _ _ _ _ _ _ (c .before .loop .inv) (c .loop-test .taken)
+transaction-here c = enter-here _ _ _ _ _ _ (c .before .loop .inv) (c .loop-test .taken)
 
 mul-word : tie.Need-mul-word Inv-loop2 μ-loop2 Inv-loop μ-loop
 mul-word c = let h = transaction-here c in search needs
@@ -43,11 +43,11 @@ add-at : tie.Need-add-at Inv-loop2 μ-loop2 Inv-loop μ-loop
 add-at c = let h = transaction-here (c .before) in omega arith
 
 loop2-holds : tie.Need-loop2-holds Inv-loop2 μ-loop2 Inv-loop μ-loop
-loop2-holds c = enter _ _ _ _ _ _ _ (c .before .before .loop .inv) (c .before .loop-test .taken)
+loop2-holds c = enter _ _ _ _ _ _ (c .before .before .loop .inv) (c .before .loop-test .taken)
 
 step-at : (c : tie.In-loop2 Inv-loop2 μ-loop2 Inv-loop μ-loop)
     → c .before .loop2 .at < length (c .before .before .before .before .before .before .before .args .plan .now)
-step-at c = step-here _ _ _ _ _ _ _ _ _ _ (c .before .loop2 .inv) (c .loop2-test .taken)
+step-at c = step-here _ _ _ _ _ _ _ _ _ (c .before .loop2 .inv) (c .loop2-test .taken)
 
 mul-mark : tie.Need-mul-mark Inv-loop2 μ-loop2 Inv-loop μ-loop
 mul-mark c = let h = step-at (c .before) in search needs
@@ -61,8 +61,6 @@ mark-requires c κs =
     let a = accepted-gives _ (d .before .before .before .before .before .before .before .pre) in (
       a .desks-low,
       a .desks-high,
-      step-is-formed _ _ _ _ _ _ _ _ _ _ (d .before .loop2 .inv)
-          (d .loop2-test .taken),
       d .before .loop2 .inv .left .long,
     )
 
@@ -78,7 +76,7 @@ loop2-less c = omega arith
 loop2-again : tie.Need-loop2-again Inv-loop2 μ-loop2 Inv-loop μ-loop
 loop2-again c =
     let d = c .before .before .before in
-    step-on _ _ _ _ _ _ _ _ _ _ (d .before .loop2 .inv) _ (d .loop2-test .taken) (c .mark .ensures)
+    step-on _ _ _ _ _ _ _ _ _ (d .before .loop2 .inv) _ (d .loop2-test .taken) (c .mark .ensures)
 
 add-t : tie.Need-add-t Inv-loop2 μ-loop2 Inv-loop μ-loop
 add-t c = omega arith
@@ -87,10 +85,10 @@ loop-less : tie.Need-loop-less Inv-loop2 μ-loop2 Inv-loop μ-loop
 loop-less c = omega arith
 
 loop-again : tie.Need-loop-again Inv-loop2 μ-loop2 Inv-loop μ-loop
-loop-again c = leave _ _ _ _ _ _ _ _ _ _ (c .before .loop2 .inv) (c .loop2-test .left)
+loop-again c = leave _ _ _ _ _ _ _ _ _ (c .before .loop2 .inv) (c .loop2-test .left)
 
 returns : tie.Need-returns Inv-loop2 μ-loop2 Inv-loop μ-loop
-returns c = done _ _ _ _ _ _ _ (c .before .loop .inv) (c .loop-test .left)
+returns c = done _ _ _ _ _ _ (c .before .loop .inv) (c .loop-test .left)
 
 pub desk-masks-spec : {M : Type 1} → statement M
 desk-masks-spec =

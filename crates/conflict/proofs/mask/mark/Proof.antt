@@ -3,23 +3,19 @@
 use Prim.Native.Nat.{_-_}
 use native.Mathlib.Omega.{arith}
 use Rattle.plan.specs.Decode.{partBy}
-use Rattle.conflict.proofs.Marks.{Marked, operand-marks-none, uncounted-marks-none, marked-none, marked-all, marked-more}
+use Rattle.conflict.proofs.Marks.{Marked, operand-marks-none, marked-none, marked-all, marked-more}
 use borrow.Author.Needs.{needs}
 use Rattle.conflict.proofs.mask.mark.Statement.{statement}
 use Rattle.conflict.proofs.mask.mark.Tie as tie
 
 abbrev Inv-loop : tie.InvT-loop
-Inv-loop table₀ word partitioning desks least kind base row₀ table row = Marked table₀ table desks (partBy partitioning) word row
+Inv-loop table₀ word partitioning desks base row₀ table row = Marked table₀ table desks (partBy partitioning) word row
 
 abbrev μ-loop : tie.MeasureT-loop
-μ-loop table₀ word partitioning desks least kind base row₀ table row = 32 - row
+μ-loop table₀ word partitioning desks base row₀ table row = 32 - row
 
 returns : tie.Need-returns Inv-loop μ-loop
-returns c = operand-marks-none _ _ _ _ _ (c .before .pre .3) (c .if1 .taken)
-
-returns-2 : tie.Need-returns-2 Inv-loop μ-loop
-returns-2 c =
-    uncounted-marks-none _ _ _ _ _ (c .before .before .pre .3) (c .before .before .pre .2) (c .before .if1 .left) (c .if2 .taken)
+returns c = operand-marks-none _ _ _ _ (c .before .pre .2) (c .if1 .taken)
 
 mul-base : tie.Need-mul-base Inv-loop μ-loop
 mul-base c = omega arith
@@ -28,7 +24,7 @@ add-base : tie.Need-add-base Inv-loop μ-loop
 add-base c = omega arith
 
 loop-holds : tie.Need-loop-holds Inv-loop μ-loop
-loop-holds c = marked-none _ _ _ _ (c .before .before .pre .3)
+loop-holds c = marked-none _ _ _ _ (c .before .pre .2)
 
 mul-cell : tie.Need-mul-cell Inv-loop μ-loop
 mul-cell c = omega arith
@@ -58,11 +54,8 @@ loop-again : tie.Need-loop-again Inv-loop μ-loop
 loop-again c = marked-more _ _ _ _ _ _ _ (c .before .before .loop-test .taken) (c .row-mask .ensures)
     (c .before .before .before .loop .inv)
 
-returns-3 : tie.Need-returns-3 Inv-loop μ-loop
-returns-3 c =
-    marked-all _ _ _ _ _ _ _ (c .before .before .before .before .pre .2) (c .before .before .before .if1 .left)
-    (c .before .before .if2 .left)
-    (c .loop-test .left) (c .before .loop .inv)
+returns-2 : tie.Need-returns-2 Inv-loop μ-loop
+returns-2 c = marked-all _ _ _ _ _ _ (c .before .before .if1 .left) (c .loop-test .left) (c .before .loop .inv)
 
 pub mark-spec : {M : Type 1} → statement M
 mark-spec =
@@ -71,7 +64,6 @@ mark-spec =
     Inv-loop
     μ-loop
     returns
-    returns-2
     mul-base
     add-base
     loop-holds
@@ -84,4 +76,4 @@ mark-spec =
     add-row
     loop-less
     loop-again
-    returns-3)
+    returns-2)

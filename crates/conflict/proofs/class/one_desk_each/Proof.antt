@@ -1,4 +1,4 @@
--- The masks of the cells that the steps of one kind name: what the steps still to come say is the whole answer.
+-- The masks of the cells that an operation may write: what the steps still to come say is the whole answer.
 -- Assumes nothing.
 use mathlib.Core.Path.{_≡_, refl, _∙_, sym, ap}
 use mathlib.Core.List.{List}
@@ -6,25 +6,25 @@ use Prim.Native.Nat.{ℕ, _+_, _-_, _<_, _≤_}
 use native.Mathlib.Omega.{arith}
 use lib.ListN.{length, getD}
 use Rattle.word.specs.Field.{kindOf, stepCount}
-use Rattle.plan.specs.Plan.{Step}
-use Rattle.plan.specs.Decode.{accessBy, rowOf}
+use Rattle.plan.specs.Plan.{writes, Step}
+use Rattle.plan.specs.Decode.{rowOf}
 use Rattle.plan.specs.Place.{StandsAt, transactionFrom}
 use Rattle.plan.proofs.Steps.{stepsFrom, steps-all, step-here}
 use Rattle.operation.specs.Operation.{valueOf, cellsNamed}
-use Rattle.conflict.specs.Class.{onesAre}
-use Rattle.conflict.proofs.Named.{row-passes, ones-fail, ones-pass, ones-other, ones-done}
+use Rattle.conflict.specs.Class.{oneDeskEach}
+use Rattle.conflict.proofs.Named.{row-passes, one-fails, one-passes, one-other, one-done}
 use borrow.Author.Needs.{needs}
-use Rattle.conflict.proofs.class.ones_are.Statement.{statement}
-use Rattle.conflict.proofs.class.ones_are.Tie as tie
+use Rattle.conflict.proofs.class.one_desk_each.Statement.{statement}
+use Rattle.conflict.proofs.class.one_desk_each.Tie as tie
 
 abbrev Inv-loop : tie.InvT-loop
-Inv-loop plan at params kind masks desks steps s₀ s =
+Inv-loop plan at params masks steps s₀ s =
     (steps ≡ stepCount (getD plan at 0))
-    × (onesAre desks (λ c. getD masks c 0) (cellsNamed (accessBy kind) params (transactionFrom plan at .steps))
-    ≡ onesAre desks (λ c. getD masks c 0) (cellsNamed (accessBy kind) params (stepsFrom plan at s)))
+    × (oneDeskEach (λ c. getD masks c 0) (cellsNamed writes params (transactionFrom plan at .steps))
+    ≡ oneDeskEach (λ c. getD masks c 0) (cellsNamed writes params (stepsFrom plan at s)))
 
 abbrev μ-loop : tie.MeasureT-loop
-μ-loop plan at params kind masks desks steps s₀ s = steps - s
+μ-loop plan at params masks steps s₀ s = steps - s
 
 mul-steps : tie.Need-mul-steps Inv-loop μ-loop
 mul-steps c =
@@ -43,8 +43,7 @@ loop-holds : tie.Need-loop-holds Inv-loop μ-loop
 loop-holds c =
     let d = c .before .before .before in (
       refl,
-      ap (λ (ss : List Step). onesAre (d .args .desks) (λ c. getD (d .args .masks .now) c 0)
-          (cellsNamed (accessBy (d .args .kind)) (d .args .params) ss))
+      ap (λ (ss : List Step). oneDeskEach (λ c. getD (d .args .masks .now) c 0) (cellsNamed writes (d .args .params) ss))
           (sym (steps-all (d .args .plan .now) (d .args .at))),
     )
 
@@ -96,7 +95,7 @@ returns c =
     let d = c .before .before .before .before .before .before .before in
     let e = d .before .before .before .before in
     sym (d .loop .inv .1
-    ∙ ones-fail _ _ (e .pre .0) _ _ (e .pre .2) (e .pre .3) _ _ _ (omega arith) (c .before .before .before .before .if1 .taken)
+    ∙ one-fails _ _ (e .pre .0) _ _ _ (omega arith) (c .before .before .before .before .if1 .taken)
     _ _ (c .before .before .before .cell-named .ensures) (c .before .desks-in .ensures) (c .if2 .taken))
 
 loop-less : tie.Need-loop-less Inv-loop μ-loop
@@ -108,7 +107,7 @@ loop-again c =
     let e = d .before .before .before .before in (
       d .loop .inv .0,
       d .loop .inv .1
-          ∙ ones-pass _ _ (e .pre .0) _ _ (e .pre .2) (e .pre .3) _ _ _ (omega arith) (c .before .before .before .before .if1 .taken)
+          ∙ one-passes _ _ (e .pre .0) _ _ _ (omega arith) (c .before .before .before .before .if1 .taken)
           _ _ (c .before .before .before .cell-named .ensures) (c .before .desks-in .ensures) (c .if2 .left),
     )
 
@@ -119,15 +118,15 @@ loop-again-2 : tie.Need-loop-again-2 Inv-loop μ-loop
 loop-again-2 c =
     let d = c .before .before .before in
     let e = d .before .before .before .before in
-    (d .loop .inv .0, d .loop .inv .1 ∙ ones-other _ _ (e .pre .0) _ _ (e .pre .2) (e .pre .3) _ _ _ (omega arith) (c .if1 .left))
+    (d .loop .inv .0, d .loop .inv .1 ∙ one-other _ _ (e .pre .0) _ _ _ (omega arith) (c .if1 .left))
 
 returns-2 : tie.Need-returns-2 Inv-loop μ-loop
 returns-2 c =
     let e = c .before .before .before .before .before in
-    sym (c .before .loop .inv .1 ∙ ones-done _ _ (e .pre .0) _ _ (e .pre .2) (e .pre .3) _ _ _ (omega arith))
+    sym (c .before .loop .inv .1 ∙ one-done _ _ (e .pre .0) _ _ _ (omega arith))
 
-pub ones-are-spec : {M : Type 1} → statement M
-ones-are-spec =
+pub one-desk-each-spec : {M : Type 1} → statement M
+one-desk-each-spec =
     tie.close
     (tie.spec
     Inv-loop
