@@ -23,7 +23,7 @@ use Rattle.plan.proofs.Places.{lt-or-ge, left-suc}
 use Rattle.conflict.specs.Mask.{maskOf, some}
 use Rattle.conflict.specs.Touch.{stepTouches, stepsTouch, transactionsTouch, deskMask, maskTable, Joined}
 use Rattle.conflict.proofs.Masks.{mask-ext, mask-none, mask-split}
-use Rattle.conflict.proofs.Tables.{whole-table}
+use Rattle.plan.proofs.Tables.{whole-table}
 
 -- ---- by the words that are left
 
@@ -138,7 +138,7 @@ module _ (plan : List ℕ) (n txs t at : ℕ) (l : List ℕ) (f : Filling plan n
   pub done : txs ≤ t → l ≡ maskTable (planOf plan)
   done h =
       let e : txs - t ≡ 0 = omega arith in
-      whole-table (deskMask (planOf plan)) l (f .left .long)
+      whole-table 1024 (deskMask (planOf plan)) l (f .left .long)
       (left-done n (deskMask (planOf plan)) (drop at plan) l (rw e at (f .left)))
 
 module _ (plan : List ℕ) (n part steps s txs t at : ℕ) (l : List ℕ) (f : FillingIn plan n part steps s txs t at l) where

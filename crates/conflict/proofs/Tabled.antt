@@ -19,7 +19,7 @@ use Rattle.conflict.specs.Touch.{deskMask, maskTable}
 use Rattle.conflict.specs.Written.{written}
 use Rattle.conflict.specs.Mask.{some}
 use Rattle.conflict.specs.Class.{oneDeskEach, isWrite, free, local, global, classBy, isFree, isGlobal}
-use Rattle.conflict.proofs.Tables.{getD-tabulate}
+use Rattle.plan.proofs.Tables.{getD-tabulate}
 
 pub one-tabled : (p : Plan) (ws : List ℕ) (at : ℕ) (ps : List ℕ) → parametersPass (transactionFrom ws at) ps ≡ true
     → oneDeskEach (λ c. getD (maskTable p) c 0) (cellsNamed writes ps (transactionFrom ws at .steps))

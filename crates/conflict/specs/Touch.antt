@@ -1,13 +1,14 @@
 -- The mask of a cell, computed: "The desks whose operations may touch a cell form a mask".
-use Prim.Native.Nat.{ℕ, zero, suc, _/_, _%_, _<_}
+use Prim.Native.Nat.{ℕ, _/_, _%_, _<_}
 use mathlib.Core.Path.{_≡_}
-use mathlib.Core.Bool.{Bool, true, false, _&&_, cond}
-use mathlib.Core.List.{List, [], _∷_, _++_}
+use mathlib.Core.Bool.{Bool, false, _&&_, cond}
+use mathlib.Core.List.{List}
 use lib.Bits.{bitOr}
 use lib.ListN.{length, getD}
 use lib.Dec.{ltb, eqb}
 use Rattle.plan.specs.Plan.{Source, param, fixed, Step, cell, operand, Partitioning, byParam, unpartitioned}
 use Rattle.plan.specs.Plan.{Transaction, Plan}
+use Rattle.plan.specs.Table.{tabulate}
 use Rattle.conflict.specs.Mask.{maskOf, some}
 
 -- with n desks, some operation of desk d gives this row to the source: with no partitioning desk 0 alone has operations; where the
@@ -37,11 +38,6 @@ transactionsTouch n ts c d = some (λ t. stepsTouch n (t .part) (t .steps) c d) 
 -- the mask of the desks with an operation that may touch the cell
 unfoldable pub deskMask : Plan → ℕ → ℕ
 deskMask p c = maskOf (p .desks) (transactionsTouch (p .desks) (p .transactions) c)
-
--- the numbers f 0, f 1, .. f (n - 1)
-unfoldable pub tabulate : ℕ → (ℕ → ℕ) → List ℕ
-tabulate zero f = []
-tabulate (suc n) f = tabulate n f ++ (f n ∷ [])
 
 -- "The masks fill a table of 1,024 entries"
 abbrev pub maskTable : Plan → List ℕ

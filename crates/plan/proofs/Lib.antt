@@ -3,5 +3,7 @@ pub mod Every
 pub mod Words
 pub mod Rest
 pub mod Accepted
+pub mod Tables
 pub mod Places
+pub mod Placing
 pub mod Steps

@@ -1,18 +1,24 @@
 -- Where a transaction stands among the words of a plan.
 use Prim.Native.Nat.{ℕ, zero, suc, _+_, _≤_}
 use mathlib.Core.Path.{_≡_}
-use mathlib.Core.Bool.{true}
+use mathlib.Core.Bool.{true, cond}
 use mathlib.Core.List.{List}
+use lib.Dec.{ltb}
 use lib.ListN.{length, getD, take, drop}
-use Rattle.word.specs.Field.{stepCount}
+use Rattle.word.specs.Field.{stepCount, headTransactions}
 use Rattle.plan.specs.Plan.{Transaction}
-use Rattle.plan.specs.Decode.{transactionOf}
+use Rattle.plan.specs.Table.{tabulate}
+use Rattle.plan.specs.Decode.{transactionOf, headOf}
 use Rattle.plan.specs.Admission.{transactionFormed, stepFormed, every}
 
 -- the first stands behind the head, each next one behind the steps of the one before
 unfoldable pub transactionPlace : List ℕ → ℕ → ℕ
 transactionPlace ws zero = 1
 transactionPlace ws (suc k) = transactionPlace ws k + 1 + stepCount (getD ws (transactionPlace ws k) 0)
+
+-- a table of the places of transactions 0 to 31, with 0 for those that the plan does not have
+abbrev pub transactionPlaces : List ℕ → List ℕ
+transactionPlaces ws = tabulate 32 (λ k. cond (ltb k (headTransactions (headOf ws))) (transactionPlace ws k) 0)
 
 -- the transaction whose word stands at `at`, with its steps behind it
 abbrev pub transactionFrom : List ℕ → ℕ → Transaction

@@ -1,7 +1,8 @@
 // Where a transaction stands among the words of a plan.
 ghost use mathlib.Core.Path.{_≡_};
 ghost use lib.ListN.{getD};
-ghost use Rattle.plan.specs.Place.{transactionPlace};
+ghost use Rattle.plan.specs.Admission.{planVerdict, accepted};
+ghost use Rattle.plan.specs.Place.{transactionPlace, transactionPlaces};
 use word::fields;
 
 // The word at a place, 0 past the end.
@@ -21,4 +22,21 @@ pub fn transaction_place(plan: &[u32], k: u32) -> usize
         at = at + 1 + (word / fields::STEPS % 16) as usize;
     }
     at
+}
+
+// The places of the plan's transactions, by their number. The plan is walked once.
+pub fn transaction_places(plan: &[u32]) -> [usize; 32]
+    requires { ⌜ planVerdict (now plan) ≡ accepted ⌝ }
+    ensures { λ r. ⌜ r ≡ transactionPlaces (now (plan .entry)) ⌝ }
+{
+    let mut places = [0usize; 32];
+    let transactions = (plan[0] / fields::TRANSACTIONS % 256) as usize;
+    let mut at: usize = 1;
+    let mut k: usize = 0;
+    while k < transactions {
+        places[k] = at;
+        at = at + 1 + (plan[at] / fields::STEPS % 16) as usize;
+        k = k + 1;
+    }
+    places
 }

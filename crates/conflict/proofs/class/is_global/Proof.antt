@@ -6,7 +6,7 @@ use mathlib.Core.List.{List}
 use lib.ListN.{length}
 use Rattle.plan.specs.Decode.{planOf}
 use Rattle.conflict.specs.Touch.{deskMask}
-use Rattle.conflict.proofs.Tables.{length-tabulate}
+use Rattle.plan.proofs.Tables.{length-tabulate}
 use Rattle.conflict.proofs.Tabled.{global-tabled}
 use borrow.Author.Needs.{needs}
 use Rattle.conflict.proofs.class.is_global.Statement.{statement}

@@ -8,7 +8,7 @@ use native.Mathlib.Nat.{le-of-suc-le-suc, not-suc-le-zero, eq-or-lt-of-le}
 use native.Mathlib.Omega.{arith}
 use lib.ListN.{length, getD, length-append, List·getD-append}
 use lib.Seq.{ext-getD, getD-append-seam}
-use Rattle.conflict.specs.Touch.{tabulate}
+use Rattle.plan.specs.Table.{tabulate}
 
 pub length-tabulate : (n : ℕ) (f : ℕ → ℕ) → length (tabulate n f) ≡ n
 unfolding tabulate
@@ -25,7 +25,7 @@ getD-tabulate (suc n) f i h =
     (λ (l : i < n). List·getD-append (tabulate n f) (f n ∷ []) 0 i (omega (arith, length-tabulate n f)) ∙ getD-tabulate n f i l)
     (eq-or-lt-of-le (le-of-suc-le-suc h))
 
-pub whole-table : (f : ℕ → ℕ) (l : List ℕ) → length l ≡ 1024 → ((c : ℕ) → c < 1024 → getD l c 0 ≡ f c) → l ≡ tabulate 1024 f
-whole-table f l e h =
-    ext-getD 0 l (tabulate 1024 f) (e ∙ sym (length-tabulate 1024 f))
-    (λ i k. let s : i < 1024 = omega arith in h i s ∙ sym (getD-tabulate 1024 f i s))
+pub whole-table : (n : ℕ) (f : ℕ → ℕ) (l : List ℕ) → length l ≡ n → ((i : ℕ) → i < n → getD l i 0 ≡ f i) → l ≡ tabulate n f
+whole-table n f l e h =
+    ext-getD 0 l (tabulate n f) (e ∙ sym (length-tabulate n f))
+    (λ i k. let s : i < n = omega arith in h i s ∙ sym (getD-tabulate n f i s))
