@@ -1,17 +1,16 @@
 -- What the questions of a visit give once all are answered with yes.
 -- Assumes nothing.
-use mathlib.Core.Path.{_≡_, refl, _∙_, sym, ap}
-use mathlib.Core.Bool.{Bool, true, false, _&&_, cond}
+use mathlib.Core.Path.{_≡_}
+use mathlib.Core.Bool.{true, _&&_, cond}
 use mathlib.Core.List.{List}
 use Prim.Native.Nat.{ℕ, _%_, _≤_, _<_}
-use native.Mathlib.Omega.{arith}
 use lib.Dec.{ltb, leb, eqb}
 use lib.ListN.{length}
 use borrow.Author.Tests.{leb-true, ltb-true, eqb-true}
 use Rattle.word.specs.Field.{addressedDesk}
 use Rattle.plan.specs.Plan.{Plan}
 use Rattle.plan.specs.Decode.{headOf, planOf}
-use Rattle.plan.specs.Admission.{every, Verdict, accepted, refused, planVerdict}
+use Rattle.plan.specs.Admission.{every, accepted, refused, planVerdict}
 use Rattle.plan.proofs.Accepted.{yes-of}
 use Rattle.plan.proofs.Bool.{and-fst, and-snd}
 use Rattle.plan.proofs.Every.{every-member, member-every}

@@ -12,6 +12,7 @@ use Rattle.plan.specs.Admission.{Verdict, accepted, refused, planVerdict}
 use Rattle.plan.proofs.Accepted.{yes-of}
 use Rattle.plan.proofs.Bool.{and-fst, and-snd}
 use Rattle.token.specs.Admission.{andThen, frameVerdict}
+use Rattle.token.proofs.Verdicts.{both}
 use Rattle.queue.specs.Queue.{recordsOf}
 use Rattle.queue.specs.declared.record.Request.{Request}
 use Rattle.queue.proofs.Copying.{records-whole}
@@ -19,7 +20,6 @@ use Rattle.desk.specs.declared.state.Desk.{Desk}
 use Rattle.desk.specs.Admission.{deskBuffersFit, deskStands}
 use Rattle.passing.specs.Admission.{visitBuffersFit, turnVerdict}
 use Rattle.passing.specs.Visit.{isRefused, Visited, passed, visitVerdict, passVerdict, visitResult}
-use Rattle.token.proofs.Verdicts.{both}
 use Rattle.passing.proofs.Questions.{questions-give}
 
 -- behind a question answered with no, the next do not matter

@@ -11,6 +11,7 @@ use Rattle.plan.specs.Decode.{planOf}
 use Rattle.plan.specs.Admission.{Verdict, accepted, refused, planVerdict}
 use Rattle.operation.specs.Admission.{operationVerdict}
 use Rattle.token.specs.Admission.{andThen}
+use Rattle.token.proofs.Verdicts.{both}
 use Rattle.queue.specs.Queue.{recordsOf}
 use Rattle.queue.specs.declared.record.Request.{Request}
 use Rattle.queue.proofs.Copying.{records-whole}
@@ -19,7 +20,6 @@ use Rattle.desk.specs.Queueing.{operationOf}
 use Rattle.desk.specs.Admission.{deskBuffersFit, deskStands}
 use Rattle.routing.specs.Request.{requestVerdict}
 use Rattle.routing.specs.Step.{openingVerdict}
-use Rattle.token.proofs.Verdicts.{both}
 
 -- ---- questions 1 to 5
 
