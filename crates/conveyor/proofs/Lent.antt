@@ -26,9 +26,9 @@ use denote.Builtin.{u32, usize}
 use denote.Ref.{RefT}
 use denote.Slice.{sliceVal, MutSlice, ShrSlice}
 use denote.Struct.Laws as LL
-use Rattle.conveyor.specs.declared.desk.Desk.{Desk}
-use Rattle.conveyor.proofs.desk.Desk as D
-use Rattle.conveyor.proofs.desk.Desk.Laws as D′
+use Rattle.desk.specs.declared.state.Desk.{Desk}
+use Rattle.desk.proofs.state.Desk as D
+use Rattle.desk.proofs.state.Desk.Laws as D′
 
 pub record Lent (X : Type 0) : Type 0 where
   pub lft : Lft

@@ -1,12 +1,1 @@
-pub mod Asked
-pub mod Standing
-pub mod Handed
-pub mod Routes
 pub mod Lent
-pub mod Remainders
-pub mod WaitingRuns
-pub mod OwnUpdates
-pub mod Assembled
-pub mod Questions
-pub mod Outgoing
-pub mod Visited

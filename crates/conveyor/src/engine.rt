@@ -1,15 +1,14 @@
 // The two calls that take the lent queue. Its length and its first 32 records are read; all else is reckoned on those, and a request then
 // stores at most one record.
 ghost use mathlib.Core.Path.{_≡_};
-ghost use Rattle.conveyor.specs.Request.{recordOf, requestResult};
-ghost use Rattle.conveyor.specs.Visit.{visitResult};
-ghost use Rattle.conveyor.specs.Answer.{requestedOf, visitedOf};
-use crate::asking::RequestResult;
-use crate::asking::request_step;
-use crate::desk::Desk;
-use crate::visiting::VisitResult;
-use crate::visiting::visit_core;
+ghost use Rattle.routing.specs.Request.{recordOf, requestResult};
+ghost use Rattle.passing.specs.Visit.{visitResult};
+ghost use Rattle.routing.specs.Answer.{requestedOf};
+ghost use Rattle.passing.specs.Answer.{visitedOf};
+use desk::Desk;
+use passing::VisitResult;
 use queue::Request;
+use routing::RequestResult;
 
 // A request at a desk.
 pub fn request(
@@ -26,7 +25,7 @@ pub fn request(
 {
     let size = queue.len();
     let records = queue::copied(queue);
-    let step = request_step(
+    let step = routing::request_step(
         plan,
         state,
         cells,
@@ -56,5 +55,5 @@ pub fn visit(
 {
     let size = queue.len();
     let records = queue::copied(queue);
-    visit_core(plan, state, cells, size, records, frame, out, replies)
+    passing::visit_core(plan, state, cells, size, records, frame, out, replies)
 }

@@ -2,9 +2,10 @@
 ghost use mathlib.Core.Path.{_≡_};
 ghost use Prim.Native.Nat.{_≤_};
 ghost use lib.ListN.{take, drop};
-ghost use Rattle.conveyor.specs.Request.{recordOf, requestResult};
-ghost use Rattle.conveyor.specs.Visit.{visitResult};
-ghost use Rattle.conveyor.specs.Answer.{requestedOf, visitedOf};
+ghost use Rattle.routing.specs.Request.{recordOf, requestResult};
+ghost use Rattle.passing.specs.Visit.{visitResult};
+ghost use Rattle.routing.specs.Answer.{requestedOf};
+ghost use Rattle.passing.specs.Answer.{visitedOf};
 use conveyor::Desk;
 use conveyor::RequestResult;
 use conveyor::VisitResult;

@@ -25,12 +25,13 @@ use Rattle.token.proofs.OneWord.{one-word}
 use Rattle.token.proofs.Verdicts.{read-after}
 use Rattle.queue.specs.Queue.{paramsOf}
 use Rattle.queue.specs.declared.record.Request.{Request}
-use Rattle.conveyor.specs.declared.desk.Desk.{Desk}
-use Rattle.conveyor.specs.Queueing.{operationOf, waitingIn}
-use Rattle.conveyor.specs.Admission.{isAccepted, deskBuffersFit, visitBuffersFit, waitsHere, deskStands}
-use Rattle.conveyor.specs.Visit.{forwarded, isRefused, Visited, caughtUp, outgoingUpdates, outgoingFrame, visitedBy, visitVerdict}
-use Rattle.conveyor.specs.Visit.{visitResult}
-use Rattle.conveyor.specs.Waiting.{Answered, repliesOf, repliesWords}
+use Rattle.desk.specs.declared.state.Desk.{Desk}
+use Rattle.desk.specs.Queueing.{operationOf, waitingIn}
+use Rattle.desk.specs.Admission.{isAccepted, deskBuffersFit, waitsHere, deskStands}
+use Rattle.passing.specs.Admission.{visitBuffersFit}
+use Rattle.passing.specs.Visit.{forwarded, isRefused, Visited, caughtUp, outgoingUpdates, outgoingFrame, visitedBy, visitVerdict}
+use Rattle.passing.specs.Visit.{visitResult}
+use Rattle.passing.specs.Waiting.{Answered, repliesOf, repliesWords}
 use Rattle.serial.proofs.Lists.{mem-All}
 use Rattle.history.specs.History.{Holding}
 use Rattle.history.proofs.Operations.{Runs, only-accepted}

@@ -10,11 +10,11 @@ use Rattle.plan.specs.Admission.{accepted, planVerdict}
 use Rattle.operation.specs.Run.{Store, run}
 use Rattle.conflict.specs.Class.{classOf}
 use Rattle.queue.specs.declared.record.Request.{Request}
-use Rattle.conveyor.specs.Queueing.{operationOf, waitingIn}
-use Rattle.conveyor.specs.Request.{recordOf, requestResult}
-use Rattle.conveyor.specs.Request as asked
-use Rattle.conveyor.specs.Visit.{forwarded, caughtUp, visitResult}
-use Rattle.conveyor.specs.Waiting.{repliesOf}
+use Rattle.desk.specs.Queueing.{operationOf, waitingIn}
+use Rattle.routing.specs.Request.{recordOf, requestResult}
+use Rattle.routing.specs.Request as asked
+use Rattle.passing.specs.Visit.{forwarded, caughtUp, visitResult}
+use Rattle.passing.specs.Waiting.{repliesOf}
 use Rattle.serial.proofs.Tests.{by-same, eqb-yes, eqb-no, eqb-self}
 use Rattle.serial.proofs.Lists.{All}
 use Rattle.history.specs.History.{Holding, Call, request, visit, deskCalled, isRefused}

@@ -25,13 +25,14 @@ use Rattle.token.specs.Admission.{wellFormed, fewPerDesk, updatesRight, frameVe
 use Rattle.starred.specs.Table.{planP, sentFrame}
 use Rattle.queue.specs.Queue.{noRequest}
 use Rattle.queue.specs.declared.record.Request.{Request}
-use Rattle.conveyor.specs.Admission.{deskBuffersFit, visitBuffersFit, waitsHere, deskStands, turnVerdict}
-use Rattle.conveyor.specs.Request.{requestVerdict, requestResult}
-use Rattle.conveyor.specs.Request as asked
+use Rattle.desk.specs.Admission.{deskBuffersFit, waitsHere, deskStands}
+use Rattle.passing.specs.Admission.{visitBuffersFit, turnVerdict}
+use Rattle.routing.specs.Request.{requestVerdict, requestResult}
+use Rattle.routing.specs.Request as asked
 use Rattle.token.specs.Forward.{foreign, applyAll}
-use Rattle.conveyor.specs.Visit.{visitVerdict, visitResult}
-use Rattle.conveyor.specs.Visit as passing
-use Rattle.conveyor.specs.Waiting.{Answered, runAll, updatesOf, repliesOf, repliesWords}
+use Rattle.passing.specs.Visit.{visitVerdict, visitResult}
+use Rattle.passing.specs.Visit as passing
+use Rattle.passing.specs.Waiting.{Answered, runAll, updatesOf, repliesOf, repliesWords}
 use Rattle.history.specs.History.{Call, request, visit, Outcome, requested, visited, isRefused, outcomes, start, ProperFromStart}
 use Rattle.history.specs.SerialRun.{Serial, serial, order, storeAfter, due}
 

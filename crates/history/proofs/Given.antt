@@ -12,10 +12,10 @@ use Rattle.operation.specs.Operation.{Operation}
 use Rattle.operation.specs.Run.{Reply}
 use Rattle.conflict.specs.Class.{Class}
 use Rattle.token.specs.Frame.{overwritten}
-use Rattle.conveyor.specs.Request.{recordOf, requestResult}
-use Rattle.conveyor.specs.Request as asked
-use Rattle.conveyor.specs.Visit.{Visited, visitedBy, visitVerdict, visitResult}
-use Rattle.conveyor.specs.Waiting.{Answered, repliesWords}
+use Rattle.routing.specs.Request.{recordOf, requestResult}
+use Rattle.routing.specs.Request as asked
+use Rattle.passing.specs.Visit.{Visited, visitedBy, visitVerdict, visitResult}
+use Rattle.passing.specs.Waiting.{Answered, repliesWords}
 use Rattle.serial.specs.Desk as desk
 use Rattle.serial.specs.Machine.{answersSeen}
 use Rattle.history.specs.History.{Holding, Call, request, visit, stepAt, outcomes}

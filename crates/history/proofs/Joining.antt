@@ -13,10 +13,10 @@ use Rattle.plan.specs.Admission.{Verdict, accepted, refused, planVerdict}
 use Rattle.operation.specs.Operation.{deskOf}
 use Rattle.conflict.specs.Class.{Class, free, local, global, classOf}
 use Rattle.queue.specs.declared.record.Request.{Request}
-use Rattle.conveyor.specs.Queueing.{operationOf, waitingIn}
-use Rattle.conveyor.specs.Request.{recordOf, served, routed, enqueued, unchanged, requestResult}
-use Rattle.conveyor.specs.Request as asked
-use Rattle.conveyor.specs.Visit.{visitedBy, visitVerdict, visitResult}
+use Rattle.desk.specs.Queueing.{operationOf, waitingIn}
+use Rattle.routing.specs.Request.{recordOf, served, routed, enqueued, unchanged, requestResult}
+use Rattle.routing.specs.Request as asked
+use Rattle.passing.specs.Visit.{visitedBy, visitVerdict, visitResult}
 use Rattle.history.specs.History.{Holding, requested, visited, isRefused, passageRefused}
 use Rattle.history.specs.History.{holdingAfter}
 use Rattle.history.proofs.Standing.{Stands}

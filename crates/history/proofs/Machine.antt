@@ -13,11 +13,11 @@ use Rattle.operation.specs.Run.{Update, Reply}
 use Rattle.conflict.specs.Class.{Class}
 use Rattle.token.specs.Frame.{startingFrame}
 use Rattle.token.proofs.Readers.{starting-reads}
-use Rattle.conveyor.specs.Request.{recordOf, requestResult}
-use Rattle.conveyor.specs.Request as asked
-use Rattle.conveyor.specs.Visit.{visitResult}
-use Rattle.conveyor.specs.Visit as passing
-use Rattle.conveyor.specs.Waiting.{Answered}
+use Rattle.routing.specs.Request.{recordOf, requestResult}
+use Rattle.routing.specs.Request as asked
+use Rattle.passing.specs.Visit.{visitResult}
+use Rattle.passing.specs.Visit as passing
+use Rattle.passing.specs.Waiting.{Answered}
 use Rattle.serial.specs.Frame as frame
 use Rattle.serial.specs.Desk as desk
 use Rattle.serial.specs.Step as step

@@ -12,10 +12,10 @@ use Rattle.plan.specs.Admission.{Verdict, accepted, refused, planVerdict}
 use Rattle.operation.specs.Operation.{Operation, deskOf}
 use Rattle.conflict.specs.Class.{Class, free, local, global}
 use Rattle.queue.specs.declared.record.Request.{Request}
-use Rattle.conveyor.specs.declared.desk.Desk.{Desk}
-use Rattle.conveyor.specs.Queueing.{operationOf}
-use Rattle.conveyor.specs.Admission.{deskBuffersFit, deskStands}
-use Rattle.conveyor.specs.Request.{recordOf, served, requestVerdict, requestResult}
+use Rattle.desk.specs.declared.state.Desk.{Desk}
+use Rattle.desk.specs.Queueing.{operationOf}
+use Rattle.desk.specs.Admission.{deskBuffersFit, deskStands}
+use Rattle.routing.specs.Request.{recordOf, served, requestVerdict, requestResult}
 use Rattle.serial.proofs.Lists.{All, All-append}
 use Rattle.history.specs.History.{Holding, Call, request, visit, deskCalled, responseRefused, isRefused, outcomeAt, stepAt, outcomes}
 use Rattle.history.specs.History.{written, WordsFit, Proper}

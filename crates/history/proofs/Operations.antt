@@ -14,8 +14,8 @@ use Rattle.plan.proofs.Bool.{and-fst, and-snd, and-true}
 use Rattle.operation.specs.Operation.{Operation}
 use Rattle.operation.specs.Admission.{IsOperation, operationVerdict}
 use Rattle.queue.specs.declared.record.Request.{Request}
-use Rattle.conveyor.specs.Queueing.{operationOf}
-use Rattle.conveyor.specs.Admission.{isAccepted}
+use Rattle.desk.specs.Queueing.{operationOf}
+use Rattle.desk.specs.Admission.{isAccepted}
 
 -- the record's operation is one of the plan's
 abbrev pub Runs : Plan → Request → Type 0

@@ -27,9 +27,9 @@ use Rattle.token.specs.Frame.{SentUpdate, sent}
 use Rattle.token.specs.Admission.{deskCount}
 use Rattle.token.specs.WellFormed.{cellFits, updateFits, WellFormed}
 use Rattle.queue.specs.declared.record.Request.{Request}
-use Rattle.conveyor.specs.Queueing.{operationOf}
+use Rattle.desk.specs.Queueing.{operationOf}
 use Rattle.token.specs.Forward.{foreign}
-use Rattle.conveyor.specs.Waiting.{updatesOf}
+use Rattle.passing.specs.Waiting.{updatesOf}
 use Rattle.serial.proofs.Tests.{by-same, eqb-yes, eqb-no, eqb-self}
 use Rattle.serial.proofs.Lists.{All}
 use Rattle.history.proofs.Operations.{Runs}

@@ -13,7 +13,8 @@ use Rattle.operation.specs.Admission.{IsOperation, operationVerdict}
 use Rattle.operation.specs.Run.{Store, Reply, Outcome, declined, run}
 use Rattle.conflict.specs.Class.{Class, free, local, global}
 use Rattle.token.specs.Admission.{andThen, frameVerdict}
-use Rattle.conveyor.specs.Admission.{isAccepted, visitBuffersFit, turnVerdict}
+use Rattle.desk.specs.Admission.{isAccepted}
+use Rattle.passing.specs.Admission.{visitBuffersFit, turnVerdict}
 use Rattle.serial.specs.Desk.{Desk, Call, request, visit}
 use Rattle.serial.specs.System.{System}
 use Rattle.serial.specs.System as protocol

@@ -20,11 +20,11 @@ use Rattle.operation.specs.Run.{Store, Outcome, Reply}
 use Rattle.conflict.specs.Class.{Class, free, local, global, classOf}
 use Rattle.conflict.proofs.Classes.{class-free, class-local, class-global}
 use Rattle.queue.specs.declared.record.Request.{Request}
-use Rattle.conveyor.specs.declared.desk.Desk.{Desk}
-use Rattle.conveyor.specs.Queueing.{operationOf, waitingIn}
-use Rattle.conveyor.specs.Admission.{isAccepted, deskBuffersFit, waitsHere, deskStands}
-use Rattle.conveyor.specs.Request.{Requested, recordOf, served, routed, ranNow, enqueued, unchanged, requestVerdict, requestResult}
-use Rattle.conveyor.specs.Request as asked
+use Rattle.desk.specs.declared.state.Desk.{Desk}
+use Rattle.desk.specs.Queueing.{operationOf, waitingIn}
+use Rattle.desk.specs.Admission.{isAccepted, deskBuffersFit, waitsHere, deskStands}
+use Rattle.routing.specs.Request.{Requested, recordOf, served, routed, ranNow, enqueued, unchanged, requestVerdict, requestResult}
+use Rattle.routing.specs.Request as asked
 use Rattle.serial.specs.System.{System}
 use Rattle.serial.specs.Desk as desk
 use Rattle.serial.specs.Step as step

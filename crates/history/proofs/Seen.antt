@@ -13,9 +13,9 @@ use Rattle.conflict.specs.Class.{Class}
 use Rattle.token.specs.Frame.{SentUpdate, sent}
 use Rattle.token.specs.Admission.{frameVisit, frameUpdates}
 use Rattle.queue.specs.declared.record.Request.{Request}
-use Rattle.conveyor.specs.Queueing.{operationOf}
+use Rattle.desk.specs.Queueing.{operationOf}
 use Rattle.token.specs.Forward.{foreign, applyAll}
-use Rattle.conveyor.specs.Waiting.{Answered, runAll, updatesOf, repliesOf}
+use Rattle.passing.specs.Waiting.{Answered, runAll, updatesOf, repliesOf}
 use Rattle.serial.specs.System.{System}
 use Rattle.serial.specs.Store as store
 use Rattle.serial.specs.Frame as frame

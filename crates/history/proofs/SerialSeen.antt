@@ -10,8 +10,8 @@ use Rattle.plan.specs.Decode.{planOf}
 use Rattle.operation.specs.Operation.{Operation, deskOf}
 use Rattle.conflict.specs.Class.{Class, free, local, global}
 use Rattle.queue.specs.declared.record.Request.{Request}
-use Rattle.conveyor.specs.Queueing.{operationOf}
-use Rattle.conveyor.specs.Request.{recordOf}
+use Rattle.desk.specs.Queueing.{operationOf}
+use Rattle.routing.specs.Request.{recordOf}
 use Rattle.serial.specs.System.{System}
 use Rattle.serial.specs.Desk as desk
 use Rattle.serial.specs.Step as step

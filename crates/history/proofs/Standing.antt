@@ -14,8 +14,8 @@ use Rattle.plan.specs.Admission.{every, Verdict, accepted, refused}
 use Rattle.plan.proofs.Bool.{and-fst, and-snd, and-true}
 use Rattle.token.specs.Admission.{andThen}
 use Rattle.queue.specs.declared.record.Request.{Request}
-use Rattle.conveyor.specs.Queueing.{waitingIn}
-use Rattle.conveyor.specs.Admission.{waitsHere, deskStands}
+use Rattle.desk.specs.Queueing.{waitingIn}
+use Rattle.desk.specs.Admission.{waitsHere, deskStands}
 use Rattle.serial.proofs.Lists.{All}
 use Rattle.history.specs.History.{Holding, start}
 use Rattle.history.proofs.Operations.{Runs}

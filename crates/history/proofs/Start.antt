@@ -9,7 +9,7 @@ use Rattle.plan.specs.Admission.{planVerdict, accepted}
 use Rattle.conflict.specs.Class.{Class, free, local, global, classOf}
 use Rattle.conflict.proofs.Classes.{class-free, class-local, class-global}
 use Rattle.queue.specs.declared.record.Request.{Request}
-use Rattle.conveyor.specs.Answer.{opened, newDeskResult}
+use Rattle.desk.specs.Answer.{opened, newDeskResult}
 use Rattle.history.specs.History.{Call, isRefused, outcomes, holdingsAfter, newState, start, ProperFromStart}
 use Rattle.history.specs.SerialRun.{Is, Classifies, serial}
 use Rattle.history.specs.Claim.{Serializable}

@@ -6,12 +6,12 @@ use lib.ListN.{take}
 use Rattle.plan.specs.Decode.{planOf}
 use Rattle.operation.specs.Operation.{Operation}
 use Rattle.operation.specs.Run.{Reply}
-use Rattle.conveyor.specs.Queueing.{waitingIn}
-use Rattle.conveyor.specs.Request.{recordOf}
-use Rattle.conveyor.specs.Request as asked
-use Rattle.conveyor.specs.Visit.{caughtUp}
-use Rattle.conveyor.specs.Visit as passing
-use Rattle.conveyor.specs.Waiting.{Answered, repliesOf}
+use Rattle.desk.specs.Queueing.{waitingIn}
+use Rattle.routing.specs.Request.{recordOf}
+use Rattle.routing.specs.Request as asked
+use Rattle.passing.specs.Visit.{caughtUp}
+use Rattle.passing.specs.Visit as passing
+use Rattle.passing.specs.Waiting.{Answered, repliesOf}
 use Rattle.serial.specs.Desk as desk
 use Rattle.history.specs.History.{Holding, Call, request, visit, Outcome, requested, visited}
 use Rattle.history.proofs.Protocol.{Brought}

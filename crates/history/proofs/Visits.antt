@@ -23,13 +23,14 @@ use Rattle.token.specs.Frame.{SentUpdate, sent}
 use Rattle.token.specs.Admission.{frameVerdict, frameVisit, frameUpdates, ReadsAs}
 use Rattle.token.proofs.RoundTrip.{reads-written, written-reads}
 use Rattle.queue.specs.declared.record.Request.{Request}
-use Rattle.conveyor.specs.declared.desk.Desk.{Desk}
-use Rattle.conveyor.specs.Queueing.{waitingIn}
-use Rattle.conveyor.specs.Admission.{isAccepted, deskBuffersFit, visitBuffersFit, deskStands, turnVerdict}
+use Rattle.desk.specs.declared.state.Desk.{Desk}
+use Rattle.desk.specs.Queueing.{waitingIn}
+use Rattle.desk.specs.Admission.{isAccepted, deskBuffersFit, deskStands}
+use Rattle.passing.specs.Admission.{visitBuffersFit, turnVerdict}
 use Rattle.token.specs.Forward.{foreign, applyAll}
-use Rattle.conveyor.specs.Visit.{Visited, caughtUp, outgoingUpdates, outgoingFrame, passed, visitedBy, visitVerdict}
-use Rattle.conveyor.specs.Visit.{visitResult}
-use Rattle.conveyor.specs.Waiting.{runAll, updatesOf, repliesOf}
+use Rattle.passing.specs.Visit.{Visited, caughtUp, outgoingUpdates, outgoingFrame, passed, visitedBy, visitVerdict}
+use Rattle.passing.specs.Visit.{visitResult}
+use Rattle.passing.specs.Waiting.{runAll, updatesOf, repliesOf}
 use Rattle.serial.specs.System.{System}
 use Rattle.serial.specs.Store as store
 use Rattle.serial.specs.Frame as frame

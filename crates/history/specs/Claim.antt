@@ -11,9 +11,9 @@ use Rattle.operation.specs.Run.{Store}
 use Rattle.conflict.specs.Class.{Class, JustOne}
 use Rattle.token.specs.Frame.{overwritten}
 use Rattle.queue.specs.declared.record.Request.{Request}
-use Rattle.conveyor.specs.Request as asked
-use Rattle.conveyor.specs.Visit as passing
-use Rattle.conveyor.specs.Waiting.{Answered, repliesWords}
+use Rattle.routing.specs.Request as asked
+use Rattle.passing.specs.Visit as passing
+use Rattle.passing.specs.Waiting.{Answered, repliesWords}
 use Rattle.history.specs.History.{Holding, Call, request, visit, Outcome, requested, visited, isRefused, outcomes, holdingsAfter}
 use Rattle.history.specs.History.{start, ProperFromStart}
 use Rattle.history.specs.SerialRun.{Classifies, Serial, serial, order, storeAfter, due}

@@ -9,11 +9,11 @@ use lib.ListN.{getD, take}
 use Rattle.plan.specs.Decode.{planOf}
 use Rattle.token.specs.Frame.{startingFrame}
 use Rattle.queue.specs.declared.record.Request.{Request}
-use Rattle.conveyor.specs.declared.desk.Desk.{Desk}
-use Rattle.conveyor.specs.Request.{Requested, recordOf, requestResult}
-use Rattle.conveyor.specs.Request as asked
-use Rattle.conveyor.specs.Visit.{Visited, visitResult}
-use Rattle.conveyor.specs.Visit as passing
+use Rattle.desk.specs.declared.state.Desk.{Desk}
+use Rattle.routing.specs.Request.{Requested, recordOf, requestResult}
+use Rattle.routing.specs.Request as asked
+use Rattle.passing.specs.Visit.{Visited, visitResult}
+use Rattle.passing.specs.Visit as passing
 
 -- ---- the calls
 

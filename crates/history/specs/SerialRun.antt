@@ -10,9 +10,9 @@ use Rattle.operation.specs.Admission.{IsOperation}
 use Rattle.operation.specs.Run.{Store, applyUpdate, run}
 use Rattle.conflict.specs.Class.{Class, free, local, global, Free, Local, Global}
 use Rattle.queue.specs.declared.record.Request.{Request}
-use Rattle.conveyor.specs.Queueing.{operationOf}
-use Rattle.conveyor.specs.Request.{recordOf}
-use Rattle.conveyor.specs.Waiting.{Answered}
+use Rattle.desk.specs.Queueing.{operationOf}
+use Rattle.routing.specs.Request.{recordOf}
+use Rattle.passing.specs.Waiting.{Answered}
 use Rattle.history.specs.History.{Call, request, visit, assign}
 use Rattle.history.specs.Order.{Finished, globalRun, immediateRun, sortOnto}
 

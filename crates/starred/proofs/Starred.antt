@@ -19,10 +19,11 @@ use Rattle.token.specs.Frame.{sumsFrom, frameAround, writeWords, updateWords, u
 use Rattle.token.specs.Admission as frames
 use Rattle.token.specs.Admission.{writesFrom, updatesFrom, deskCount, frameHeaded, sumsRight, updateFormed, cellFormed, fewPerDesk}
 use Rattle.token.specs.Admission.{updatesRight, frameVerdict, readVerdict}
-use Rattle.conveyor.specs.Admission.{deskBuffersFit, visitBuffersFit, waitsHere, deskStands, turnVerdict}
-use Rattle.conveyor.specs.Waiting.{runAll, updatesOf, repliesOf, repliesWords}
+use Rattle.desk.specs.Admission.{deskBuffersFit, waitsHere, deskStands}
+use Rattle.passing.specs.Admission.{visitBuffersFit, turnVerdict}
+use Rattle.passing.specs.Waiting.{runAll, updatesOf, repliesOf, repliesWords}
 use Rattle.token.specs.Forward.{foreign, applyAll}
-use Rattle.conveyor.specs.Visit.{visitVerdict, visitResult}
+use Rattle.passing.specs.Visit.{visitVerdict, visitResult}
 use Rattle.starred.specs.Table.{Row, resultOf, table}
 
 pub starred : map (λ (r : Row). resultOf (r .input)) table ≡ map (λ (r : Row). r .result) table

@@ -12,10 +12,10 @@ use Rattle.token.specs.Admission.{readVerdict, updatesFrom}
 use Rattle.token.specs.Answer.{VisitRead, visitNumber, refusal, visitRead, partRead}
 use Rattle.queue.specs.Queue.{noRequest}
 use Rattle.queue.specs.declared.record.Request.{Request}
-use Rattle.conveyor.specs.declared.desk.Desk.{Desk}
-use Rattle.conveyor.specs.Request.{recordOf}
-use Rattle.conveyor.specs.Visit as passing
-use Rattle.conveyor.specs.Visit.{visitResult}
+use Rattle.desk.specs.declared.state.Desk.{Desk}
+use Rattle.routing.specs.Request.{recordOf}
+use Rattle.passing.specs.Visit as passing
+use Rattle.passing.specs.Visit.{visitResult}
 use Rattle.conflict.specs.Answer.{Classified, isFree, isLocal, isGlobal, isRefused, classifyResult}
 
 -- "Plan P: 1204000B 22200000 52000000 40000000 22200000 52000000 42700000 21100000 32700000 201F0000 34700000."

@@ -52,8 +52,8 @@ admitted n ws e =
     let q12 = yes-of (updatesRight n ws) _ 12 (q11 .1) in
     record { head = q10 .0; sums = q11 .0; updates = q12 .0 }
 
--- the plan's questions come first
-both : (v w : Verdict) → andThen v w ≡ accepted → (v ≡ accepted) × (w ≡ accepted)
+-- both of two questions are answered with yes
+pub both : (v w : Verdict) → andThen v w ≡ accepted → (v ≡ accepted) × (w ≡ accepted)
 both accepted w e = (refl, e)
 both (refused q) w e = let z : _≡_ {A = ℕ} 0 1 = cc in absurd (omega arith)
 

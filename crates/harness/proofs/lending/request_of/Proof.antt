@@ -49,11 +49,11 @@ use Rattle.queue.proofs.record.Request.Laws as T′
 use Rattle.queue.proofs.Answers.{answered}
 use Rattle.queue.proofs.Records.{queueTy, request-makes}
 use Rattle.queue.proofs.SharedSlice.{twice}
-use Rattle.conveyor.specs.Answer.{requestedOf}
-use Rattle.conveyor.proofs.desk.Desk as D
-use Rattle.conveyor.proofs.desk.Desk.Laws as D′
-use Rattle.conveyor.proofs.asking.RequestResult as R
-use Rattle.conveyor.proofs.asking.RequestResult.Laws as R′
+use Rattle.routing.specs.Answer.{requestedOf}
+use Rattle.desk.proofs.state.Desk as D
+use Rattle.desk.proofs.state.Desk.Laws as D′
+use Rattle.routing.proofs.asking.RequestResult as R
+use Rattle.routing.proofs.asking.RequestResult.Laws as R′
 use Rattle.conveyor.proofs.Lent.{lent, Params, refAt, refVal, token, desk-typed, params-typed}
 use Rattle.conveyor.proofs.request as request
 use Rattle.conveyor.proofs.request.Symbol as request-def

@@ -48,10 +48,10 @@ use Rattle.queue.proofs.record.Request.Laws as T′
 use Rattle.queue.proofs.Answers.{answered}
 use Rattle.queue.proofs.Records.{queueTy, request-makes}
 use Rattle.queue.proofs.SharedSlice.{twice}
-use Rattle.conveyor.proofs.desk.Desk as D
-use Rattle.conveyor.proofs.desk.Desk.Laws as D′
-use Rattle.conveyor.proofs.visiting.VisitResult as Out
-use Rattle.conveyor.proofs.visiting.VisitResult.Laws as Out′
+use Rattle.desk.proofs.state.Desk as D
+use Rattle.desk.proofs.state.Desk.Laws as D′
+use Rattle.passing.proofs.visiting.VisitResult as Out
+use Rattle.passing.proofs.visiting.VisitResult.Laws as Out′
 use Rattle.conveyor.proofs.Lent.{lent, refAt, refVal, token, desk-typed}
 use Rattle.conveyor.proofs.visit as visit
 use Rattle.conveyor.proofs.visit.Symbol as visit-def

@@ -24,9 +24,9 @@ use denote.Triple.Statement.{Contract}
 use Rattle.queue.specs.declared.record.Request.{Request}
 use Rattle.queue.specs.Queue.{recordsOf}
 use Rattle.queue.proofs.Records.{Records, records-makes}
-use Rattle.conveyor.specs.declared.desk.Desk.{Desk}
-use Rattle.conveyor.proofs.desk.Desk as D
-use Rattle.conveyor.proofs.visiting.visit_core as core
+use Rattle.desk.specs.declared.state.Desk.{Desk}
+use Rattle.desk.proofs.state.Desk as D
+use Rattle.passing.proofs.visit_core as core
 use Rattle.conveyor.proofs.Lent.{refAt, refVal, token, Reads, Writes, deskVal, desk-makes, size-makes}
 use Rattle.conveyor.proofs.engine.visit.Proof.Ends.{Entry, Fits, Words}
 

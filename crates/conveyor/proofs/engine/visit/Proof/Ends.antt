@@ -27,13 +27,13 @@ use Rattle.queue.specs.declared.record.Request.{Request}
 use Rattle.queue.specs.Queue.{recordsOf}
 use Rattle.queue.proofs.record.Request as T
 use Rattle.queue.proofs.Records.{Shared}
-use Rattle.conveyor.specs.declared.desk.Desk.{Desk}
-use Rattle.conveyor.specs.declared.visiting.VisitResult.{VisitResult}
-use Rattle.conveyor.specs.Visit.{visitResult}
-use Rattle.conveyor.specs.Answer.{visitedOf}
-use Rattle.conveyor.proofs.desk.Desk as D
-use Rattle.conveyor.proofs.visiting.VisitResult as Out
-use Rattle.conveyor.proofs.visiting.VisitResult.Laws as Out′
+use Rattle.desk.specs.declared.state.Desk.{Desk}
+use Rattle.passing.specs.declared.visiting.VisitResult.{VisitResult}
+use Rattle.passing.specs.Visit.{visitResult}
+use Rattle.passing.specs.Answer.{visitedOf}
+use Rattle.desk.proofs.state.Desk as D
+use Rattle.passing.proofs.visiting.VisitResult as Out
+use Rattle.passing.proofs.visiting.VisitResult.Laws as Out′
 use Rattle.conveyor.proofs.Lent.{Lent, refAt, refVal, token, Reads, deskVal, desk-makes}
 use Rattle.conveyor.proofs.engine.visit as visit
 

@@ -25,8 +25,8 @@ use denote.Triple.Spec.{tripleOf}
 use denote.Triple.Statement.{Contract}
 use Rattle.queue.specs.declared.record.Request.{Request}
 use Rattle.queue.proofs.Records.{Owned}
-use Rattle.conveyor.specs.declared.desk.Desk.{Desk}
-use Rattle.conveyor.proofs.desk.Desk as D
+use Rattle.desk.specs.declared.state.Desk.{Desk}
+use Rattle.desk.proofs.state.Desk as D
 use Rattle.conveyor.proofs.request as request
 use Rattle.conveyor.proofs.Lent.{Lent, Params, refAt, refVal, token, Reads, Writes, deskVal, desk-makes, params-makes, word-makes}
 use Rattle.harness.proofs.lending.request_of.Proof.Ends.{Entry, Fits}

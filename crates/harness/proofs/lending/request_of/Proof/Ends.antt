@@ -25,12 +25,12 @@ use denote.Triple.Walked.{says, Stays, stay-none, stay-none-slice, gave-slice, w
 use denote.Exit.{yes}
 use denote.Signature.{plain}
 use Rattle.queue.specs.declared.record.Request.{Request}
-use Rattle.conveyor.specs.declared.desk.Desk.{Desk}
-use Rattle.conveyor.specs.declared.asking.RequestResult.{RequestResult}
-use Rattle.conveyor.specs.Request.{recordOf, requestResult}
-use Rattle.conveyor.specs.Answer.{requestedOf}
-use Rattle.conveyor.proofs.desk.Desk as D
-use Rattle.conveyor.proofs.asking.RequestResult as R
+use Rattle.desk.specs.declared.state.Desk.{Desk}
+use Rattle.routing.specs.declared.asking.RequestResult.{RequestResult}
+use Rattle.routing.specs.Request.{recordOf, requestResult}
+use Rattle.routing.specs.Answer.{requestedOf}
+use Rattle.desk.proofs.state.Desk as D
+use Rattle.routing.proofs.asking.RequestResult as R
 use Rattle.conveyor.proofs.Lent.{Lent, Params, refAt, refVal, token, Reads, deskVal, desk-makes, params-makes, word-makes, size-makes}
 use Rattle.harness.specs.declared.lending.Requested.{Requested}
 use Rattle.harness.proofs.lending.Requested as Out

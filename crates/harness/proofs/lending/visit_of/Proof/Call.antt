@@ -21,8 +21,8 @@ use denote.Triple.Spec.{tripleOf}
 use denote.Triple.Statement.{Contract}
 use Rattle.queue.specs.declared.record.Request.{Request}
 use Rattle.queue.proofs.Records.{Shared}
-use Rattle.conveyor.specs.declared.desk.Desk.{Desk}
-use Rattle.conveyor.proofs.desk.Desk as D
+use Rattle.desk.specs.declared.state.Desk.{Desk}
+use Rattle.desk.proofs.state.Desk as D
 use Rattle.conveyor.proofs.visit as visit
 use Rattle.conveyor.proofs.Lent.{Lent, refAt, refVal, token, Reads, Writes, deskVal, desk-makes}
 use Rattle.harness.proofs.lending.visit_of.Proof.Ends.{Entry, Fits, Words}

@@ -25,13 +25,13 @@ use denote.Triple.Walked.{says, Stays, stay-none, stay-none-slice, gave-slice, w
 use denote.Exit.{yes}
 use denote.Signature.{plain}
 use Rattle.queue.specs.declared.record.Request.{Request}
-use Rattle.conveyor.specs.declared.desk.Desk.{Desk}
-use Rattle.conveyor.specs.declared.visiting.VisitResult.{VisitResult}
-use Rattle.conveyor.specs.Visit.{visitResult}
-use Rattle.conveyor.specs.Answer.{visitedOf}
-use Rattle.conveyor.proofs.desk.Desk as D
-use Rattle.conveyor.proofs.visiting.VisitResult as Out
-use Rattle.conveyor.proofs.visiting.VisitResult.Laws as Out′
+use Rattle.desk.specs.declared.state.Desk.{Desk}
+use Rattle.passing.specs.declared.visiting.VisitResult.{VisitResult}
+use Rattle.passing.specs.Visit.{visitResult}
+use Rattle.passing.specs.Answer.{visitedOf}
+use Rattle.desk.proofs.state.Desk as D
+use Rattle.passing.proofs.visiting.VisitResult as Out
+use Rattle.passing.proofs.visiting.VisitResult.Laws as Out′
 use Rattle.conveyor.proofs.Lent.{Lent, refAt, refVal, token, Reads, deskVal, desk-makes, size-makes}
 use Rattle.harness.proofs.Queued.{Queue, queue-length, front-length, queue-makes}
 use Rattle.harness.proofs.lending.visit_of as visit-of

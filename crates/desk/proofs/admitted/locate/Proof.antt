@@ -1,0 +1,82 @@
+-- Questions 7 and 8 of a request: each answer is the branch of the definition that the question before it chose.
+-- Assumes nothing.
+use mathlib.Core.Path.{_≡_, _∙_, sym, ap, ap₂}
+use mathlib.Core.Bool.{Bool, true, cond}
+use borrow.Author.Tests.{not-true, not-false}
+use Rattle.plan.specs.Decode.{planOf}
+use Rattle.plan.specs.Admission.{Verdict, accepted, refused}
+use Rattle.plan.specs.Place.{transactionPlace}
+use Rattle.operation.specs.Admission.{transactionExists, operationVerdict}
+use Rattle.desk.specs.Queueing.{operationOf}
+use Rattle.desk.specs.Place.{placeBy}
+use Rattle.desk.proofs.Asked.{no-transaction, stands, verdict-here}
+use borrow.Author.Needs.{needs}
+use Rattle.desk.proofs.admitted.locate.Statement.{statement}
+use Rattle.desk.proofs.admitted.locate.Tie as tie
+
+transaction-exists-requires : tie.Need-transaction-exists-requires
+transaction-exists-requires c κs = search needs
+
+returns : tie.Need-returns
+returns c =
+    let d = c .before .before .before in
+    let place = transactionPlace (d .args .plan .now) (d .args .request .transaction) in
+    sym (ap (λ (v : Verdict). placeBy v place) (no-transaction (d .args .plan .now) (d .args .request)
+    (sym (c .before .transaction-exists .ensures) ∙ not-true _ (c .if1 .taken))))
+
+transaction-place-requires : tie.Need-transaction-place-requires
+transaction-place-requires c κs = search needs
+
+params-requires : tie.Need-params-requires
+params-requires c κs = search needs
+
+there : (c : tie.Else1)
+    → transactionExists (planOf (c .before .before .before .args .plan .now)) (c .before .before .before .args .request .transaction)
+    ≡ true
+there c = sym (c .before .transaction-exists .ensures) ∙ not-false _ (c .if1 .left)
+
+parameters-pass-requires : tie.Need-parameters-pass-requires
+parameters-pass-requires c κs =
+    let e = c .before in
+    let d = e .before .before .before .before in
+    stands (d .args .plan .now) (d .args .request) (d .pre) (there (e .before)) _ (e .transaction-place .ensures)
+
+-- by the answer to question 8
+abbrev eighth : Bool → Verdict
+eighth passes = cond passes accepted (refused 8)
+
+found : (c : tie.After-parameters-pass)
+    → operationVerdict (planOf (c .before .before .before .before .before .before .args .plan .now))
+    (operationOf (c .before .before .before .before .before .before .args .request))
+    ≡ eighth (c .parameters-pass .result)
+found c =
+    let f = c .before in
+    let e = f .before in
+    let d = e .before .before .before .before in
+    verdict-here (d .args .plan .now) (d .args .request) (d .pre) (there (e .before)) _ (e .transaction-place .ensures) _
+    (f .params .ensures)
+    ∙ ap eighth (sym (c .parameters-pass .ensures))
+
+returns-2 : tie.Need-returns-2
+returns-2 c =
+    let d = c .before .before .before .before .before .before .before in
+    let place = transactionPlace (d .args .plan .now) (d .args .request .transaction) in
+    sym (ap (λ (v : Verdict). placeBy v place)
+    (found (c .before) ∙ ap eighth (not-true (c .before .parameters-pass .result) (c .if2 .taken))))
+
+returns-3 : tie.Need-returns-3
+returns-3 c =
+    sym (ap₂ placeBy (found (c .before) ∙ ap eighth (not-false (c .before .parameters-pass .result) (c .if2 .left)))
+    (sym (c .before .before .before .transaction-place .ensures)))
+
+pub locate-spec : {M : Type 1} → statement M
+locate-spec =
+    tie.close
+    (tie.spec
+    transaction-exists-requires
+    returns
+    transaction-place-requires
+    params-requires
+    parameters-pass-requires
+    returns-2
+    returns-3)

@@ -1,0 +1,42 @@
+-- Questions 5 and 6: the buffers that every call at a desk is lent, and the desk's state.
+use Prim.Native.Nat.{ℕ, _%_}
+use mathlib.Core.Path.{_≡_}
+use mathlib.Core.Bool.{Bool, true, false, _&&_}
+use mathlib.Core.List.{List}
+use lib.Dec.{ltb, leb, eqb}
+use lib.ListN.{length}
+use Rattle.plan.specs.Plan.{Plan}
+use Rattle.plan.specs.Decode.{planOf}
+use Rattle.plan.specs.Admission.{every, Verdict, accepted, refused, planVerdict}
+use Rattle.operation.specs.Operation.{deskOf}
+use Rattle.operation.specs.Admission.{operationVerdict}
+use Rattle.conflict.specs.Class.{isGlobal, classOf}
+use Rattle.queue.specs.declared.record.Request.{Request}
+use Rattle.desk.specs.declared.state.Desk.{Desk}
+use Rattle.desk.specs.Queueing.{operationOf, waitingIn}
+
+abbrev pub isAccepted : Verdict → Bool
+isAccepted accepted = true
+isAccepted (refused question) = false
+
+-- the plan passes questions 1 to 4, and the request's operation 7 and 8
+pub record Admitted (ws : List ℕ) (r : Request) : Type 0 where
+  pub planned : planVerdict ws ≡ accepted
+  pub passed : operationVerdict (planOf ws) (operationOf r) ≡ accepted
+
+-- 5: "book exactly 1,024, row exactly 32"
+unfoldable pub deskBuffersFit : List ℕ → List Request → Bool
+deskBuffersFit cells queue = eqb (length cells) 1024 && eqb (length queue) 32
+
+-- 6: "each waiting record a global operation of this desk"
+unfoldable pub waitsHere : Plan → ℕ → Request → Bool
+waitsHere p desk r =
+    isAccepted (operationVerdict p (operationOf r))
+    && (isGlobal (classOf p (operationOf r)) && eqb (deskOf p (operationOf r)) desk)
+
+-- 6: "Is the desk below n, waiting at most 32, the awaited number congruent to the desk modulo n, each waiting record a global operation
+-- of this desk?"
+unfoldable pub deskStands : Plan → Desk → List Request → Bool
+deskStands p d queue =
+    ltb (d .desk) (p .desks) && (leb (d .waiting) 32 && (eqb (d .awaited % p .desks) (d .desk)
+    && every (waitsHere p (d .desk)) (waitingIn (d .waiting) queue)))

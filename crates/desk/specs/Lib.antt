@@ -1,0 +1,4 @@
+pub mod Queueing
+pub mod Admission
+pub mod Place
+pub mod Answer

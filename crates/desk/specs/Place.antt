@@ -1,0 +1,38 @@
+-- What the questions hand on: 7 and 8 the place of the operation's transaction, 6 the table of touches.
+use Prim.Native.Nat.{ℕ}
+use mathlib.Core.Path.{_≡_}
+use mathlib.Core.Bool.{true}
+use mathlib.Core.List.{List}
+use Rattle.plan.specs.Decode.{planOf}
+use Rattle.plan.specs.Admission.{Verdict, accepted, refused}
+use Rattle.plan.specs.Place.{transactionPlace}
+use Rattle.conflict.specs.Touch.{maskTable}
+use Rattle.queue.specs.declared.record.Request.{Request}
+use Rattle.desk.specs.declared.admitted.Located.{Located}
+use Rattle.desk.specs.declared.admitted.Located.the-variants as located
+use Rattle.desk.specs.declared.check.DeskCheck.{DeskCheck}
+use Rattle.desk.specs.Admission.{Admitted}
+
+-- ---- questions 7 and 8, with the transaction's place where both are answered with yes
+
+pub data Place : Type 0 where
+  standsAt : ℕ → Place
+  isRefused : ℕ → Place
+
+abbrev pub placeOf : Located → Place
+placeOf (located.At at) = standsAt at
+placeOf (located.Refused question) = isRefused question
+
+abbrev pub placeBy : Verdict → ℕ → Place
+placeBy accepted at = standsAt at
+placeBy (refused question) at = isRefused question
+
+-- the request's operation is admitted, and its transaction stands there
+pub record Placed (ws : List ℕ) (r : Request) (at : ℕ) : Type 0 where
+  pub admitted : Admitted ws r
+  pub place : at ≡ transactionPlace ws (r .transaction)
+
+-- ---- question 6 hands on the table of touches where it has filled it
+
+abbrev pub TableHolds : List ℕ → DeskCheck → Type 0
+TableHolds ws s = s .known ≡ true → s .touchers ≡ maskTable 3 (planOf ws)

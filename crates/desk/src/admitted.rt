@@ -1,0 +1,61 @@
+// The operation that a request asks for: questions 7 and 8, the place of its transaction, and there its desk and its run.
+ghost use mathlib.Core.Path.{_≡_};
+ghost use Rattle.plan.specs.Decode.{planOf};
+ghost use Rattle.plan.specs.Admission.{planVerdict, accepted};
+ghost use Rattle.plan.specs.Place.{transactionPlace};
+ghost use Rattle.operation.specs.Operation.{deskOf};
+ghost use Rattle.operation.specs.Admission.{operationVerdict};
+ghost use Rattle.operation.specs.Run.{applyUpdate, run as runOf};
+ghost use Rattle.operation.specs.Answer.{replyOf};
+ghost use Rattle.desk.specs.Queueing.{operationOf};
+ghost use Rattle.desk.specs.Place.{placeOf, placeBy, Placed};
+use operation::Reply;
+use queue::Request;
+use word::fields;
+
+// The place of the transaction's word, or refused with 7 or 8.
+pub enum Located {
+    At(usize),
+    Refused(u32),
+}
+
+// Questions 7 and 8. The place is found once; desk, class and run are asked there.
+pub fn locate(plan: &[u32], request: Request) -> Located
+    requires { ⌜ planVerdict (now plan) ≡ accepted ⌝ }
+    ensures { λ r. ⌜ placeOf r ≡ placeBy (operationVerdict (planOf (now (plan .entry))) (operationOf request))
+        (transactionPlace (now (plan .entry)) (request .transaction)) ⌝ }
+{
+    let transaction = request.transaction;
+    if !operation::transaction_exists(plan, transaction) {
+        return Located::Refused(7);
+    }
+    let at = plan::transaction_place(plan, transaction);
+    if !operation::parameters_pass(plan, at, queue::params(request)) {
+        return Located::Refused(8);
+    }
+    Located::At(at)
+}
+
+pub fn operation_desk(plan: &[u32], at: usize, request: Request) -> u32
+    requires { ⌜ Placed (now plan) request at ⌝ }
+    ensures { λ r. ⌜ r ≡ deskOf (planOf (now (plan .entry))) (operationOf request) ⌝ }
+{
+    operation::desk(
+        plan[at],
+        plan[0] / fields::DESKS % 16,
+        queue::params(request),
+    )
+}
+
+// Runs the operation, and applies its update.
+pub fn run_operation(plan: &[u32], at: usize, request: Request, cells: &mut [u32]) -> Reply
+    requires { ⌜ Placed (now plan) request at ⌝ }
+    ensures replied { λ r. ⌜ replyOf r ≡ runOf (planOf (now (plan .entry))) (operationOf request) (now (cells .entry)) .reply ⌝ }
+    ensures applied { λ r. ⌜ now (cells .exit)
+        ≡ applyUpdate (runOf (planOf (now (plan .entry))) (operationOf request) (now (cells .entry)) .update) (now (cells .entry)) ⌝ }
+{
+    let outcome = operation::run(plan, at, queue::params(request), cells);
+    let update = outcome.update;
+    operation::apply(cells, update);
+    outcome.reply
+}

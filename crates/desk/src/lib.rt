@@ -1,0 +1,15 @@
+// A desk: its state and the new desk call, question 6, and questions 7 and 8 with the place of the operation's transaction.
+mod admitted;
+mod check;
+mod state;
+
+pub use admitted::Located;
+pub use admitted::locate;
+pub use admitted::operation_desk;
+pub use admitted::run_operation;
+pub use check::DeskCheck;
+pub use check::desk_stands;
+pub use check::standing;
+pub use state::Desk;
+pub use state::DeskAnswer;
+pub use state::new_desk;

@@ -1,0 +1,7 @@
+pub mod Remainders
+pub mod WaitingRuns
+pub mod OwnUpdates
+pub mod Assembled
+pub mod Questions
+pub mod Outgoing
+pub mod Visited

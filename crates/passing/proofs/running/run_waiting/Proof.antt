@@ -1,0 +1,181 @@
+-- The waiting requests one after another: what has run joined with what is still to run.
+-- Assumes nothing.
+use mathlib.Core.Path.{_≡_, refl, _∙_, sym, ap}
+use Prim.Native.Nat.{_+_, _-_, _*_, _≤_, _<_}
+use native.Mathlib.Omega.{arith}
+use lib.ListN.{length, take, drop, length-drop, getD}
+use lib.Seq.{length-take-le, getD-take}
+use Rattle.plan.specs.Decode.{planOf}
+use Rattle.plan.proofs.Every.{every-index}
+use Rattle.token.proofs.Filling.{fill-length}
+use Rattle.queue.specs.Queue.{noRequest}
+use Rattle.queue.specs.declared.record.Request.{Request}
+use Rattle.passing.specs.Running.{AllRun, isOperation, madeWords}
+use Rattle.passing.proofs.Remainders.{lent}
+use Rattle.passing.proofs.WaitingRuns.{Running, running-start, running-next, running-done, room-here, reply-room-here}
+use Rattle.passing.proofs.WaitingRuns.{replies-length}
+use borrow.Author.Needs.{needs}
+use Rattle.passing.proofs.running.run_waiting.Statement.{statement}
+use Rattle.passing.proofs.running.run_waiting.Tie as tie
+
+abbrev Inv-loop : tie.InvT-loop
+Inv-loop plan waiting desk cells₀ out₀ replies₀ records end₀ at₀ cells out replies end at =
+    (at ≤ waiting) × (length (take waiting records) ≡ waiting) × (length cells ≡ length cells₀)
+    × AllRun plan (take waiting records) desk cells₀ out₀ replies₀
+    × Running (planOf plan) desk (take waiting records) cells₀ out₀ replies₀ cells out replies end at
+
+abbrev μ-loop : tie.MeasureT-loop
+μ-loop plan waiting desk cells₀ out₀ replies₀ records end₀ at₀ cells out replies end at = waiting - at
+
+loop-holds : tie.Need-loop-holds Inv-loop μ-loop
+loop-holds c =
+    let s = c .before .before .before .before in
+    let l : length (s .args .t3) ≡ 32 = search needs in
+    (omega arith, length-take-le _ _ (omega arith), refl, s .pre .1, running-start _ _ _ _ _ _)
+
+mul-request : tie.Need-mul-request Inv-loop μ-loop
+mul-request c = search needs
+
+array-copy-out-request : tie.Need-array-copy-out-request Inv-loop μ-loop
+array-copy-out-request c = search needs
+
+mul-answered : tie.Need-mul-answered Inv-loop μ-loop
+mul-answered c = search needs
+
+-- the next request is one of those that wait
+next : (c : tie.In-loop Inv-loop μ-loop)
+    → let a = c .before .before .before .before .before .before .args in
+    getD (take (a .waiting) (a .t3)) (c .before .loop .at) noRequest ≡ getD (a .t3) (c .before .loop .at) noRequest
+next c = getD-take _ _ _ _ (c .loop-test .taken)
+
+room : (c : tie.In-loop Inv-loop μ-loop)
+    → let a = c .before .before .before .before .before .before .args in
+    c .before .loop .end + length (madeWords (planOf (a .plan .now)) (a .desk) (getD (a .t3) (c .before .loop .at) noRequest)
+    (c .before .loop .cells))
+    ≤ length (c .before .loop .out)
+room c = let v = c .before .loop .inv in room-here _ _ _ _ _ _ _ _ _ _ _ (v .4) (omega arith) _ (next c) (v .3 .room)
+
+reply-room : (c : tie.In-loop Inv-loop μ-loop) → c .before .loop .at * 3 + 3 ≤ length (c .before .loop .replies)
+reply-room c = let v = c .before .loop .inv in reply-room-here _ _ _ _ _ _ _ _ _ _ _ (v .4) (omega arith) _ (next c) (v .3 .replyRoom)
+
+mul-run-one : tie.Need-mul-run-one Inv-loop μ-loop
+mul-run-one c =
+    let d = c .before .before in
+    let v = d .before .loop .inv in
+    omega (
+      arith,
+      room d,
+      fill-length (v .4 .words)
+          (v .3 .room),
+      d .before .before .before .before .before .before .good .1 .1 .1 .1 .1 .0 .1,
+    )
+
+sub-run-one : tie.Need-sub-run-one Inv-loop μ-loop
+sub-run-one c = let h = room (c .before .before) in omega arith
+
+part-run-one-start : tie.Need-part-run-one-start Inv-loop μ-loop
+part-run-one-start c = let h = room (c .before .before) in omega arith
+
+part-run-one-end : tie.Need-part-run-one-end Inv-loop μ-loop
+part-run-one-end c = search needs
+
+mul-run-one-2 : tie.Need-mul-run-one-2 Inv-loop μ-loop
+mul-run-one-2 c = search needs
+
+sub-run-one-2 : tie.Need-sub-run-one-2 Inv-loop μ-loop
+sub-run-one-2 c = let h = reply-room (c .before .before .before) in omega arith
+
+part-run-one-start-2 : tie.Need-part-run-one-start-2 Inv-loop μ-loop
+part-run-one-start-2 c = let h = reply-room (c .before .before .before) in omega arith
+
+part-run-one-end-2 : tie.Need-part-run-one-end-2 Inv-loop μ-loop
+part-run-one-end-2 c = search needs
+
+run-one-requires : tie.Need-run-one-requires Inv-loop μ-loop
+run-one-requires c κs =
+    let d = c .before .before .before .before in
+    let v = d .before .loop .inv in
+    let l = d .before .loop in
+    let a = d .before .before .before .before .before .before .args in
+    record {
+      plan = v .3 .plan;
+      operation = ap (isOperation (planOf (a .plan .now))) (sym (next d)) ∙ every-index _ _ _ noRequest (v .3 .operations) (omega arith);
+      room = omega (arith, room d, ap length (lent (l .out) (l .end)), length-drop (l .end) (l .out));
+      replyRoom = omega (arith, reply-room d, ap length (lent (l .replies) (l .at * 3)), length-drop (l .at * 3) (l .replies));
+    }
+
+add-end : tie.Need-add-end Inv-loop μ-loop
+add-end c =
+    let d = c .before .before .before .before .before .before .before .before .before .before .before in
+    let v = d .before .loop .inv in
+    omega (
+      arith,
+      room d,
+      c .before .before .before .before .before .before .run-one .ensures .count,
+      fill-length (v .4 .words)
+          (v .3 .room),
+    )
+
+add-at : tie.Need-add-at Inv-loop μ-loop
+add-at c = search needs
+
+loop-less : tie.Need-loop-less Inv-loop μ-loop
+loop-less c = search needs
+
+loop-again : tie.Need-loop-again Inv-loop μ-loop
+loop-again c =
+    let d = c .before .before .before .before .before .before .before .before .before .before .before in
+    let v = d .before .loop .inv in
+    let x = c .before .before .before .before .before .before .run-one in (
+      omega arith,
+      v .1,
+      x .kept .1 .1 .1 .0 ∙ v .2,
+      v .3,
+      running-next _ _ _ _ _ _ _ _ _ _ _ (v .4) (omega arith) _ (next d) _ _ _ _ (x .ensures),
+    )
+
+same-length : tie.Need-same-length Inv-loop μ-loop
+same-length c = search needs
+
+same-length-2 : tie.Need-same-length-2 Inv-loop μ-loop
+same-length-2 c = let v = c .before .loop .inv in fill-length (v .4 .words) (v .3 .room)
+
+same-length-3 : tie.Need-same-length-3 Inv-loop μ-loop
+same-length-3 c =
+    let v = c .before .loop .inv in
+    let a = c .before .before .before .before .before .before .args in
+    fill-length (v .4 .replies)
+    (omega (arith, v .3 .replyRoom, replies-length (planOf (a .plan .now)) (take (a .waiting) (a .t3)) (a .cells .now)))
+
+returns : tie.Need-returns Inv-loop μ-loop
+returns c =
+    let v = c .before .loop .inv in
+    running-done _ _ _ _ _ _ _ _ _ _ _ (v .4) (omega arith)
+
+pub run-waiting-spec : {M : Type 1} → statement M
+run-waiting-spec =
+    tie.close
+    (tie.spec
+    Inv-loop
+    μ-loop
+    loop-holds
+    mul-request
+    array-copy-out-request
+    mul-answered
+    mul-run-one
+    sub-run-one
+    part-run-one-start
+    part-run-one-end
+    mul-run-one-2
+    sub-run-one-2
+    part-run-one-start-2
+    part-run-one-end-2
+    run-one-requires
+    add-end
+    add-at
+    loop-less
+    loop-again
+    same-length
+    same-length-2
+    same-length-3
+    returns)

@@ -1,0 +1,5 @@
+pub mod Admission
+pub mod Waiting
+pub mod Running
+pub mod Visit
+pub mod Answer

@@ -1,0 +1,40 @@
+-- Waiting requests run one after another, each on the store as the one before left it.
+use Prim.Native.Nat.{ℕ, _+_, _*_, _^_}
+use mathlib.Core.Bool.{Bool, true, false, cond}
+use mathlib.Core.List.{List, [], _∷_, _++_}
+use Rattle.plan.specs.Plan.{Plan}
+use Rattle.operation.specs.Run.{Store, Update, Reply, applyUpdate, run}
+use Rattle.queue.specs.declared.record.Request.{Request}
+use Rattle.desk.specs.Queueing.{operationOf}
+
+-- the store behind the runs
+unfoldable pub runAll : Plan → List Request → Store → Store
+runAll p [] s = s
+runAll p (r ∷ rs) s = runAll p rs (applyUpdate (run p (operationOf r) s .update) s)
+
+-- "one update for each, empty or not"
+unfoldable pub updatesOf : Plan → List Request → Store → List Update
+updatesOf p [] s = []
+updatesOf p (r ∷ rs) s = run p (operationOf r) s .update ∷ updatesOf p rs (applyUpdate (run p (operationOf r) s .update) s)
+
+-- a client's word, and the reply to its request
+pub record Answered : Type 0 where
+  pub client : ℕ
+  pub reply : Reply
+
+unfoldable pub repliesOf : Plan → List Request → Store → List Answered
+repliesOf p [] s = []
+repliesOf p (r ∷ rs) s =
+    record { client = r .client; reply = run p (operationOf r) s .reply } ∷ repliesOf p rs
+    (applyUpdate (run p (operationOf r) s .update) s)
+
+-- "three words each: kind 12 with bit 0 set if done, the client's word, the number"
+abbrev pub replyHead : Bool → ℕ
+replyHead done = 12 * 2 ^ 28 + cond done 1 0
+
+abbrev pub replyWords : Answered → List ℕ
+replyWords a = replyHead (a .reply .done) ∷ a .client ∷ a .reply .number ∷ []
+
+unfoldable pub repliesWords : List Answered → List ℕ
+repliesWords [] = []
+repliesWords (a ∷ rs) = replyWords a ++ repliesWords rs

@@ -1,0 +1,55 @@
+// What a visit does once all its questions are answered with yes.
+ghost use mathlib.Core.Path.{_≡_};
+ghost use Rattle.plan.specs.Admission.{accepted};
+ghost use Rattle.plan.specs.Decode.{planOf};
+ghost use Rattle.passing.specs.Visit.{visitVerdict, passed};
+ghost use Rattle.passing.specs.Answer.{visitedOf};
+use crate::running;
+use crate::visiting::VisitAnswer;
+use crate::visiting::VisitResult;
+use desk::Desk;
+use queue::Request;
+use word::fields;
+
+// Drops the desk's own updates, applies the others and sends them on, runs the waiting requests, and seals the frame for the next visit.
+pub(crate) fn visit_passed(
+    plan: &[u32],
+    state: Desk,
+    cells: &mut [u32],
+    records: [Request; 32],
+    frame: &[u32],
+    out: &mut [u32],
+    replies: &mut [u32],
+) -> VisitResult
+    requires { ⌜ visitVerdict (now plan) state (now cells) records (now frame) (now out) (now replies) ≡ accepted ⌝ }
+    ensures { λ r. ⌜ visitedOf r (now (cells .exit)) (now (out .exit)) (now (replies .exit)) ≡ passed (planOf (now (plan .entry))) state
+        (now (cells .entry)) records (now (frame .entry)) (now (out .entry)) (now (replies .entry)) ⌝ }
+{
+    let desk = state.desk;
+    let waiting = state.waiting as usize;
+    let sums = frame.len() - 2;
+    let body = &frame[2..sums];
+    let copied = 2 + token::forward_foreign(body, desk, cells, &mut out[2..]);
+    let end = copied
+        + running::run_waiting(
+            plan,
+            waiting,
+            records,
+            desk,
+            cells,
+            &mut out[copied..],
+            replies,
+        );
+    let desks = plan[0] / fields::DESKS % 16;
+    let visit = frame[1];
+    token::seal(out, (visit + 1) % desks, visit + 1, end);
+    let after = Desk {
+        desk: desk,
+        waiting: 0,
+        awaited: visit as u64 + desks as u64,
+    };
+    VisitResult {
+        answer: VisitAnswer::Passed(end + 2, waiting),
+        state: after,
+    }
+}

@@ -1,0 +1,85 @@
+// Running the waiting requests: each on the store as the one before left it, its update behind the words of those before, its reply behind
+// theirs.
+ghost use mathlib.Core.Path.{_≡_};
+ghost use mathlib.Core.List.{_∷_, []};
+ghost use Prim.Native.Nat.{_≤_};
+ghost use lib.ListN.{length, take};
+ghost use Rattle.plan.specs.Decode.{planOf};
+ghost use Rattle.token.specs.Frame.{overwritten};
+ghost use Rattle.passing.specs.Waiting.{replyHead};
+ghost use Rattle.passing.specs.Running.{Runs, Ran, AllRun, AllRan};
+use queue::Request;
+
+// The first word of a reply: kind 12, with bit 0 set if done.
+fn reply_head(done: bool) -> u32
+    ensures { λ r. ⌜ r ≡ replyHead done ⌝ }
+{
+    if done { 0xc000_0001 } else { 0xc000_0000 }
+}
+
+// Writes a reply at the front of what is left of the reply words.
+fn write_reply(replies: &mut [u32], client: u32, done: bool, number: u32)
+    requires { ⌜ 3 ≤ length (now replies) ⌝ }
+    ensures { λ r. ⌜ now (replies .exit) ≡ overwritten (replyHead done ∷ client ∷ number ∷ []) (now (replies .entry)) ⌝ }
+{
+    replies[0] = reply_head(done);
+    replies[1] = client;
+    replies[2] = number;
+}
+
+// Runs one request: its update goes to the front of what is left of the outgoing words, its reply to the front of what is left of the
+// reply words. Answers how many outgoing words it wrote.
+fn run_one(
+    plan: &[u32],
+    request: Request,
+    desk: u32,
+    cells: &mut [u32],
+    out: &mut [u32],
+    replies: &mut [u32],
+) -> usize
+    requires { ⌜ Runs (now plan) request desk (now cells) (now out) (now replies) ⌝ }
+    ensures { λ r. ⌜ Ran (planOf (now (plan .entry))) request desk (now (cells .entry)) (now (out .entry)) (now (replies .entry))
+        r (now (cells .exit)) (now (out .exit)) (now (replies .exit)) ⌝ }
+{
+    let at = plan::transaction_place(plan, request.transaction);
+    let params = queue::params(request);
+    let outcome = operation::run(plan, at, params, cells);
+    let update = outcome.update;
+    let reply = outcome.reply;
+    write_reply(replies, request.client, reply.done, reply.number);
+    operation::apply(cells, update);
+    token::write_update(out, desk, update)
+}
+
+// Runs the first `waiting` requests in order, and answers how many outgoing words their updates have.
+pub(crate) fn run_waiting(
+    plan: &[u32],
+    waiting: usize,
+    records: [Request; 32],
+    desk: u32,
+    cells: &mut [u32],
+    out: &mut [u32],
+    replies: &mut [u32],
+) -> usize
+    requires { ⌜ (waiting ≤ 32) × AllRun (now plan) (take waiting records) desk (now cells) (now out) (now replies) ⌝ }
+    ensures { λ r. ⌜ AllRan (planOf (now (plan .entry))) (take waiting records) desk (now (cells .entry)) (now (out .entry))
+        (now (replies .entry)) r (now (cells .exit)) (now (out .exit)) (now (replies .exit)) ⌝ }
+{
+    let mut end: usize = 0;
+    let mut at: usize = 0;
+    while at < waiting {
+        let request = records[at];
+        let answered = at * 3;
+        end = end
+            + run_one(
+                plan,
+                request,
+                desk,
+                cells,
+                &mut out[end..],
+                &mut replies[answered..],
+            );
+        at = at + 1;
+    }
+    end
+}

@@ -1,0 +1,129 @@
+// The core of a visit of the token at a desk.
+ghost use mathlib.Core.Path.{_≡_};
+ghost use mathlib.Core.Bool.{_&&_};
+ghost use mathlib.Core.List.{List};
+ghost use Prim.Native.Nat.{_≤_};
+ghost use lib.Dec.{eqb};
+ghost use lib.ListN.{length};
+ghost use Rattle.plan.specs.Answer.{verdictOf};
+ghost use Rattle.queue.specs.Queue.{recordsOf};
+ghost use Rattle.queue.specs.declared.record.Request.{Request as Queued};
+ghost use Rattle.passing.specs.Admission.{visitBuffersFit, turnVerdict};
+ghost use Rattle.passing.specs.Visit.{passVerdict, visitResult};
+ghost use Rattle.passing.specs.Answer.{visitedOf};
+use crate::passed;
+use desk::Desk;
+use plan::PlanAnswer;
+use queue::Request;
+use token::FrameCheck;
+use word::fields;
+
+// The words of the outgoing frame and the count of replies, or refused with the question's number.
+pub enum VisitAnswer {
+    Passed(usize, usize),
+    Refused(u32),
+}
+
+// The answer, and the state after the call.
+pub struct VisitResult {
+    pub answer: VisitAnswer,
+    pub state: Desk,
+}
+
+// Question 5.
+fn buffers_fit(cells: &[u32], size: usize, out: &[u32], replies: &[u32]) -> bool
+    ensures { λ r. ⌜ r ≡ ((eqb (length (now (cells .entry))) 1024 && eqb size 32)
+        && visitBuffersFit (now (out .entry)) (now (replies .entry))) ⌝ }
+{
+    if cells.len() != 1024 {
+        return false;
+    }
+    if size != 32 {
+        return false;
+    }
+    if out.len() < 6404 {
+        return false;
+    }
+    96 <= replies.len()
+}
+
+// Questions 13 to 15. The visit and the awaited number are compared in 64 bits.
+fn turn(state: Desk, frame: &[u32]) -> PlanAnswer
+    requires { ⌜ 4 ≤ length (now frame) ⌝ }
+    ensures { λ r. ⌜ verdictOf r ≡ turnVerdict state (now (frame .entry)) ⌝ }
+{
+    let addressed = frame[0] / fields::ADDRESSED % 16;
+    let visit = frame[1];
+    if addressed != state.desk {
+        return PlanAnswer::Refused(13);
+    }
+    if visit as u64 != state.awaited {
+        return PlanAnswer::Refused(14);
+    }
+    if visit < 4294967295 {
+        return PlanAnswer::Accepted;
+    }
+    PlanAnswer::Refused(15)
+}
+
+// Questions 1 to 6 and 10 to 15, all of one before the next.
+fn visit_verdict(
+    plan: &[u32],
+    state: Desk,
+    cells: &[u32],
+    size: usize,
+    records: [Request; 32],
+    frame: &[u32],
+    out: &[u32],
+    replies: &[u32],
+) -> PlanAnswer
+    ensures { λ r. ⌜ verdictOf r ≡ passVerdict (now (plan .entry)) state (now (cells .entry)) size records (now (frame .entry))
+        (now (out .entry)) (now (replies .entry)) ⌝ }
+{
+    if let PlanAnswer::Refused(question) = plan::read_plan(plan) {
+        return PlanAnswer::Refused(question);
+    }
+    if !buffers_fit(cells, size, out, replies) {
+        return PlanAnswer::Refused(5);
+    }
+    if !desk::desk_stands(plan, state, records) {
+        return PlanAnswer::Refused(6);
+    }
+    if let FrameCheck::Refused(question) = token::check_frame(plan[0] / fields::DESKS % 16, frame) {
+        return PlanAnswer::Refused(question);
+    }
+    turn(state, frame)
+}
+
+// The visit, of a queue with this length and these first records. Nothing is written before the last question.
+pub fn visit_core(
+    plan: &[u32],
+    state: Desk,
+    cells: &mut [u32],
+    size: usize,
+    records: [Request; 32],
+    frame: &[u32],
+    out: &mut [u32],
+    replies: &mut [u32],
+) -> VisitResult
+    ensures { λ r. ⌜ ((queue : List Queued) → length queue ≡ size → recordsOf queue ≡ records
+        → visitedOf r (now (cells .exit)) (now (out .exit)) (now (replies .exit)) ≡ visitResult (now (plan .entry)) state
+        (now (cells .entry)) queue (now (frame .entry)) (now (out .entry)) (now (replies .entry))) ⌝ }
+{
+    if let PlanAnswer::Refused(question) = visit_verdict(
+        plan,
+        state,
+        cells,
+        size,
+        records,
+        frame,
+        out,
+        replies,
+    ) {
+        return VisitResult {
+            answer: VisitAnswer::Refused(question),
+            state: state,
+        };
+    }
+    passed::visit_passed(plan, state, cells, records, frame, out, replies)
+}

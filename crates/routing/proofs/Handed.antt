@@ -1,0 +1,99 @@
+-- What the core of a request is handed stands for the queue: questions 1 to 8 have the same answers.
+-- Assumes nothing.
+use mathlib.Core.Path.{_≡_, refl, _∙_, sym, ap}
+use mathlib.Core.Bool.{Bool, true, false, _&&_, cond}
+use mathlib.Core.List.{List}
+use Prim.Native.Nat.{ℕ}
+use lib.Dec.{eqb}
+use lib.ListN.{length}
+use borrow.Author.Tests.{eqb-true, eq-eqb, ne-eqb}
+use Rattle.plan.specs.Decode.{planOf}
+use Rattle.plan.specs.Admission.{Verdict, accepted, refused, planVerdict}
+use Rattle.operation.specs.Admission.{operationVerdict}
+use Rattle.token.specs.Admission.{andThen}
+use Rattle.token.proofs.Verdicts.{both}
+use Rattle.queue.specs.Queue.{recordsOf}
+use Rattle.queue.specs.declared.record.Request.{Request}
+use Rattle.queue.proofs.Copying.{records-whole}
+use Rattle.desk.specs.declared.state.Desk.{Desk}
+use Rattle.desk.specs.Queueing.{operationOf}
+use Rattle.desk.specs.Admission.{deskBuffersFit, deskStands}
+use Rattle.routing.specs.Request.{requestVerdict}
+use Rattle.routing.specs.Step.{openingVerdict}
+
+-- ---- questions 1 to 5
+
+module _ (ws : List ℕ) (cells : List ℕ) (size : ℕ) where
+  pub plan-refused : (question : ℕ) → planVerdict ws ≡ refused question → openingVerdict ws cells size ≡ refused question
+  unfolding openingVerdict
+  plan-refused question e = rw e
+
+  module _ (e : planVerdict ws ≡ accepted) where
+    pub store-unfit : (length cells ≡ 1024 → ⊥) → openingVerdict ws cells size ≡ refused 5
+    unfolding openingVerdict
+    store-unfit f = rw (e, ne-eqb _ _ f)
+
+    module _ (f : length cells ≡ 1024) where
+      pub queue-unfit : (size ≡ 32 → ⊥) → openingVerdict ws cells size ≡ refused 5
+      unfolding openingVerdict
+      queue-unfit g = rw (e, eq-eqb _ _ f, ne-eqb _ _ g)
+
+      pub buffers-fit : size ≡ 32 → openingVerdict ws cells size ≡ accepted
+      unfolding openingVerdict
+      buffers-fit g = rw (e, eq-eqb _ _ f, eq-eqb _ _ g)
+
+  pub plan-passes : openingVerdict ws cells size ≡ accepted → planVerdict ws ≡ accepted
+  unfolding openingVerdict
+  plan-passes e = both (planVerdict ws) _ e .0
+
+-- ---- all of them, of a queue with this length and these first records
+
+-- where question 5 is answered with no, those behind it do not matter
+unfit : (a : Bool) (v w : Verdict)
+    → andThen (cond (a && false) accepted (refused 5)) v ≡ andThen (cond (a && false) accepted (refused 5)) w
+unfit true v w = refl
+unfit false v w = refl
+
+behind-five : (a : Bool) (size : ℕ) (v w : Verdict) → (size ≡ 32 → v ≡ w)
+    → andThen (cond (a && eqb size 32) accepted (refused 5)) v ≡ andThen (cond (a && eqb size 32) accepted (refused 5)) w
+behind-five a size v w h = go (eqb size 32) refl
+  where
+    go : (b : Bool) → eqb size 32 ≡ b
+        → andThen (cond (a && b) accepted (refused 5)) v ≡ andThen (cond (a && b) accepted (refused 5)) w
+    go true e = ap (andThen (cond (a && true) accepted (refused 5))) (h (eqb-true size 32 e))
+    go false e = unfit a v w
+
+then-associates : (u v w : Verdict) → andThen u (andThen v w) ≡ andThen (andThen u v) w
+then-associates accepted v w = refl
+then-associates (refused question) v w = refl
+
+module _ (ws : List ℕ) (d : Desk) (cells : List ℕ) (size : ℕ) (records : List Request) (r : Request)
+    (queue : List Request) (l : length queue ≡ size) (q : recordsOf queue ≡ records) where
+  rest : List Request → Verdict
+  rest rs = andThen (cond (deskStands (planOf ws) d rs) accepted (refused 6)) (operationVerdict (planOf ws) (operationOf r))
+
+  handed : requestVerdict ws d cells queue r ≡ andThen (openingVerdict ws cells size) (rest records)
+  unfolding requestVerdict openingVerdict deskBuffersFit rest
+  handed =
+      ap (andThen (planVerdict ws))
+      (ap (λ (n : ℕ). andThen (cond (eqb (length cells) 1024 && eqb n 32) accepted (refused 5)) (rest queue)) l
+      ∙ behind-five (eqb (length cells) 1024) size (rest queue) (rest records)
+      (λ (h : size ≡ 32). ap rest (sym (records-whole queue (l ∙ h)) ∙ q)))
+      ∙ then-associates (planVerdict ws) _ (rest records)
+
+  pub opening-refused : (question : ℕ) → openingVerdict ws cells size ≡ refused question
+      → requestVerdict ws d cells queue r ≡ refused question
+  opening-refused question e = handed ∙ ap (λ (v : Verdict). andThen v (rest records)) e
+
+  module _ (e : openingVerdict ws cells size ≡ accepted) where
+    opened : requestVerdict ws d cells queue r ≡ rest records
+    opened = handed ∙ ap (λ (v : Verdict). andThen v (rest records)) e
+
+    pub desk-unfit : deskStands (planOf ws) d records ≡ false → requestVerdict ws d cells queue r ≡ refused 6
+    unfolding rest
+    desk-unfit h = opened ∙ rw h
+
+    pub by-operation : deskStands (planOf ws) d records ≡ true
+        → requestVerdict ws d cells queue r ≡ operationVerdict (planOf ws) (operationOf r)
+    unfolding rest
+    by-operation h = opened ∙ rw h

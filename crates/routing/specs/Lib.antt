@@ -1,0 +1,4 @@
+pub mod Request
+pub mod Route
+pub mod Answer
+pub mod Step

@@ -1,0 +1,84 @@
+-- A request at a desk: everything that the call leaves, for good and bad input alike.
+use Prim.Native.Nat.{ℕ, suc, _+_}
+use mathlib.Core.Bool.{Bool, true, false, cond}
+use mathlib.Core.List.{List}
+use lib.Dec.{ltb, eqb}
+use lib.ListN.{getD, set}
+use Rattle.plan.specs.Plan.{Plan}
+use Rattle.plan.specs.Decode.{planOf}
+use Rattle.plan.specs.Admission.{Verdict, accepted, refused, planVerdict}
+use Rattle.operation.specs.Operation.{Operation, operation, deskOf}
+use Rattle.operation.specs.Admission.{operationVerdict}
+use Rattle.operation.specs.Run.{Reply, applyUpdate, run}
+use Rattle.conflict.specs.Class.{Class, free, local, global, classOf}
+use Rattle.token.specs.Admission.{andThen}
+use Rattle.queue.specs.declared.record.Request.{Request}
+use Rattle.desk.specs.declared.state.Desk.{Desk}
+use Rattle.desk.specs.Queueing.{operationOf}
+use Rattle.desk.specs.Admission.{deskBuffersFit, deskStands}
+
+-- replied (done or declined, with the number), waiting, elsewhere with the operation's desk, or refused with the question's number
+pub data Response : Type 0 where
+  replied : Reply → Response
+  waits : Response
+  redirected : ℕ → Response
+  isRefused : ℕ → Response
+
+-- what a request leaves: the answer, the state, the store (01: book) and the queue (01: row)
+pub record Requested : Type 0 where
+  pub answer : Response
+  pub state : Desk
+  pub cells : List ℕ
+  pub queue : List Request
+
+module _ (d : Desk) (cells : List ℕ) (queue : List Request) where
+  -- "nothing lent and no state changes"
+  abbrev pub unchanged : Response → Requested
+  unchanged a = record { answer = a; state = d; cells = cells; queue = queue }
+
+  -- a free or a local operation runs, "immediately"
+  abbrev pub ranNow : Plan → Operation → Requested
+  ranNow p o = record {
+    answer = replied (run p o cells .reply);
+    state = d;
+    cells = applyUpdate (run p o cells .update) cells;
+    queue = queue;
+  }
+
+  -- a global one waits, behind those that wait
+  abbrev pub enqueued : Request → Requested
+  enqueued r = record {
+    answer = waits;
+    state = record { desk = d .desk; waiting = d .waiting + 1; awaited = d .awaited };
+    cells = cells;
+    queue = set queue (d .waiting) r;
+  }
+
+  -- where the operation goes, by its class and by whether this desk is its own
+  abbrev pub routed : Class → Bool → Plan → Request → Requested
+  routed free own p r = ranNow p (operationOf r)
+  routed local true p r = ranNow p (operationOf r)
+  routed local false p r = unchanged (redirected (deskOf p (operationOf r)))
+  -- 9: "For a global request at its desk: do fewer than 32 wait?"
+  routed global true p r = cond (ltb (d .waiting) 32) (enqueued r) (unchanged (isRefused 9))
+  routed global false p r = unchanged (redirected (deskOf p (operationOf r)))
+
+  abbrev pub served : Verdict → Plan → Request → Requested
+  served accepted p r = routed (classOf p (operationOf r)) (eqb (deskOf p (operationOf r)) (d .desk)) p r
+  served (refused question) p r = unchanged (isRefused question)
+
+-- the record of a request
+abbrev pub recordOf : ℕ → ℕ → List ℕ → Request
+recordOf client k ps =
+    record { client = client; transaction = k; p0 = getD ps 0 0; p1 = getD ps 1 0; p2 = getD ps 2 0; p3 = getD ps 3 0 }
+
+-- "Request: 1–8, then "elsewhere", then 9."
+unfoldable pub requestVerdict : List ℕ → Desk → List ℕ → List Request → Request → Verdict
+requestVerdict ws d cells queue r =
+    andThen (planVerdict ws)
+    (andThen (cond (deskBuffersFit cells queue) accepted (refused 5))
+    (andThen (cond (deskStands (planOf ws) d queue) accepted (refused 6))
+    (operationVerdict (planOf ws) (operationOf r))))
+
+unfoldable pub requestResult : List ℕ → Desk → List ℕ → List Request → Request → Requested
+requestResult ws d cells queue r = served d cells queue (requestVerdict ws d cells queue r) (planOf ws) r

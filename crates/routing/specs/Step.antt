@@ -1,0 +1,22 @@
+-- The core of a request. It is handed the queue's length and its first 32 records in place of the queue, and says which record is to
+-- be stored where: a place at the queue's end stores nothing.
+use Prim.Native.Nat.{ℕ}
+use mathlib.Core.Bool.{_&&_, cond}
+use mathlib.Core.List.{List}
+use lib.Dec.{eqb}
+use lib.ListN.{length, set}
+use Rattle.plan.specs.Admission.{Verdict, accepted, refused, planVerdict}
+use Rattle.token.specs.Admission.{andThen}
+use Rattle.queue.specs.declared.record.Request.{Request}
+use Rattle.routing.specs.declared.asking.RequestStep.{RequestStep}
+use Rattle.routing.specs.Request.{Requested}
+use Rattle.routing.specs.Answer.{requestedOf}
+
+-- what a step comes to, with the store that it left and the queue that its record is stored into
+abbrev pub steppedOf : RequestStep → List ℕ → List Request → Requested
+steppedOf s cells queue = requestedOf (s .result) cells (set queue (s .place) (s .request))
+
+-- questions 1 to 5
+unfoldable pub openingVerdict : List ℕ → List ℕ → ℕ → Verdict
+openingVerdict ws cells size =
+    andThen (planVerdict ws) (cond (eqb (length cells) 1024 && eqb size 32) accepted (refused 5))

@@ -1,0 +1,55 @@
+// Where a request's operation goes, by its class and its desk. A table of masks is filled only where the answer hangs on it: an own
+// operation that writes is local or global by the touches, and another desk's that writes nothing is free or local by the writes.
+ghost use mathlib.Core.Path.{_≡_};
+ghost use Rattle.plan.specs.Decode.{planOf};
+ghost use Rattle.conflict.specs.Class.{isGlobal, classOf};
+ghost use Rattle.desk.specs.Queueing.{operationOf};
+ghost use Rattle.desk.specs.Place.{Placed, TableHolds};
+ghost use Rattle.routing.specs.Route.{wayOf, wayBy};
+use desk::DeskCheck;
+use queue::Request;
+
+// It runs at once, waits at this desk, or is another desk's.
+pub enum Route {
+    Runs,
+    Waits,
+    Elsewhere,
+}
+
+// Whether the operation is global, by the table that question 6 filled, or else by one that is filled here if it writes.
+fn is_global(plan: &[u32], at: usize, request: Request, standing: DeskCheck) -> bool
+    requires { ⌜ Placed (now plan) request at × TableHolds (now plan) standing ⌝ }
+    ensures { λ r. ⌜ r ≡ isGlobal (classOf (planOf (now (plan .entry))) (operationOf request)) ⌝ }
+{
+    let params = queue::params(request);
+    if standing.known {
+        return conflict::is_global(plan, at, params, &standing.touchers);
+    }
+    if !conflict::has_write(plan, at) {
+        return false;
+    }
+    let touchers = conflict::desk_masks(plan, 3);
+    conflict::is_global(plan, at, params, &touchers)
+}
+
+pub(crate) fn route_of(
+    plan: &[u32],
+    at: usize,
+    request: Request,
+    own: bool,
+    standing: DeskCheck,
+) -> Route
+    requires { ⌜ Placed (now plan) request at × TableHolds (now plan) standing ⌝ }
+    ensures { λ r. ⌜ wayOf r ≡ wayBy (classOf (planOf (now (plan .entry))) (operationOf request)) own ⌝ }
+{
+    if own {
+        if is_global(plan, at, request, standing) {
+            return Route::Waits;
+        }
+        return Route::Runs;
+    }
+    if conflict::is_free(plan, at, queue::params(request)) {
+        return Route::Runs;
+    }
+    Route::Elsewhere
+}
