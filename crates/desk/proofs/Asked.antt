@@ -11,9 +11,10 @@ use Rattle.word.specs.Field.{headDesks, headTransactions, partitioningField}
 use Rattle.plan.specs.Plan.{Transaction}
 use Rattle.plan.specs.Decode.{planOf, headOf, partBy}
 use Rattle.plan.specs.Admission.{Verdict, accepted, refused, planVerdict}
-use Rattle.plan.specs.Place.{StandsAt, transactionPlace, transactionFrom}
-use Rattle.plan.proofs.Accepted.{yes-of, transaction-count, desk-count}
+use Rattle.plan.specs.Place.{StandsAt, transactionPlace, transactionPlaces, transactionFrom}
+use Rattle.plan.proofs.Accepted.{yes-of, accepted-gives, transaction-count, desk-count}
 use Rattle.plan.proofs.Places.{stands-at, transaction-is}
+use Rattle.plan.proofs.Placing.{place-found}
 use Rattle.operation.specs.Operation.{transactionOf, deskBy, deskOf}
 use Rattle.operation.specs.Admission.{transactionExists, parametersPass, operationVerdict}
 use Rattle.operation.specs.Run.{Store, runTransaction, run}
@@ -25,6 +26,19 @@ use Rattle.desk.specs.Admission.{isAccepted, Admitted}
 use Rattle.desk.specs.Place.{Place, standsAt, isRefused, placeBy, Placed}
 
 module _ (ws : List ℕ) (r : Request) where
+  -- a transaction that exists is one of the plan's, of which there are at most 32
+  module _ (e : planVerdict ws ≡ accepted) (h : transactionExists (planOf ws) (r .transaction) ≡ true) where
+    pub below : r .transaction < headTransactions (headOf ws)
+    unfolding transactionExists
+    below = omega (arith, ltb-true (r .transaction) (length (planOf ws .transactions)) h, transaction-count ws e)
+
+    pub below-32 : r .transaction < 32
+    below-32 = omega (arith, below, accepted-gives ws e .transactions-high)
+
+    -- its entry in the table of places
+    pub place-looked-up : (l : List ℕ) → l ≡ transactionPlaces ws → getD l (r .transaction) 0 ≡ transactionPlace ws (r .transaction)
+    place-looked-up l t = place-found ws l t (r .transaction) below below-32
+
   -- 7
   pub no-transaction : transactionExists (planOf ws) (r .transaction) ≡ false → operationVerdict (planOf ws) (operationOf r) ≡ refused 7
   unfolding operationVerdict
@@ -33,15 +47,11 @@ module _ (ws : List ℕ) (r : Request) where
   -- the transaction exists, and stands at its place
   module _ (e : planVerdict ws ≡ accepted) (h : transactionExists (planOf ws) (r .transaction) ≡ true)
       (at : ℕ) (i : at ≡ transactionPlace ws (r .transaction)) where
-    below : r .transaction < headTransactions (headOf ws)
-    unfolding transactionExists
-    below = omega (arith, ltb-true (r .transaction) (length (planOf ws .transactions)) h, transaction-count ws e)
-
     pub stands : StandsAt ws at
-    stands = subst (StandsAt ws) (sym i) (stands-at ws e (r .transaction) below)
+    stands = subst (StandsAt ws) (sym i) (stands-at ws e (r .transaction) (below e h))
 
     transaction-here : transactionOf (planOf ws) (operationOf r) ≡ transactionFrom ws at
-    transaction-here = transaction-is ws e (r .transaction) below ∙ ap (transactionFrom ws) (sym i)
+    transaction-here = transaction-is ws e (r .transaction) (below e h) ∙ ap (transactionFrom ws) (sym i)
 
     -- 8
     pub verdict-here : (ps : List ℕ) → ps ≡ paramsOf r
@@ -50,24 +60,25 @@ module _ (ws : List ℕ) (r : Request) where
     verdict-here ps q = rw (h, transaction-here, q)
 
   -- 7 and 8 are answered with yes
-  module _ (a : Admitted ws r) (at : ℕ) (i : at ≡ transactionPlace ws (r .transaction)) where
-    there : transactionExists (planOf ws) (r .transaction) ≡ true
+  module _ (a : Admitted ws r) where
+    pub there : transactionExists (planOf ws) (r .transaction) ≡ true
     unfolding operationVerdict
     there = yes-of (transactionExists (planOf ws) (r .transaction)) _ 7 (a .passed) .0
 
+  module _ (a : Admitted ws r) (at : ℕ) (i : at ≡ transactionPlace ws (r .transaction)) where
     pub admitted-stands : StandsAt ws at
-    admitted-stands = stands (a .planned) there at i
+    admitted-stands = stands (a .planned) (there a) at i
 
     pub inside : at < length ws
     inside = let s = admitted-stands .room in omega arith
 
     pub transaction-asked : transactionOf (planOf ws) (operationOf r) ≡ transactionFrom ws at
-    transaction-asked = transaction-here (a .planned) there at i
+    transaction-asked = transaction-here (a .planned) (there a) at i
 
     module _ (ps : List ℕ) (q : ps ≡ paramsOf r) where
       pub parameters-passed : parametersPass (transactionFrom ws at) ps ≡ true
       parameters-passed =
-          yes-of (parametersPass (transactionFrom ws at) ps) _ 8 (sym (verdict-here (a .planned) there at i ps q) ∙ a .passed) .0
+          yes-of (parametersPass (transactionFrom ws at) ps) _ 8 (sym (verdict-here (a .planned) (there a) at i ps q) ∙ a .passed) .0
 
       pub desk-asked : deskBy (headDesks (headOf ws)) (partBy (partitioningField (getD ws at 0))) ps ≡ deskOf (planOf ws) (operationOf r)
       desk-asked = rw (transaction-asked, desk-count ws, q)

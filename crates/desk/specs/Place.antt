@@ -1,4 +1,4 @@
--- What the questions hand on: 7 and 8 the place of the operation's transaction, 6 the table of touches.
+-- What the questions hand on: 7 and 8 the place of the operation's transaction, 6 the table of masks.
 use Prim.Native.Nat.{ℕ}
 use mathlib.Core.Path.{_≡_}
 use mathlib.Core.Bool.{true}
@@ -32,7 +32,7 @@ pub record Placed (ws : List ℕ) (r : Request) (at : ℕ) : Type 0 where
   pub admitted : Admitted ws r
   pub place : at ≡ transactionPlace ws (r .transaction)
 
--- ---- question 6 hands on the table of touches where it has filled it
+-- ---- question 6 hands on the table of masks where it has filled it
 
 abbrev pub TableHolds : List ℕ → DeskCheck → Type 0
-TableHolds ws s = s .known ≡ true → s .touchers ≡ maskTable 3 (planOf ws)
+TableHolds ws s = s .known ≡ true → s .masks ≡ maskTable (planOf ws)

@@ -2,7 +2,7 @@
 ghost use mathlib.Core.Path.{_≡_};
 ghost use Rattle.plan.specs.Decode.{planOf};
 ghost use Rattle.plan.specs.Admission.{planVerdict, accepted};
-ghost use Rattle.plan.specs.Place.{transactionPlace};
+ghost use Rattle.plan.specs.Place.{transactionPlace, transactionPlaces};
 ghost use Rattle.operation.specs.Operation.{deskOf};
 ghost use Rattle.operation.specs.Admission.{operationVerdict};
 ghost use Rattle.operation.specs.Run.{applyUpdate, run as runOf};
@@ -19,9 +19,9 @@ pub enum Located {
     Refused(u32),
 }
 
-// Questions 7 and 8. The place is found once; desk, class and run are asked there.
-pub fn locate(plan: &[u32], request: Request) -> Located
-    requires { ⌜ planVerdict (now plan) ≡ accepted ⌝ }
+// Questions 7 and 8. The place is looked up in the table of places; desk, class and run are asked there.
+pub fn locate(plan: &[u32], places: &[usize], request: Request) -> Located
+    requires { ⌜ (planVerdict (now plan) ≡ accepted) × (now places ≡ transactionPlaces (now plan)) ⌝ }
     ensures { λ r. ⌜ placeOf r ≡ placeBy (operationVerdict (planOf (now (plan .entry))) (operationOf request))
         (transactionPlace (now (plan .entry)) (request .transaction)) ⌝ }
 {
@@ -29,7 +29,7 @@ pub fn locate(plan: &[u32], request: Request) -> Located
     if !operation::transaction_exists(plan, transaction) {
         return Located::Refused(7);
     }
-    let at = plan::transaction_place(plan, transaction);
+    let at = places[transaction as usize];
     if !operation::parameters_pass(plan, at, queue::params(request)) {
         return Located::Refused(8);
     }

@@ -4,6 +4,7 @@ ghost use mathlib.Core.Bool.{false};
 ghost use Prim.Native.Nat.{_≤_};
 ghost use Rattle.plan.specs.Decode.{planOf};
 ghost use Rattle.plan.specs.Admission.{every, planVerdict, accepted};
+ghost use Rattle.plan.specs.Place.{transactionPlaces};
 ghost use Rattle.conflict.specs.Touch.{maskTable};
 ghost use Rattle.desk.specs.Queueing.{waitingIn};
 ghost use Rattle.desk.specs.Admission.{waitsHere, deskStands};
@@ -14,22 +15,23 @@ use crate::state::Desk;
 use queue::Request;
 use word::fields;
 
-// The answer to question 6, with the table of the desks that may touch each cell if it had to be filled.
+// The answer to question 6, with the table of masks if it had to be filled.
 pub struct DeskCheck {
     pub stands: bool,
     pub known: bool,
-    pub touchers: [u8; 1024],
+    pub masks: [u8; 1024],
 }
 
 // Whether the record is a global operation of this desk.
-fn waits_here(plan: &[u32], request: Request, desk: u32, touchers: &[u8]) -> bool
-    requires { ⌜ (planVerdict (now plan) ≡ accepted) × (now touchers ≡ maskTable 3 (planOf (now plan))) ⌝ }
+fn waits_here(plan: &[u32], places: &[usize], request: Request, desk: u32, masks: &[u8]) -> bool
+    requires { ⌜ (planVerdict (now plan) ≡ accepted) × (now places ≡ transactionPlaces (now plan))
+        × (now masks ≡ maskTable (planOf (now plan))) ⌝ }
     ensures { λ r. ⌜ r ≡ waitsHere (planOf (now (plan .entry))) desk request ⌝ }
 {
-    let Located::At(at) = admitted::locate(plan, request) else {
+    let Located::At(at) = admitted::locate(plan, places, request) else {
         return false;
     };
-    if !conflict::is_global(plan, at, queue::params(request), touchers) {
+    if !conflict::is_global(plan, at, queue::params(request), masks) {
         return false;
     }
     admitted::operation_desk(plan, at, request) == desk
@@ -38,19 +40,21 @@ fn waits_here(plan: &[u32], request: Request, desk: u32, touchers: &[u8]) -> boo
 // Whether each of the first `waiting` records is.
 fn all_wait_here(
     plan: &[u32],
+    places: &[usize],
     desk: u32,
     waiting: usize,
     records: [Request; 32],
-    touchers: &[u8],
+    masks: &[u8],
 ) -> bool
-    requires { ⌜ (planVerdict (now plan) ≡ accepted) × (waiting ≤ 32) × (now touchers ≡ maskTable 3 (planOf (now plan))) ⌝ }
+    requires { ⌜ (planVerdict (now plan) ≡ accepted) × (waiting ≤ 32) × (now places ≡ transactionPlaces (now plan))
+        × (now masks ≡ maskTable (planOf (now plan))) ⌝ }
     ensures { λ r. ⌜ r ≡ every (waitsHere (planOf (now (plan .entry))) desk) (waitingIn waiting records) ⌝ }
 {
     let mut i: usize = 0;
     while i < waiting {
         let request = records[i];
         i = i + 1;
-        if !waits_here(plan, request, desk, touchers) {
+        if !waits_here(plan, places, request, desk, masks) {
             return false;
         }
     }
@@ -62,17 +66,17 @@ fn untabled(stands: bool) -> DeskCheck
     ensures stands { λ r. ⌜ r .stands ≡ stands ⌝ }
     ensures unknown { λ r. ⌜ r .known ≡ false ⌝ }
 {
-    let touchers = [0u8; 1024];
+    let masks = [0u8; 1024];
     DeskCheck {
         stands: stands,
         known: false,
-        touchers: touchers,
+        masks: masks,
     }
 }
 
 // Question 6. The table is filled if requests wait.
-pub fn standing(plan: &[u32], state: Desk, records: [Request; 32]) -> DeskCheck
-    requires { ⌜ planVerdict (now plan) ≡ accepted ⌝ }
+pub fn standing(plan: &[u32], places: &[usize], state: Desk, records: [Request; 32]) -> DeskCheck
+    requires { ⌜ (planVerdict (now plan) ≡ accepted) × (now places ≡ transactionPlaces (now plan)) ⌝ }
     ensures stands { λ r. ⌜ r .stands ≡ deskStands (planOf (now (plan .entry))) state records ⌝ }
     ensures table { λ r. ⌜ TableHolds (now (plan .entry)) r ⌝ }
 {
@@ -91,19 +95,19 @@ pub fn standing(plan: &[u32], state: Desk, records: [Request; 32]) -> DeskCheck
     if waiting == 0 {
         return untabled(true);
     }
-    let touchers = conflict::desk_masks(plan, 3);
-    let stands = all_wait_here(plan, desk, waiting, records, &touchers);
+    let masks = conflict::desk_masks(plan);
+    let stands = all_wait_here(plan, places, desk, waiting, records, &masks);
     DeskCheck {
         stands: stands,
         known: true,
-        touchers: touchers,
+        masks: masks,
     }
 }
 
-pub fn desk_stands(plan: &[u32], state: Desk, records: [Request; 32]) -> bool
-    requires { ⌜ planVerdict (now plan) ≡ accepted ⌝ }
+pub fn desk_stands(plan: &[u32], places: &[usize], state: Desk, records: [Request; 32]) -> bool
+    requires { ⌜ (planVerdict (now plan) ≡ accepted) × (now places ≡ transactionPlaces (now plan)) ⌝ }
     ensures { λ r. ⌜ r ≡ deskStands (planOf (now (plan .entry))) state records ⌝ }
 {
-    let standing = standing(plan, state, records);
+    let standing = standing(plan, places, state, records);
     standing.stands
 }

@@ -18,6 +18,7 @@ use Rattle.operation.specs.Admission.{transactionExists, unusedZero, rowInRange
 use Rattle.operation.specs.Run.{applyUpdate, act, runFrom}
 use Rattle.conflict.specs.Mask.{maskOf, some}
 use Rattle.conflict.specs.Touch.{rowTouched, cellTouched, stepTouches, deskMask}
+use Rattle.conflict.specs.Written.{cellGiven, stepWrites, written}
 use Rattle.conflict.specs.Class.{classBy, classOf}
 use Rattle.token.specs.Frame.{writeWords, updateWords, updatesWords, sumsFrom, frameAround}
 use Rattle.token.specs.Admission.{writesFrom, updatesFrom, deskCount, frameHeaded, sumsRight, updateFormed, cellFormed}
@@ -89,9 +90,9 @@ unfolding ones planVerdict hasHead countsInRange transactionsVerdict plans.wellF
     parametersExist partExists stepExists sourceExists transactionsOf planOf stepOf partBy accessBy actionBy reservedZero sourceField
     frameVerdict frameHeaded sumsRight updatesRight wellFormed updateFormed cellFormed fewPerDesk deskCount writesFrom updatesFrom
     sumsFrom frameAround cellsNamed transactionExists unusedZero rowInRange parametersPass operationVerdict applyUpdate act runFrom
-    maskOf some rowTouched cellTouched stepTouches deskMask classBy writeWords updateWords updatesWords deskBuffersFit visitBuffersFit
-    waitsHere deskStands turnVerdict requestVerdict requestResult foreign applyAll visitVerdict visitResult runAll updatesOf repliesOf
-    repliesWords
+    maskOf some rowTouched cellTouched stepTouches deskMask cellGiven stepWrites written classBy writeWords updateWords updatesWords
+    deskBuffersFit visitBuffersFit waitsHere deskStands turnVerdict requestVerdict requestResult foreign applyAll visitVerdict
+    visitResult runAll updatesOf repliesOf repliesWords
 course = refl
 
 -- ---- the premise
@@ -108,9 +109,9 @@ unfolding ones planVerdict hasHead countsInRange transactionsVerdict plans.wellF
     parametersExist partExists stepExists sourceExists transactionsOf planOf stepOf partBy accessBy actionBy reservedZero sourceField
     frameVerdict frameHeaded sumsRight updatesRight wellFormed updateFormed cellFormed fewPerDesk deskCount writesFrom updatesFrom
     sumsFrom frameAround cellsNamed transactionExists unusedZero rowInRange parametersPass operationVerdict applyUpdate act runFrom
-    maskOf some rowTouched cellTouched stepTouches deskMask classBy writeWords updateWords updatesWords deskBuffersFit visitBuffersFit
-    waitsHere deskStands turnVerdict requestVerdict requestResult foreign applyAll visitVerdict visitResult runAll updatesOf repliesOf
-    repliesWords
+    maskOf some rowTouched cellTouched stepTouches deskMask cellGiven stepWrites written classBy writeWords updateWords updatesWords
+    deskBuffersFit visitBuffersFit waitsHere deskStands turnVerdict requestVerdict requestResult foreign applyAll visitVerdict
+    visitResult runAll updatesOf repliesOf repliesWords
 course-proper = (
   omega arith,
   small 1 0 (omega arith) (omega arith),

@@ -12,88 +12,104 @@ use Rattle.plan.specs.Admission.{Verdict, accepted, refused, planVerdict}
 use Rattle.plan.proofs.Accepted.{yes-of}
 use Rattle.plan.proofs.Bool.{and-fst, and-snd}
 use Rattle.token.specs.Admission.{andThen, frameVerdict}
-use Rattle.token.proofs.Verdicts.{both}
+use Rattle.token.proofs.Verdicts.{both, then-associates, behind}
 use Rattle.queue.specs.Queue.{recordsOf}
 use Rattle.queue.specs.declared.record.Request.{Request}
 use Rattle.queue.proofs.Copying.{records-whole}
 use Rattle.desk.specs.declared.state.Desk.{Desk}
 use Rattle.desk.specs.Admission.{deskBuffersFit, deskStands}
 use Rattle.passing.specs.Admission.{visitBuffersFit, turnVerdict}
-use Rattle.passing.specs.Visit.{isRefused, Visited, passed, visitVerdict, passVerdict, visitResult}
-use Rattle.passing.proofs.Questions.{questions-give}
+use Rattle.passing.specs.Visit.{isRefused, Visited, passed, visitVerdict, visitResult}
+use Rattle.passing.specs.Core.{openingVerdict, passageVerdict}
 
--- behind a question answered with no, the next do not matter
-behind : (fit : Bool) (v w : Verdict) → (fit ≡ true → v ≡ w)
-    → andThen (cond fit accepted (refused 5)) v ≡ andThen (cond fit accepted (refused 5)) w
-behind true v w h = h refl
-behind false v w h = refl
+-- ---- questions 1 to 5
+
+module _ (ws cells : List ℕ) (size : ℕ) (out replies : List ℕ) where
+  abbrev buffersFit : Bool
+  buffersFit = (eqb (length cells) 1024 && eqb size 32) && visitBuffersFit out replies
+
+  pub plan-refused : (question : ℕ) → planVerdict ws ≡ refused question → openingVerdict ws cells size out replies ≡ refused question
+  unfolding openingVerdict
+  plan-refused question e = rw e
+
+  pub by-buffers : planVerdict ws ≡ accepted → openingVerdict ws cells size out replies ≡ cond buffersFit accepted (refused 5)
+  unfolding openingVerdict
+  by-buffers e = rw e
+
+  module _ (e : openingVerdict ws cells size out replies ≡ accepted) where
+    pub plan-passes : planVerdict ws ≡ accepted
+    unfolding openingVerdict
+    plan-passes = both (planVerdict ws) _ e .0
+
+    pub queue-long : size ≡ 32
+    unfolding openingVerdict
+    queue-long =
+        let fit = yes-of buffersFit accepted 5 (both (planVerdict ws) _ e .1) .0 in
+        eqb-true size 32 (and-snd (eqb (length cells) 1024) _ (and-fst (eqb (length cells) 1024 && eqb size 32) _ fit))
+
+-- ---- questions 6 and 10 to 15
+
+module _ (ws : List ℕ) (d : Desk) (records : List Request) (frame : List ℕ) where
+  pub desk-unfit : deskStands (planOf ws) d records ≡ false → passageVerdict ws d records frame ≡ refused 6
+  unfolding passageVerdict
+  desk-unfit h = rw h
+
+  module _ (h : deskStands (planOf ws) d records ≡ true) where
+    pub frame-refused : (question : ℕ) → frameVerdict (planOf ws .desks) frame ≡ refused question
+        → passageVerdict ws d records frame ≡ refused question
+    unfolding passageVerdict
+    frame-refused question g = rw (h, g)
+
+    pub by-turn : frameVerdict (planOf ws .desks) frame ≡ accepted → passageVerdict ws d records frame ≡ turnVerdict d frame
+    unfolding passageVerdict
+    by-turn g = rw (h, g)
+
+-- ---- all of them, of a queue with this length and these first records
 
 module _ (ws : List ℕ) (d : Desk) (cells : List ℕ) (size : ℕ) (records : List Request) (frame out replies : List ℕ) where
-  pub same-questions : (queue : List Request) → length queue ≡ size → recordsOf queue ≡ records
-      → visitVerdict ws d cells queue frame out replies ≡ passVerdict ws d cells size records frame out replies
-  unfolding visitVerdict passVerdict deskBuffersFit
-  same-questions queue l q =
-      let rest : List Request → Verdict = λ (rs : List Request). andThen (cond (deskStands (planOf ws) d rs) accepted (refused 6))
-      (andThen (frameVerdict (planOf ws .desks) frame) (turnVerdict d frame)) in
+  handed : (queue : List Request) → length queue ≡ size → recordsOf queue ≡ records
+      → visitVerdict ws d cells queue frame out replies
+      ≡ andThen (openingVerdict ws cells size out replies) (passageVerdict ws d records frame)
+  unfolding visitVerdict openingVerdict passageVerdict deskBuffersFit
+  handed queue l q =
       let fit : ℕ → Bool = λ (n : ℕ). (eqb (length cells) 1024 && eqb n 32) && visitBuffersFit out replies in
       ap (andThen (planVerdict ws))
-      (ap (λ (n : ℕ). andThen (cond (fit n) accepted (refused 5)) (rest queue)) l
-      ∙ behind (fit size) (rest queue) (rest records) (λ (h : fit size ≡ true).
-      ap rest (sym (records-whole queue
+      (ap (λ (n : ℕ). andThen (cond (fit n) accepted (refused 5)) (passageVerdict ws d queue frame)) l
+      ∙ behind (fit size) 5 (passageVerdict ws d queue frame) (passageVerdict ws d records frame) (λ (h : fit size ≡ true).
+      ap (λ (rs : List Request). passageVerdict ws d rs frame) (sym (records-whole queue
       (l ∙ eqb-true size 32 (and-snd (eqb (length cells) 1024) _ (and-fst (eqb (length cells) 1024 && eqb size 32) _ h)))) ∙ q)))
-
-  -- the records are a queue themselves
-  pub of-records : length records ≡ 32 → passVerdict ws d cells size records frame out replies ≡ accepted
-      → visitVerdict ws d cells records frame out replies ≡ accepted
-  unfolding passVerdict
-  of-records l e =
-      let q5 = both (cond ((eqb (length cells) 1024 && eqb size 32) && visitBuffersFit out replies) accepted (refused 5)) _
-      (both (planVerdict ws) _ e .1) .0 in
-      let fit = yes-of ((eqb (length cells) 1024 && eqb size 32) && visitBuffersFit out replies) _ 5 q5 .0 in
-      let n = eqb-true size 32 (and-snd (eqb (length cells) 1024) _ (and-fst (eqb (length cells) 1024 && eqb size 32) _ fit)) in
-      same-questions records (l ∙ sym n) (records-whole records l) ∙ e
+      ∙ then-associates (planVerdict ws) _ (passageVerdict ws d records frame)
 
   module _ (queue : List Request) (l : length queue ≡ size) (q : recordsOf queue ≡ records) where
-    pub left-refused : (question : ℕ) → passVerdict ws d cells size records frame out replies ≡ refused question
+    left-refused : (question : ℕ) → visitVerdict ws d cells queue frame out replies ≡ refused question
         → _≡_ {A = Visited} (record { answer = isRefused question; state = d; cells = cells; out = out; replies = replies })
         (visitResult ws d cells queue frame out replies)
     unfolding visitResult
-    left-refused question e = rw (same-questions queue l q ∙ e)
+    left-refused question e = rw e
 
-    pub left-passed : passVerdict ws d cells size records frame out replies ≡ accepted
-        → passed (planOf ws) d cells records frame out replies ≡ visitResult ws d cells queue frame out replies
-    unfolding visitResult
-    left-passed e =
-        let v = same-questions queue l q ∙ e in
-        let a = questions-give ws d cells queue frame out replies v in
-        rw v (ap (λ (rs : List Request). passed (planOf ws) d cells rs frame out replies)
-        (sym (sym (records-whole queue (a .queueLong)) ∙ q)))
+    pub opening-refused : (question : ℕ) → openingVerdict ws cells size out replies ≡ refused question
+        → _≡_ {A = Visited} (record { answer = isRefused question; state = d; cells = cells; out = out; replies = replies })
+        (visitResult ws d cells queue frame out replies)
+    opening-refused question e =
+        left-refused question (handed queue l q ∙ ap (λ (v : Verdict). andThen v (passageVerdict ws d records frame)) e)
 
-  -- ---- the verdict, question by question
+    module _ (e : openingVerdict ws cells size out replies ≡ accepted) where
+      opened : visitVerdict ws d cells queue frame out replies ≡ passageVerdict ws d records frame
+      opened = handed queue l q ∙ ap (λ (v : Verdict). andThen v (passageVerdict ws d records frame)) e
 
-  pub plan-refused : (question : ℕ) → planVerdict ws ≡ refused question → passVerdict ws d cells size records frame out replies
-      ≡ refused question
-  unfolding passVerdict
-  plan-refused question e = rw e
+      pub passage-refused : (question : ℕ) → passageVerdict ws d records frame ≡ refused question
+          → _≡_ {A = Visited} (record { answer = isRefused question; state = d; cells = cells; out = out; replies = replies })
+          (visitResult ws d cells queue frame out replies)
+      passage-refused question h = left-refused question (opened ∙ h)
 
-  module _ (e : planVerdict ws ≡ accepted) where
-    pub buffers-unfit : ((eqb (length cells) 1024 && eqb size 32) && visitBuffersFit out replies) ≡ false
-        → passVerdict ws d cells size records frame out replies ≡ refused 5
-    unfolding passVerdict
-    buffers-unfit f = rw (e, f)
+      pub left-passed : passageVerdict ws d records frame ≡ accepted
+          → passed (planOf ws) d cells records frame out replies ≡ visitResult ws d cells queue frame out replies
+      unfolding visitResult
+      left-passed h =
+          rw (opened ∙ h) (ap (λ (rs : List Request). passed (planOf ws) d cells rs frame out replies)
+          (sym (sym (records-whole queue (l ∙ queue-long ws cells size out replies e)) ∙ q)))
 
-    module _ (f : ((eqb (length cells) 1024 && eqb size 32) && visitBuffersFit out replies) ≡ true) where
-      pub desk-unfit : deskStands (planOf ws) d records ≡ false → passVerdict ws d cells size records frame out replies ≡ refused 6
-      unfolding passVerdict
-      desk-unfit h = rw (e, f, h)
-
-      module _ (h : deskStands (planOf ws) d records ≡ true) where
-        pub frame-refused : (question : ℕ) → frameVerdict (planOf ws .desks) frame ≡ refused question
-            → passVerdict ws d cells size records frame out replies ≡ refused question
-        unfolding passVerdict
-        frame-refused question g = rw (e, f, h, g)
-
-        pub by-turn : frameVerdict (planOf ws .desks) frame ≡ accepted
-            → passVerdict ws d cells size records frame out replies ≡ turnVerdict d frame
-        unfolding passVerdict
-        by-turn g = rw (e, f, h, g)
+  -- the records are a queue themselves
+  pub of-records : length records ≡ 32 → openingVerdict ws cells size out replies ≡ accepted
+      → passageVerdict ws d records frame ≡ accepted → visitVerdict ws d cells records frame out replies ≡ accepted
+  of-records l e h = opened records (l ∙ sym (queue-long ws cells size out replies e)) (records-whole records l) e ∙ h

@@ -13,6 +13,7 @@ use Rattle.token.specs.Frame.{sent, updateWords, updatesWords, overwritten}
 use Rattle.queue.specs.declared.record.Request.{Request}
 use Rattle.desk.specs.Queueing.{operationOf}
 use Rattle.desk.specs.Admission.{isAccepted}
+use Rattle.desk.specs.Place.{Placed}
 use Rattle.passing.specs.Waiting.{runAll, updatesOf, Answered, repliesOf, replyWords, repliesWords}
 
 -- a record's operation passes questions 7 and 8
@@ -28,9 +29,8 @@ madeWords p desk r s = updateWords (sent desk (run p (operationOf r) s .update))
 abbrev pub replyTo : Plan → Request → Store → Answered
 replyTo p r s = record { client = r .client; reply = run p (operationOf r) s .reply }
 
-pub record Runs (ws : List ℕ) (r : Request) (desk : ℕ) (cells out replies : List ℕ) : Type 0 where
-  pub plan : planVerdict ws ≡ accepted
-  pub operation : isOperation (planOf ws) r ≡ true
+pub record Runs (ws : List ℕ) (at : ℕ) (r : Request) (desk : ℕ) (cells out replies : List ℕ) : Type 0 where
+  pub placed : Placed ws r at
   pub room : length (madeWords (planOf ws) desk r cells) ≤ length out
   pub replyRoom : 3 ≤ length replies
 

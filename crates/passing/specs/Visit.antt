@@ -69,14 +69,6 @@ visitVerdict ws d cells queue frame out replies =
     (andThen (cond (deskStands (planOf ws) d queue) accepted (refused 6))
     (andThen (frameVerdict (planOf ws .desks) frame) (turnVerdict d frame))))
 
--- the same questions of what the core is handed: the queue's length and its first 32 records in place of the queue
-unfoldable pub passVerdict : List ℕ → Desk → List ℕ → ℕ → List Request → List ℕ → List ℕ → List ℕ → Verdict
-passVerdict ws d cells size records frame out replies =
-    andThen (planVerdict ws)
-    (andThen (cond ((eqb (length cells) 1024 && eqb size 32) && visitBuffersFit out replies) accepted (refused 5))
-    (andThen (cond (deskStands (planOf ws) d records) accepted (refused 6))
-    (andThen (frameVerdict (planOf ws .desks) frame) (turnVerdict d frame))))
-
 unfoldable pub visitResult : List ℕ → Desk → List ℕ → List Request → List ℕ → List ℕ → List ℕ → Visited
 visitResult ws d cells queue frame out replies =
     visitedBy (planOf ws) d cells queue frame out replies (visitVerdict ws d cells queue frame out replies)

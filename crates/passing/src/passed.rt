@@ -2,6 +2,7 @@
 ghost use mathlib.Core.Path.{_≡_};
 ghost use Rattle.plan.specs.Admission.{accepted};
 ghost use Rattle.plan.specs.Decode.{planOf};
+ghost use Rattle.plan.specs.Place.{transactionPlaces};
 ghost use Rattle.passing.specs.Visit.{visitVerdict, passed};
 ghost use Rattle.passing.specs.Answer.{visitedOf};
 use crate::running;
@@ -14,6 +15,7 @@ use word::fields;
 // Drops the desk's own updates, applies the others and sends them on, runs the waiting requests, and seals the frame for the next visit.
 pub(crate) fn visit_passed(
     plan: &[u32],
+    places: &[usize],
     state: Desk,
     cells: &mut [u32],
     records: [Request; 32],
@@ -21,7 +23,8 @@ pub(crate) fn visit_passed(
     out: &mut [u32],
     replies: &mut [u32],
 ) -> VisitResult
-    requires { ⌜ visitVerdict (now plan) state (now cells) records (now frame) (now out) (now replies) ≡ accepted ⌝ }
+    requires { ⌜ (visitVerdict (now plan) state (now cells) records (now frame) (now out) (now replies) ≡ accepted)
+        × (now places ≡ transactionPlaces (now plan)) ⌝ }
     ensures { λ r. ⌜ visitedOf r (now (cells .exit)) (now (out .exit)) (now (replies .exit)) ≡ passed (planOf (now (plan .entry))) state
         (now (cells .entry)) records (now (frame .entry)) (now (out .entry)) (now (replies .entry)) ⌝ }
 {
@@ -33,6 +36,7 @@ pub(crate) fn visit_passed(
     let end = copied
         + running::run_waiting(
             plan,
+            places,
             waiting,
             records,
             desk,

@@ -5,6 +5,7 @@ ghost use mathlib.Core.List.{_∷_, []};
 ghost use Prim.Native.Nat.{_≤_};
 ghost use lib.ListN.{length, take};
 ghost use Rattle.plan.specs.Decode.{planOf};
+ghost use Rattle.plan.specs.Place.{transactionPlaces};
 ghost use Rattle.token.specs.Frame.{overwritten};
 ghost use Rattle.passing.specs.Waiting.{replyHead};
 ghost use Rattle.passing.specs.Running.{Runs, Ran, AllRun, AllRan};
@@ -27,21 +28,21 @@ fn write_reply(replies: &mut [u32], client: u32, done: bool, number: u32)
     replies[2] = number;
 }
 
-// Runs one request: its update goes to the front of what is left of the outgoing words, its reply to the front of what is left of the
-// reply words. Answers how many outgoing words it wrote.
+// Runs one request, whose transaction stands at this place: its update goes to the front of what is left of the outgoing words, its
+// reply to the front of what is left of the reply words. Answers how many outgoing words it wrote.
 fn run_one(
     plan: &[u32],
+    at: usize,
     request: Request,
     desk: u32,
     cells: &mut [u32],
     out: &mut [u32],
     replies: &mut [u32],
 ) -> usize
-    requires { ⌜ Runs (now plan) request desk (now cells) (now out) (now replies) ⌝ }
+    requires { ⌜ Runs (now plan) at request desk (now cells) (now out) (now replies) ⌝ }
     ensures { λ r. ⌜ Ran (planOf (now (plan .entry))) request desk (now (cells .entry)) (now (out .entry)) (now (replies .entry))
         r (now (cells .exit)) (now (out .exit)) (now (replies .exit)) ⌝ }
 {
-    let at = plan::transaction_place(plan, request.transaction);
     let params = queue::params(request);
     let outcome = operation::run(plan, at, params, cells);
     let update = outcome.update;
@@ -54,6 +55,7 @@ fn run_one(
 // Runs the first `waiting` requests in order, and answers how many outgoing words their updates have.
 pub(crate) fn run_waiting(
     plan: &[u32],
+    places: &[usize],
     waiting: usize,
     records: [Request; 32],
     desk: u32,
@@ -61,7 +63,8 @@ pub(crate) fn run_waiting(
     out: &mut [u32],
     replies: &mut [u32],
 ) -> usize
-    requires { ⌜ (waiting ≤ 32) × AllRun (now plan) (take waiting records) desk (now cells) (now out) (now replies) ⌝ }
+    requires { ⌜ (waiting ≤ 32) × (now places ≡ transactionPlaces (now plan))
+        × AllRun (now plan) (take waiting records) desk (now cells) (now out) (now replies) ⌝ }
     ensures { λ r. ⌜ AllRan (planOf (now (plan .entry))) (take waiting records) desk (now (cells .entry)) (now (out .entry))
         (now (replies .entry)) r (now (cells .exit)) (now (out .exit)) (now (replies .exit)) ⌝ }
 {
@@ -69,10 +72,12 @@ pub(crate) fn run_waiting(
     let mut at: usize = 0;
     while at < waiting {
         let request = records[at];
+        let place = places[request.transaction as usize];
         let answered = at * 3;
         end = end
             + run_one(
                 plan,
+                place,
                 request,
                 desk,
                 cells,

@@ -5,11 +5,14 @@ ghost use mathlib.Core.List.{List};
 ghost use Prim.Native.Nat.{_≤_};
 ghost use lib.Dec.{eqb};
 ghost use lib.ListN.{length};
+ghost use Rattle.plan.specs.Admission.{planVerdict, accepted};
 ghost use Rattle.plan.specs.Answer.{verdictOf};
+ghost use Rattle.plan.specs.Place.{transactionPlaces};
 ghost use Rattle.queue.specs.Queue.{recordsOf};
 ghost use Rattle.queue.specs.declared.record.Request.{Request as Queued};
 ghost use Rattle.passing.specs.Admission.{visitBuffersFit, turnVerdict};
-ghost use Rattle.passing.specs.Visit.{passVerdict, visitResult};
+ghost use Rattle.passing.specs.Visit.{visitResult};
+ghost use Rattle.passing.specs.Core.{openingVerdict, passageVerdict};
 ghost use Rattle.passing.specs.Answer.{visitedOf};
 use crate::passed;
 use desk::Desk;
@@ -66,27 +69,38 @@ fn turn(state: Desk, frame: &[u32]) -> PlanAnswer
     PlanAnswer::Refused(15)
 }
 
-// Questions 1 to 6 and 10 to 15, all of one before the next.
-fn visit_verdict(
+// Questions 1 to 5.
+fn opening_verdict(
     plan: &[u32],
-    state: Desk,
     cells: &[u32],
     size: usize,
-    records: [Request; 32],
-    frame: &[u32],
     out: &[u32],
     replies: &[u32],
 ) -> PlanAnswer
-    ensures { λ r. ⌜ verdictOf r ≡ passVerdict (now (plan .entry)) state (now (cells .entry)) size records (now (frame .entry))
-        (now (out .entry)) (now (replies .entry)) ⌝ }
+    ensures { λ r. ⌜ verdictOf r ≡ openingVerdict (now (plan .entry)) (now (cells .entry)) size (now (out .entry))
+        (now (replies .entry)) ⌝ }
 {
     if let PlanAnswer::Refused(question) = plan::read_plan(plan) {
         return PlanAnswer::Refused(question);
     }
-    if !buffers_fit(cells, size, out, replies) {
-        return PlanAnswer::Refused(5);
+    if buffers_fit(cells, size, out, replies) {
+        return PlanAnswer::Accepted;
     }
-    if !desk::desk_stands(plan, state, records) {
+    PlanAnswer::Refused(5)
+}
+
+// Questions 6 and 10 to 15, all of one before the next.
+fn passage_verdict(
+    plan: &[u32],
+    places: &[usize],
+    state: Desk,
+    records: [Request; 32],
+    frame: &[u32],
+) -> PlanAnswer
+    requires { ⌜ (planVerdict (now plan) ≡ accepted) × (now places ≡ transactionPlaces (now plan)) ⌝ }
+    ensures { λ r. ⌜ verdictOf r ≡ passageVerdict (now (plan .entry)) state records (now (frame .entry)) ⌝ }
+{
+    if !desk::desk_stands(plan, places, state, records) {
         return PlanAnswer::Refused(6);
     }
     if let FrameCheck::Refused(question) = token::check_frame(plan[0] / fields::DESKS % 16, frame) {
@@ -110,20 +124,18 @@ pub fn visit_core(
         → visitedOf r (now (cells .exit)) (now (out .exit)) (now (replies .exit)) ≡ visitResult (now (plan .entry)) state
         (now (cells .entry)) queue (now (frame .entry)) (now (out .entry)) (now (replies .entry))) ⌝ }
 {
-    if let PlanAnswer::Refused(question) = visit_verdict(
-        plan,
-        state,
-        cells,
-        size,
-        records,
-        frame,
-        out,
-        replies,
-    ) {
+    if let PlanAnswer::Refused(question) = opening_verdict(plan, cells, size, out, replies) {
         return VisitResult {
             answer: VisitAnswer::Refused(question),
             state: state,
         };
     }
-    passed::visit_passed(plan, state, cells, records, frame, out, replies)
+    let places = plan::transaction_places(plan);
+    if let PlanAnswer::Refused(question) = passage_verdict(plan, &places, state, records, frame) {
+        return VisitResult {
+            answer: VisitAnswer::Refused(question),
+            state: state,
+        };
+    }
+    passed::visit_passed(plan, &places, state, cells, records, frame, out, replies)
 }

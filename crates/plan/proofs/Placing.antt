@@ -15,7 +15,7 @@ use Rattle.word.specs.Field.{headTransactions}
 use Rattle.plan.specs.Decode.{headOf}
 use Rattle.plan.specs.Place.{transactionPlace, transactionPlaces}
 use Rattle.plan.proofs.Places.{lt-or-ge}
-use Rattle.plan.proofs.Tables.{whole-table}
+use Rattle.plan.proofs.Tables.{length-tabulate, getD-tabulate, whole-table}
 
 later : (j n : ℕ) → (j ≡ n → ⊥) → ltb j n ≡ ltb j (n + 1)
 later j n s =
@@ -49,3 +49,14 @@ module _ (ws : List ℕ) (n : ℕ) (l : List ℕ) (p : Placing ws n l) where
   pub placing-done : n ≡ headTransactions (headOf ws) → l ≡ transactionPlaces ws
   placing-done e = whole-table 32 (placeBefore ws (headTransactions (headOf ws))) l (p .long)
       (λ j h. p .entries j h ∙ ap (λ (m : ℕ). placeBefore ws m j) e)
+
+-- ---- the table, looked up
+
+module _ (ws l : List ℕ) (t : l ≡ transactionPlaces ws) where
+  pub places-long : length l ≡ 32
+  places-long = ap (λ (m : List ℕ). length m) t ∙ length-tabulate 32 (placeBefore ws (headTransactions (headOf ws)))
+
+  pub place-found : (k : ℕ) → k < headTransactions (headOf ws) → k < 32 → getD l k 0 ≡ transactionPlace ws k
+  place-found k h f =
+      ap (λ (m : List ℕ). getD m k 0) t ∙ getD-tabulate 32 (placeBefore ws (headTransactions (headOf ws))) k f
+      ∙ ap (λ (b : Bool). cond b (transactionPlace ws k) 0) (lt-ltb k (headTransactions (headOf ws)) h)

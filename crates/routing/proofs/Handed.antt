@@ -9,9 +9,10 @@ use lib.ListN.{length}
 use borrow.Author.Tests.{eqb-true, eq-eqb, ne-eqb}
 use Rattle.plan.specs.Decode.{planOf}
 use Rattle.plan.specs.Admission.{Verdict, accepted, refused, planVerdict}
+use Rattle.plan.proofs.Bool.{and-snd}
 use Rattle.operation.specs.Admission.{operationVerdict}
 use Rattle.token.specs.Admission.{andThen}
-use Rattle.token.proofs.Verdicts.{both}
+use Rattle.token.proofs.Verdicts.{both, then-associates, behind}
 use Rattle.queue.specs.Queue.{recordsOf}
 use Rattle.queue.specs.declared.record.Request.{Request}
 use Rattle.queue.proofs.Copying.{records-whole}
@@ -48,25 +49,6 @@ module _ (ws : List ℕ) (cells : List ℕ) (size : ℕ) where
 
 -- ---- all of them, of a queue with this length and these first records
 
--- where question 5 is answered with no, those behind it do not matter
-unfit : (a : Bool) (v w : Verdict)
-    → andThen (cond (a && false) accepted (refused 5)) v ≡ andThen (cond (a && false) accepted (refused 5)) w
-unfit true v w = refl
-unfit false v w = refl
-
-behind-five : (a : Bool) (size : ℕ) (v w : Verdict) → (size ≡ 32 → v ≡ w)
-    → andThen (cond (a && eqb size 32) accepted (refused 5)) v ≡ andThen (cond (a && eqb size 32) accepted (refused 5)) w
-behind-five a size v w h = go (eqb size 32) refl
-  where
-    go : (b : Bool) → eqb size 32 ≡ b
-        → andThen (cond (a && b) accepted (refused 5)) v ≡ andThen (cond (a && b) accepted (refused 5)) w
-    go true e = ap (andThen (cond (a && true) accepted (refused 5))) (h (eqb-true size 32 e))
-    go false e = unfit a v w
-
-then-associates : (u v w : Verdict) → andThen u (andThen v w) ≡ andThen (andThen u v) w
-then-associates accepted v w = refl
-then-associates (refused question) v w = refl
-
 module _ (ws : List ℕ) (d : Desk) (cells : List ℕ) (size : ℕ) (records : List Request) (r : Request)
     (queue : List Request) (l : length queue ≡ size) (q : recordsOf queue ≡ records) where
   rest : List Request → Verdict
@@ -77,8 +59,8 @@ module _ (ws : List ℕ) (d : Desk) (cells : List ℕ) (size : ℕ) (records : L
   handed =
       ap (andThen (planVerdict ws))
       (ap (λ (n : ℕ). andThen (cond (eqb (length cells) 1024 && eqb n 32) accepted (refused 5)) (rest queue)) l
-      ∙ behind-five (eqb (length cells) 1024) size (rest queue) (rest records)
-      (λ (h : size ≡ 32). ap rest (sym (records-whole queue (l ∙ h)) ∙ q)))
+      ∙ behind (eqb (length cells) 1024 && eqb size 32) 5 (rest queue) (rest records)
+      (λ h. ap rest (sym (records-whole queue (l ∙ eqb-true size 32 (and-snd (eqb (length cells) 1024) _ h))) ∙ q)))
       ∙ then-associates (planVerdict ws) _ (rest records)
 
   pub opening-refused : (question : ℕ) → openingVerdict ws cells size ≡ refused question

@@ -8,6 +8,7 @@ ghost use lib.ListN.{length};
 ghost use Rattle.plan.specs.Decode.{planOf};
 ghost use Rattle.plan.specs.Admission.{planVerdict, accepted};
 ghost use Rattle.plan.specs.Answer.{verdictOf};
+ghost use Rattle.plan.specs.Place.{transactionPlaces};
 ghost use Rattle.operation.specs.Operation.{deskOf};
 ghost use Rattle.operation.specs.Admission.{operationVerdict};
 ghost use Rattle.conflict.specs.Class.{classOf};
@@ -133,18 +134,19 @@ fn routed_step(
 // Questions 7 and 8, and the route.
 fn admitted_step(
     plan: &[u32],
+    places: &[usize],
     state: Desk,
     cells: &mut [u32],
     size: usize,
     request: Request,
     standing: DeskCheck,
 ) -> RequestStep
-    requires { ⌜ (planVerdict (now plan) ≡ accepted) × TableHolds (now plan) standing ⌝ }
+    requires { ⌜ (planVerdict (now plan) ≡ accepted) × (now places ≡ transactionPlaces (now plan)) × TableHolds (now plan) standing ⌝ }
     ensures { λ r. ⌜ ((queue : List Queued) → length queue ≡ size → steppedOf r (now (cells .exit)) queue
         ≡ served state (now (cells .entry)) queue (operationVerdict (planOf (now (plan .entry))) (operationOf request))
         (planOf (now (plan .entry))) request) ⌝ }
 {
-    match desk::locate(plan, request) {
+    match desk::locate(plan, places, request) {
         Located::At(at) => routed_step(plan, state, cells, size, request, at, standing),
         Located::Refused(question) => unchanged_step(
             RequestAnswer::Refused(question),
@@ -186,11 +188,12 @@ fn request_core(
     if let PlanAnswer::Refused(question) = opening_verdict(plan, cells, size) {
         return unchanged_step(RequestAnswer::Refused(question), state, size, request);
     }
-    let standing = desk::standing(plan, state, records);
+    let places = plan::transaction_places(plan);
+    let standing = desk::standing(plan, &places, state, records);
     if !standing.stands {
         return unchanged_step(RequestAnswer::Refused(6), state, size, request);
     }
-    admitted_step(plan, state, cells, size, request, standing)
+    admitted_step(plan, &places, state, cells, size, request, standing)
 }
 
 // The same of a client's word, a transaction and four parameters, of which it makes the record.

@@ -1,5 +1,5 @@
-// Where a request's operation goes, by its class and its desk. A table of masks is filled only where the answer hangs on it: an own
-// operation that writes is local or global by the touches, and another desk's that writes nothing is free or local by the writes.
+// Where a request's operation goes, by its class and its desk. The table of masks is filled only where the answer hangs on it: for an
+// own operation that writes, unless question 6 has filled it.
 ghost use mathlib.Core.Path.{_≡_};
 ghost use Rattle.plan.specs.Decode.{planOf};
 ghost use Rattle.conflict.specs.Class.{isGlobal, classOf};
@@ -23,13 +23,13 @@ fn is_global(plan: &[u32], at: usize, request: Request, standing: DeskCheck) -> 
 {
     let params = queue::params(request);
     if standing.known {
-        return conflict::is_global(plan, at, params, &standing.touchers);
+        return conflict::is_global(plan, at, params, &standing.masks);
     }
     if !conflict::has_write(plan, at) {
         return false;
     }
-    let touchers = conflict::desk_masks(plan, 3);
-    conflict::is_global(plan, at, params, &touchers)
+    let masks = conflict::desk_masks(plan);
+    conflict::is_global(plan, at, params, &masks)
 }
 
 pub(crate) fn route_of(

@@ -12,6 +12,7 @@ use Rattle.operation.specs.Operation.{cellsNamed}
 use Rattle.operation.specs.Admission.{transactionExists, unusedZero, rowInRange, parametersPass, operationVerdict}
 use Rattle.conflict.specs.Mask.{maskOf, some}
 use Rattle.conflict.specs.Touch.{rowTouched, cellTouched, stepTouches, deskMask}
+use Rattle.conflict.specs.Written.{cellGiven, stepWrites, written}
 use Rattle.conflict.specs.Class.{classBy}
 use Rattle.conflict.specs.Answer.{classifyResult}
 use Rattle.operation.specs.Run.{act, runFrom, applyUpdate}
@@ -30,7 +31,7 @@ pub starred : map (λ (r : Row). resultOf (r .input)) table ≡ map (λ (r : Row
 unfolding ones sourceField reservedZero accessBy actionBy stepOf partBy transactionsOf planOf every hasHead countsInRange
     transactionFormed stepFormed wellFormed sourceExists stepExists partExists parametersExist transactionsVerdict planVerdict
     cellsNamed transactionExists unusedZero rowInRange parametersPass operationVerdict maskOf some rowTouched cellTouched
-    stepTouches deskMask classBy classifyResult
+    stepTouches deskMask cellGiven stepWrites written classBy classifyResult
     readVerdict frameVerdict frameHeaded sumsRight updatesRight frames.wellFormed updateFormed cellFormed fewPerDesk deskCount writesFrom
     updatesFrom sumsFrom frameAround writeWords updateWords updatesWords act runFrom applyUpdate deskBuffersFit visitBuffersFit waitsHere
     deskStands turnVerdict runAll updatesOf repliesOf repliesWords foreign applyAll visitVerdict visitResult

@@ -57,6 +57,17 @@ pub both : (v w : Verdict) → andThen v w ≡ accepted → (v ≡ accepted) × 
 both accepted w e = (refl, e)
 both (refused q) w e = let z : _≡_ {A = ℕ} 0 1 = cc in absurd (omega arith)
 
+-- questions one after another, in either grouping
+pub then-associates : (u v w : Verdict) → andThen u (andThen v w) ≡ andThen (andThen u v) w
+then-associates accepted v w = refl
+then-associates (refused question) v w = refl
+
+-- behind a question answered with no, the next do not matter
+pub behind : (yes : Bool) (question : ℕ) (v w : Verdict) → (yes ≡ true → v ≡ w)
+    → andThen (cond yes accepted (refused question)) v ≡ andThen (cond yes accepted (refused question)) w
+behind true question v w h = h refl
+behind false question v w h = refl
+
 pub read-accepted : (plan frame : List ℕ) → readVerdict plan frame ≡ accepted
     → (planVerdict plan ≡ accepted) × (frameVerdict (planOf plan .desks) frame ≡ accepted)
 unfolding readVerdict

@@ -15,12 +15,12 @@ use Rattle.desk.proofs.check.all_wait_here.Statement.{statement}
 use Rattle.desk.proofs.check.all_wait_here.Tie as tie
 
 abbrev Inv-loop : tie.InvT-loop
-Inv-loop plan desk waiting touchers records i₀ i =
+Inv-loop plan places desk waiting masks records i₀ i =
     (i ≤ waiting) × (length records ≡ 32)
     × (every (waitsHere (planOf plan) desk) (take waiting records) ≡ every (waitsHere (planOf plan) desk) (drop i (take waiting records)))
 
 abbrev μ-loop : tie.MeasureT-loop
-μ-loop plan desk waiting touchers records i₀ i = waiting - i
+μ-loop plan places desk waiting masks records i₀ i = waiting - i
 
 loop-holds : tie.Need-loop-holds Inv-loop μ-loop
 loop-holds c = (search needs, search needs, refl)
@@ -40,26 +40,26 @@ waits-here-requires c κs = search needs
 -- the record looked at, and those behind it
 turned : (c : tie.After-waits-here Inv-loop μ-loop) →
     let e = c .before .before .before in
-    let d = e .before .before .before in
-    every (waitsHere (planOf (d .args .plan .now)) (d .args .desk)) (take (d .args .waiting) (d .args .t4))
+    let d = e .before .before .before .before in
+    every (waitsHere (planOf (d .args .plan .now)) (d .args .desk)) (take (d .args .waiting) (d .args .t5))
     ≡ (c .waits-here .result
-    && every (waitsHere (planOf (d .args .plan .now)) (d .args .desk)) (drop (e .loop .i + 1) (take (d .args .waiting) (d .args .t4))))
+    && every (waitsHere (planOf (d .args .plan .now)) (d .args .desk)) (drop (e .loop .i + 1) (take (d .args .waiting) (d .args .t5))))
 turned c =
     let e = c .before .before .before in
-    let d = e .before .before .before in
+    let d = e .before .before .before .before in
     let f = waitsHere (planOf (d .args .plan .now)) (d .args .desk) in
-    let fits : d .args .waiting ≤ length (d .args .t4) = omega (arith, e .loop .inv .1, d .pre .1) in
+    let fits : d .args .waiting ≤ length (d .args .t5) = omega (arith, e .loop .inv .1, d .pre .1) in
     e .loop .inv .2
-    ∙ first-here f (d .args .t4) (d .args .waiting) fits (e .loop .i) _ (c .before .before .loop-test .taken)
-    ∙ ap (λ (b : Bool). b && every f (drop (e .loop .i + 1) (take (d .args .waiting) (d .args .t4)))) (sym (c .waits-here .ensures))
+    ∙ first-here f (d .args .t5) (d .args .waiting) fits (e .loop .i) _ (c .before .before .loop-test .taken)
+    ∙ ap (λ (b : Bool). b && every f (drop (e .loop .i + 1) (take (d .args .waiting) (d .args .t5)))) (sym (c .waits-here .ensures))
 
 returns : tie.Need-returns Inv-loop μ-loop
 returns c =
     let e = c .before .before .before .before in
-    let d = e .before .before .before in
+    let d = e .before .before .before .before in
     sym (turned (c .before)
     ∙ ap (λ (b : Bool). b && every (waitsHere (planOf (d .args .plan .now)) (d .args .desk))
-    (drop (e .loop .i + 1) (take (d .args .waiting) (d .args .t4)))) (not-true (c .before .waits-here .result) (c .if1 .taken)))
+    (drop (e .loop .i + 1) (take (d .args .waiting) (d .args .t5)))) (not-true (c .before .waits-here .result) (c .if1 .taken)))
 
 loop-less : tie.Need-loop-less Inv-loop μ-loop
 loop-less c = search needs
@@ -67,23 +67,23 @@ loop-less c = search needs
 loop-again : tie.Need-loop-again Inv-loop μ-loop
 loop-again c =
     let e = c .before .before .before .before in
-    let d = e .before .before .before in (
+    let d = e .before .before .before .before in (
       search needs,
       e .loop .inv .1,
       turned (c .before)
           ∙ ap (λ (b : Bool). b && every (waitsHere (planOf (d .args .plan .now)) (d .args .desk))
-          (drop (e .loop .i + 1) (take (d .args .waiting) (d .args .t4)))) (not-false (c .before .waits-here .result) (c .if1 .left)),
+          (drop (e .loop .i + 1) (take (d .args .waiting) (d .args .t5)))) (not-false (c .before .waits-here .result) (c .if1 .left)),
     )
 
 returns-2 : tie.Need-returns-2 Inv-loop μ-loop
 returns-2 c =
     let e = c .before in
-    let d = e .before .before .before in
+    let d = e .before .before .before .before in
     let f = waitsHere (planOf (d .args .plan .now)) (d .args .desk) in
-    let fits : d .args .waiting ≤ length (d .args .t4) = omega (arith, e .loop .inv .1, d .pre .1) in
+    let fits : d .args .waiting ≤ length (d .args .t5) = omega (arith, e .loop .inv .1, d .pre .1) in
     let last : e .loop .i ≡ d .args .waiting = omega arith in
-    sym (e .loop .inv .2 ∙ ap (λ (i : ℕ). every f (drop i (take (d .args .waiting) (d .args .t4)))) last
-    ∙ first-past f (d .args .t4) (d .args .waiting) fits)
+    sym (e .loop .inv .2 ∙ ap (λ (i : ℕ). every f (drop i (take (d .args .waiting) (d .args .t5)))) last
+    ∙ first-past f (d .args .t5) (d .args .waiting) fits)
 
 pub all-wait-here-spec : {M : Type 1} → statement M
 all-wait-here-spec =

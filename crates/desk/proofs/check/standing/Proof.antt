@@ -12,7 +12,7 @@ use Rattle.desk.proofs.check.standing.Statement.{statement}
 use Rattle.desk.proofs.check.standing.Tie as tie
 
 shared-slice-read-desks : tie.Need-shared-slice-read-desks
-shared-slice-read-desks c = accepted-gives _ (c .before .before .pre) .words-low
+shared-slice-read-desks c = accepted-gives _ (c .before .before .before .pre .0) .words-low
 
 cast-waiting : tie.Need-cast-waiting
 cast-waiting c = search needs
@@ -23,7 +23,7 @@ untabled-requires c κs = search needs
 returns : tie.Need-returns
 returns c =
     let e = c .before in
-    let d = e .before .before .before .before in (
+    let d = e .before .before .before .before .before in (
       c .untabled .ensures .0 ∙ sym (desk-out (d .args .plan .now) (d .args .state) (d .args .records) (e .if1 .taken)),
       untabled-holds (d .args .plan .now) (c .untabled .result) (c .untabled .ensures .1),
     )
@@ -35,7 +35,7 @@ returns-2 : tie.Need-returns-2
 returns-2 c =
     let f = c .before in
     let e = f .before in
-    let d = e .before .before .before .before in (
+    let d = e .before .before .before .before .before in (
       c .untabled2 .ensures .0
           ∙ sym (too-many (d .args .plan .now) (d .args .state) (d .args .records) (e .if1 .left) (f .if2 .taken)),
       untabled-holds (d .args .plan .now) (c .untabled2 .result) (c .untabled2 .ensures .1),
@@ -58,7 +58,7 @@ returns-3 c =
     let g = c .before in
     let f = g .before .before in
     let e = f .before in
-    let d = e .before .before .before .before in (
+    let d = e .before .before .before .before .before in (
       c .untabled3 .ensures .0
           ∙ sym (other-visit (d .args .plan .now) (d .args .state) (d .args .records) (e .if1 .left) (f .if2 .left) (g .if3 .taken)),
       untabled-holds (d .args .plan .now) (c .untabled3 .result) (c .untabled3 .ensures .1),
@@ -69,19 +69,19 @@ untabled-requires-4 c κs = search needs
 
 -- the rest of the answer is the records'
 asked : (c : tie.Else3) →
-    let d = c .before .before .before .before .before .before .before in
+    let d = c .before .before .before .before .before .before .before .before in
     deskStands (planOf (d .args .plan .now)) (d .args .state) (d .args .records)
     ≡ every (waitsHere (planOf (d .args .plan .now)) (d .args .state .desk)) (waitingIn (d .args .state .waiting) (d .args .records))
 asked c =
     let f = c .before .before in
     let e = f .before in
-    let d = e .before .before .before .before in
+    let d = e .before .before .before .before .before in
     by-records (d .args .plan .now) (d .args .state) (d .args .records) (e .if1 .left) (f .if2 .left) (c .if3 .left)
 
 returns-4 : tie.Need-returns-4
 returns-4 c =
     let g = c .before in
-    let d = g .before .before .before .before .before .before .before .before in (
+    let d = g .before .before .before .before .before .before .before .before .before in (
       c .untabled4 .ensures .0 ∙ sym (asked (g .before) ∙ none-waits _ _ _ (g .if4 .taken)),
       untabled-holds (d .args .plan .now) (c .untabled4 .result) (c .untabled4 .ensures .1),
     )

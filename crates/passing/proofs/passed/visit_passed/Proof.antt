@@ -20,7 +20,7 @@ use Rattle.passing.proofs.passed.visit_passed.Tie as tie
 
 -- the start of the visit, behind the call that forwards
 abbrev start-of : tie.After-forward-foreign → tie.Start
-start-of c = c .before .before .before .before .before .before .before .before .before .before
+start-of c = c .before .before .before .before .before .before .before .before .before .before .before
 
 -- that call, behind the one that runs the waiting requests
 abbrev forwards : tie.After-run-waiting → tie.After-forward-foreign
@@ -36,35 +36,35 @@ cast-waiting c = search needs
 adm : (c : tie.Start)
     → let a = c .args in
     Passable (a .plan .now) (a .state) (a .cells .now) (a .records) (a .frame .now) (a .out .now) (a .replies .now)
-adm c = questions-give _ _ _ _ _ _ _ (c .pre)
+adm c = questions-give _ _ _ _ _ _ _ (c .pre .0)
 
 low : (c : tie.Start) → 4 ≤ length (c .args .frame .now)
 low c = frame-size _ _ (adm c .frame) .0
 
 sub-sums : tie.Need-sub-sums
-sub-sums c = omega (arith, low (c .before .before .before .before .before .before))
+sub-sums c = omega (arith, low (c .before .before .before .before .before .before .before))
 
 sub-body : tie.Need-sub-body
-sub-body c = omega (arith, low (c .before .before .before .before .before .before))
+sub-body c = omega (arith, low (c .before .before .before .before .before .before .before))
 
 part-body-start : tie.Need-part-body-start
-part-body-start c = omega (arith, low (c .before .before .before .before .before .before))
+part-body-start c = omega (arith, low (c .before .before .before .before .before .before .before))
 
 part-body-end : tie.Need-part-body-end
-part-body-end c = omega (arith, low (c .before .before .before .before .before .before))
+part-body-end c = omega (arith, low (c .before .before .before .before .before .before .before))
 
 sub-forward-foreign : tie.Need-sub-forward-foreign
-sub-forward-foreign c = omega (arith, adm (c .before .before .before .before .before .before .before .before) .room)
+sub-forward-foreign c = omega (arith, adm (c .before .before .before .before .before .before .before .before .before) .room)
 
 part-forward-foreign-start : tie.Need-part-forward-foreign-start
-part-forward-foreign-start c = omega (arith, adm (c .before .before .before .before .before .before .before .before) .room)
+part-forward-foreign-start c = omega (arith, adm (c .before .before .before .before .before .before .before .before .before) .room)
 
 part-forward-foreign-end : tie.Need-part-forward-foreign-end
-part-forward-foreign-end c = omega (arith, adm (c .before .before .before .before .before .before .before .before) .room)
+part-forward-foreign-end c = omega (arith, adm (c .before .before .before .before .before .before .before .before .before) .room)
 
 forward-foreign-requires : tie.Need-forward-foreign-requires
 forward-foreign-requires c κs =
-    let s = c .before .before .before .before .before .before .before .before .before in
+    let s = c .before .before .before .before .before .before .before .before .before .before in
     (written _ _ _ _ _ _ _ (adm s) _ (part-is (s .args .frame .now)), body-room _ _ _ _ _ _ _ (adm s) _ (part-is (s .args .frame .now)))
 
 -- the others' words behind words 0 and 1
@@ -89,7 +89,7 @@ add-copied c = omega (arith, copied-room (copied (c .before .before .before .bef
 
 mul-run-waiting : tie.Need-mul-run-waiting
 mul-run-waiting c =
-    let k = c .before .before .before .before .before in omega (arith, copied-room (copied k), start-of k .good .1 .1 .1 .1 .1 .0 .1)
+    let k = c .before .before .before .before .before in omega (arith, copied-room (copied k), start-of k .good .1 .1 .1 .1 .1 .1 .0 .1)
 
 sub-run-waiting : tie.Need-sub-run-waiting
 sub-run-waiting c = let k = copied (c .before .before .before .before .before) in omega (arith, copied-room k, copied-length k)
@@ -108,6 +108,7 @@ run-waiting-requires c κs =
     let o1 = putMid 2 (length o - 2) o (k .forward-foreign .last .1 .1 .1 .0) in
     let n = 2 + k .forward-foreign .result in (
       adm s .waiting,
+      s .pre .1,
       all-run _ _ _ _ _ _ _ (adm s) _ (part-is (s .args .frame .now)) _ (k .forward-foreign .ensures .0) _
           (omega (arith, copied-room (copied k), copied-length (copied k), ap length (lent o1 n), length-drop n o1)),
     )
@@ -122,7 +123,7 @@ joined : (c : tie.After-run-waiting)
     Joined o (foreignWords (a .state .desk) (take (length (a .frame .now) - 2 - 2) (drop 2 (a .frame .now))))
     (allMade (planOf (a .plan .now)) (a .state .desk) (waitingIn (a .state .waiting) (a .records))
     (k .forward-foreign .last .1 .1 .0))
-    o1 n (putMid n (length o1 - n) o1 (c .run-waiting .last .1 .1 .1 .1 .1 .0)) (n + c .run-waiting .result)
+    o1 n (putMid n (length o1 - n) o1 (c .run-waiting .last .1 .1 .1 .1 .1 .1 .0)) (n + c .run-waiting .result)
 joined c =
     let k = forwards c in
     let o = start-of k .args .out .now in
@@ -140,7 +141,7 @@ ended : (c : tie.After-run-waiting)
 ended c = omega (arith, copied-room (copied (forwards c)), c .run-waiting .ensures .count)
 
 add-end : tie.Need-add-end
-add-end c = omega (arith, ended (runs c), start-of (forwards (runs c)) .good .1 .1 .1 .1 .1 .0 .1)
+add-end c = omega (arith, ended (runs c), start-of (forwards (runs c)) .good .1 .1 .1 .1 .1 .1 .0 .1)
 
 shared-slice-read-desks : tie.Need-shared-slice-read-desks
 shared-slice-read-desks c = omega (arith, accepted-gives _ (adm (start-of (forwards (runs (c .before)))) .plan) .words-low)
@@ -161,19 +162,19 @@ seal-requires : tie.Need-seal-requires
 seal-requires c κs =
     let w = runs (c .before .before .before) in (omega arith, omega (arith, ended w, all-length (joined w)))
 
-cast-t42 : tie.Need-cast-t42
-cast-t42 c = omega (arith, adm (start-of (forwards (runs (c .before .before .before .before .before .before)))) .visit)
-
 cast-t43 : tie.Need-cast-t43
-cast-t43 c = search needs
+cast-t43 c = omega (arith, adm (start-of (forwards (runs (c .before .before .before .before .before .before)))) .visit)
 
-add-t44 : tie.Need-add-t44
-add-t44 c = omega (arith, adm (start-of (forwards (runs (c .before .before .before .before .before .before)))) .visit)
+cast-t44 : tie.Need-cast-t44
+cast-t44 c = search needs
 
-add-t17 : tie.Need-add-t17
-add-t17 c =
+add-t45 : tie.Need-add-t45
+add-t45 c = omega (arith, adm (start-of (forwards (runs (c .before .before .before .before .before .before)))) .visit)
+
+add-t18 : tie.Need-add-t18
+add-t18 c =
     let w = runs (c .before .before .before .before .before .before) in
-    omega (arith, ended w, start-of (forwards w) .good .1 .1 .1 .1 .1 .0 .1)
+    omega (arith, ended w, start-of (forwards w) .good .1 .1 .1 .1 .1 .1 .0 .1)
 
 same-length : tie.Need-same-length
 same-length c = search needs
@@ -219,10 +220,10 @@ visit-passed-spec =
     rem-seal
     add-seal-2
     seal-requires
-    cast-t42
     cast-t43
-    add-t44
-    add-t17
+    cast-t44
+    add-t45
+    add-t18
     same-length
     same-length-2
     same-length-3

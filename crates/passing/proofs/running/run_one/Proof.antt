@@ -9,24 +9,20 @@ use Rattle.operation.specs.Run.{Outcome, run, applyUpdate}
 use Rattle.token.specs.Frame.{sent, updateWords, overwritten}
 use Rattle.desk.specs.Queueing.{operationOf}
 use Rattle.passing.specs.Waiting.{replyWords}
-use Rattle.desk.proofs.Asked.{operation-admitted, admitted-stands, parameters-passed, run-asked}
+use Rattle.desk.proofs.Asked.{admitted-stands, parameters-passed, run-asked}
 use borrow.Author.Needs.{needs}
 use Rattle.passing.proofs.running.run_one.Statement.{statement}
 use Rattle.passing.proofs.running.run_one.Tie as tie
-
-transaction-place-requires : tie.Need-transaction-place-requires
-transaction-place-requires c κs = search needs
 
 params-requires : tie.Need-params-requires
 params-requires c κs = search needs
 
 run-requires : tie.Need-run-requires
 run-requires c κs =
-    let s = c .before .before .before .before .before .before .before in
-    let a = operation-admitted (s .args .plan .now) (s .args .request) (s .pre .plan) (s .pre .operation) in
-    let i = c .before .before .transaction-place .ensures in (
-      admitted-stands (s .args .plan .now) (s .args .request) a _ i,
-      parameters-passed (s .args .plan .now) (s .args .request) a _ i _ (c .before .params .ensures),
+    let s = c .before .before .before .before .before .before in
+    let p = s .pre .placed in (
+      admitted-stands (s .args .plan .now) (s .args .request) (p .admitted) _ (p .place),
+      parameters-passed (s .args .plan .now) (s .args .request) (p .admitted) _ (p .place) _ (c .before .params .ensures),
     )
 
 write-reply-requires : tie.Need-write-reply-requires
@@ -36,19 +32,19 @@ apply-requires : tie.Need-apply-requires
 apply-requires c κs = search needs
 
 ran : (c : tie.After-run)
-    → let a = c .before .before .before .before .before .before .before .before .args in
+    → let a = c .before .before .before .before .before .before .before .args in
     outcomeOf (c .run .result) ≡ run (planOf (a .plan .now)) (operationOf (a .request)) (a .cells .now)
 ran c =
-    let s = c .before .before .before .before .before .before .before .before in
+    let s = c .before .before .before .before .before .before .before in
+    let p = s .pre .placed in
     c .run .ensures .0
-    ∙ run-asked (s .args .plan .now) (s .args .request)
-    (operation-admitted (s .args .plan .now) (s .args .request) (s .pre .plan) (s .pre .operation)) _
-    (c .before .before .before .transaction-place .ensures) _ (c .before .before .params .ensures) (s .args .cells .now)
+    ∙ run-asked (s .args .plan .now) (s .args .request) (p .admitted) _ (p .place) _ (c .before .before .params .ensures)
+    (s .args .cells .now)
 
 write-update-requires : tie.Need-write-update-requires
 write-update-requires c κs =
     let r = c .before .before .before .before .before .before .before .before .before .before .before in
-    let s = r .before .before .before .before .before .before .before .before in
+    let s = r .before .before .before .before .before .before .before in
     let e = ap (λ (o : Outcome). length (updateWords (sent (s .args .desk) (o .update)))) (ran r) in
     omega (arith, e, s .pre .room)
 
@@ -65,7 +61,7 @@ returns : tie.Need-returns
 returns c =
     let w = c .before .before .write-update in
     let r = c .before .before .before .before .before .before .before .before .before .before .before .before .before .before in
-    let a = r .before .before .before .before .before .before .before .before .args in
+    let a = r .before .before .before .before .before .before .before .args in
     let e = ran r in
     record {
       count = w .ensures .0 ∙ ap (λ (o : Outcome). length (updateWords (sent (a .desk) (o .update)))) e;
@@ -80,7 +76,6 @@ pub run-one-spec : {M : Type 1} → statement M
 run-one-spec =
     tie.close
     (tie.spec
-    transaction-place-requires
     params-requires
     run-requires
     write-reply-requires

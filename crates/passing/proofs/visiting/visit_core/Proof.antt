@@ -1,17 +1,17 @@
--- The visit: refused with the verdict's number, or left as a visit that passes leaves it.
+-- The visit: refused with the number of the first question whose answer is no, or left as a visit that passes leaves it.
 -- Assumes nothing.
 use mathlib.Core.Path.{_≡_, _∙_, sym, ap}
 use lib.ListN.{length}
-use Rattle.plan.specs.Admission.{accepted}
+use Rattle.plan.specs.Admission.{planVerdict, accepted}
 use Rattle.plan.specs.Answer.{verdictOf}
-use Rattle.passing.specs.Visit.{passVerdict}
-use Rattle.passing.proofs.Visited.{of-records, left-refused, left-passed}
+use Rattle.passing.specs.Core.{openingVerdict, passageVerdict}
+use Rattle.passing.proofs.Visited.{plan-passes, opening-refused, passage-refused, left-passed, of-records}
 use borrow.Author.Needs.{needs}
 use Rattle.passing.proofs.visiting.visit_core.Statement.{statement}
 use Rattle.passing.proofs.visiting.visit_core.Tie as tie
 
-visit-verdict-requires : tie.Need-visit-verdict-requires
-visit-verdict-requires c κs = search needs
+opening-verdict-requires : tie.Need-opening-verdict-requires
+opening-verdict-requires c κs = search needs
 
 enum-known-question : tie.Need-enum-known-question
 enum-known-question c = search needs
@@ -28,28 +28,36 @@ same-length-3 c = search needs
 returns : tie.Need-returns
 returns c = λ queue l q.
     let d = c .before .before .before .before .before .before .before .before .before .before .before .before in
-    left-refused (d .args .plan .now) (d .args .state) (d .args .cells .now) (d .args .size) (d .args .records) (d .args .frame .now)
+    opening-refused (d .args .plan .now) (d .args .state) (d .args .cells .now) (d .args .size) (d .args .records) (d .args .frame .now)
     (d .args .out .now) (d .args .replies .now) queue l q _
-    (sym (c .before .before .before .visit-verdict .ensures) ∙ ap verdictOf (c .before .question .given .1))
+    (sym (c .before .before .before .opening-verdict .ensures) ∙ ap verdictOf (c .before .question .given .1))
 
 enum-told : tie.Need-enum-told
 enum-told c = search needs
 
--- all questions are answered with yes
-passes : (c : tie.After-enum-told)
-    → let d = c .before .before .before .before .before .before .before .before .before .before .before in
-    passVerdict (d .args .plan .now) (d .args .state) (d .args .cells .now) (d .args .size) (d .args .records) (d .args .frame .now)
-    (d .args .out .now) (d .args .replies .now) ≡ accepted
-passes c = sym (c .before .before .visit-verdict .ensures) ∙ ap verdictOf (c .enum-told .given .1)
+-- questions 1 to 5 are answered with yes
+opens : (c : tie.After-enum-told)
+    → let a = c .before .before .before .before .before .before .before .before .before .before .before .args in
+    openingVerdict (a .plan .now) (a .cells .now) (a .size) (a .out .now) (a .replies .now) ≡ accepted
+opens c = sym (c .before .before .opening-verdict .ensures) ∙ ap verdictOf (c .enum-told .given .1)
 
-long : (c : tie.Start) → length (c .args .records) ≡ 32
-long c = search needs
+planned : (c : tie.After-enum-told)
+    → planVerdict (c .before .before .before .before .before .before .before .before .before .before .before .args .plan .now) ≡ accepted
+planned c =
+    let a = c .before .before .before .before .before .before .before .before .before .before .before .args in
+    plan-passes (a .plan .now) (a .cells .now) (a .size) (a .out .now) (a .replies .now) (opens c)
 
-visit-passed-requires : tie.Need-visit-passed-requires
-visit-passed-requires c κs =
-    let d = c .before .before .before .before .before .before .before .before .before .before .before .before .before .before in
-    of-records (d .args .plan .now) (d .args .state) (d .args .cells .now) (d .args .size) (d .args .records) (d .args .frame .now)
-    (d .args .out .now) (d .args .replies .now) (long d) (passes (c .before .before .before))
+transaction-places-requires : tie.Need-transaction-places-requires
+transaction-places-requires c κs = planned c
+
+slice-aggregate-passage-verdict : tie.Need-slice-aggregate-passage-verdict
+slice-aggregate-passage-verdict c = search needs
+
+passage-verdict-requires : tie.Need-passage-verdict-requires
+passage-verdict-requires c κs = (planned (c .before .before), c .before .transaction-places .ensures)
+
+enum-known-question-2 : tie.Need-enum-known-question-2
+enum-known-question-2 c = search needs
 
 same-length-4 : tie.Need-same-length-4
 same-length-4 c = search needs
@@ -62,26 +70,79 @@ same-length-6 c = search needs
 
 returns-2 : tie.Need-returns-2
 returns-2 c = λ queue l q.
-    let d = c .before .before .before .before .before .before .before .before .before .before .before .before .before .before .before
-    .before .before .before .before .before .before in
+    let e = c .before .before .before .before .before .before in
+    let d = e .before .before .before .before .before .before .before .before .before .before .before in
+    passage-refused (d .args .plan .now) (d .args .state) (d .args .cells .now) (d .args .size) (d .args .records) (d .args .frame .now)
+    (d .args .out .now) (d .args .replies .now) queue l q (opens e) _
+    (sym (c .before .before .before .passage-verdict .ensures) ∙ ap verdictOf (c .before .question2 .given .1))
+
+enum-told-2 : tie.Need-enum-told-2
+enum-told-2 c = search needs
+
+-- and all the others
+passes : (c : tie.After-enum-told2)
+    → let a = c .before .before .before .before .before .before .before .before .before .before .before .before .before .before .before
+    .before .args in
+    passageVerdict (a .plan .now) (a .state) (a .records) (a .frame .now) ≡ accepted
+passes c = sym (c .before .before .passage-verdict .ensures) ∙ ap verdictOf (c .enum-told2 .given .1)
+
+slice-aggregate-visit-passed : tie.Need-slice-aggregate-visit-passed
+slice-aggregate-visit-passed c = search needs
+
+long : (c : tie.Start) → length (c .args .records) ≡ 32
+long c = search needs
+
+visit-passed-requires : tie.Need-visit-passed-requires
+visit-passed-requires c κs =
+    let f = c .before .before .before .before in
+    let e = f .before .before .before .before .before in
+    let d = e .before .before .before .before .before .before .before .before .before .before .before in (
+      of-records (d .args .plan .now) (d .args .state) (d .args .cells .now) (d .args .size) (d .args .records) (d .args .frame .now)
+          (d .args .out .now) (d .args .replies .now) (long d) (opens e) (passes f),
+      f .before .before .before .before .transaction-places .ensures,
+    )
+
+same-length-7 : tie.Need-same-length-7
+same-length-7 c = search needs
+
+same-length-8 : tie.Need-same-length-8
+same-length-8 c = search needs
+
+same-length-9 : tie.Need-same-length-9
+same-length-9 c = search needs
+
+returns-3 : tie.Need-returns-3
+returns-3 c = λ queue l q.
+    let f = c .before .before .before .before .before .before .before .before .before .before .before in
+    let e = f .before .before .before .before .before in
+    let d = e .before .before .before .before .before .before .before .before .before .before .before in
     c .before .before .before .before .before .before .visit-passed .ensures
     ∙ left-passed (d .args .plan .now) (d .args .state) (d .args .cells .now) (d .args .size) (d .args .records) (d .args .frame .now)
-    (d .args .out .now) (d .args .replies .now) queue l q
-    (passes (c .before .before .before .before .before .before .before .before .before .before))
+    (d .args .out .now) (d .args .replies .now) queue l q (opens e) (passes f)
 
 pub visit-core-spec : {M : Type 1} → statement M
 visit-core-spec =
     tie.close
     (tie.spec
-    visit-verdict-requires
+    opening-verdict-requires
     enum-known-question
     same-length
     same-length-2
     same-length-3
     returns
     enum-told
-    visit-passed-requires
+    transaction-places-requires
+    slice-aggregate-passage-verdict
+    passage-verdict-requires
+    enum-known-question-2
     same-length-4
     same-length-5
     same-length-6
-    returns-2)
+    returns-2
+    enum-told-2
+    slice-aggregate-visit-passed
+    visit-passed-requires
+    same-length-7
+    same-length-8
+    same-length-9
+    returns-3)

@@ -21,17 +21,17 @@ enum-known-at c = search needs
 
 -- questions 7 and 8 are answered with yes, and this is the place
 placed : (c : tie.After-known-told)
-    → let d = c .before .before .before .before .before .before in
+    → let d = c .before .before .before .before .before .before .before in
     Placed (d .args .plan .now) (d .args .request) (c .before .at .given .0 .0)
 placed c =
     let e = c .before .before .before in
-    let d = e .before .before .before in
+    let d = e .before .before .before .before in
     placed-at (d .args .plan .now) (d .args .request) (d .pre .0) _ (sym (ap placeOf (c .before .at .given .1)) ∙ e .locate .ensures)
 
 routed-step-requires : tie.Need-routed-step-requires
 routed-step-requires c κs =
     let e = c .before in
-    (placed e, e .before .before .before .before .before .before .pre .1)
+    (placed e, e .before .before .before .before .before .before .before .pre .2)
 
 enum-known-question : tie.Need-enum-known-question
 enum-known-question c = search needs
@@ -45,7 +45,7 @@ same-length c = search needs
 returns : tie.Need-returns
 returns c = λ queue l.
     let e = c .before .before .before .before in
-    let d = e .before .before .before .before .before .before in
+    let d = e .before .before .before .before .before .before .before in
     c .before .before .routed-step .ensures queue l
     ∙ sym (ap (λ (v : Verdict). served (d .args .state) (d .args .cells .now) queue v (planOf (d .args .plan .now)) (d .args .request))
     (placed e .admitted .passed))
@@ -54,7 +54,7 @@ returns-2 : tie.Need-returns-2
 returns-2 c = λ queue l.
     let e = c .before .before in
     let f = e .before .before in
-    let d = f .before .before .before in
+    let d = f .before .before .before .before in
     c .unchanged-step .ensures (d .args .cells .now) queue l
     ∙ sym (ap (λ (v : Verdict). served (d .args .state) (d .args .cells .now) queue v (planOf (d .args .plan .now)) (d .args .request))
     (found-lacking (operationVerdict (planOf (d .args .plan .now)) (operationOf (d .args .request)))

@@ -4,7 +4,7 @@ use mathlib.Core.Path.{_≡_, _∙_, sym, ap}
 use mathlib.Core.Bool.{true}
 use borrow.Author.Tests.{not-true, not-false}
 use Rattle.plan.specs.Decode.{planOf}
-use Rattle.plan.specs.Admission.{accepted}
+use Rattle.plan.specs.Admission.{planVerdict, accepted}
 use Rattle.plan.specs.Answer.{verdictOf}
 use Rattle.desk.specs.Admission.{deskStands}
 use Rattle.routing.specs.Step.{openingVerdict}
@@ -46,10 +46,19 @@ opens : (c : tie.After-enum-told) →
     openingVerdict (d .args .plan .now) (d .args .cells .now) (d .args .size) ≡ accepted
 opens c = sym (c .before .before .opening-verdict .ensures) ∙ ap verdictOf (c .enum-told .given .1)
 
-standing-requires : tie.Need-standing-requires
-standing-requires c κs =
+plan-passes : (c : tie.After-enum-told) → planVerdict (c .before .before .before .before .before .before .args .plan .now) ≡ accepted
+plan-passes c =
     let d = c .before .before .before .before .before .before in
     handed.plan-passes (d .args .plan .now) (d .args .cells .now) (d .args .size) (opens c)
+
+transaction-places-requires : tie.Need-transaction-places-requires
+transaction-places-requires c κs = plan-passes c
+
+slice-aggregate-standing : tie.Need-slice-aggregate-standing
+slice-aggregate-standing c = search needs
+
+standing-requires : tie.Need-standing-requires
+standing-requires c κs = (plan-passes (c .before .before), c .before .transaction-places .ensures)
 
 unchanged-step-requires-2 : tie.Need-unchanged-step-requires-2
 unchanged-step-requires-2 c κs = search needs
@@ -60,27 +69,29 @@ same-length-2 c = search needs
 returns-2 : tie.Need-returns-2
 returns-2 c = λ queue l q.
     let g = c .before in
-    let e = g .before .before .before in
+    let e = g .before .before .before .before .before in
     let d = e .before .before .before .before .before .before in
     c .unchanged-step2 .ensures (d .args .cells .now) queue l
     ∙ sym (left-by-verdict (d .args .plan .now) (d .args .state) (d .args .cells .now) queue (d .args .request) _
     (desk-unfit (d .args .plan .now) (d .args .state) (d .args .cells .now) (d .args .size) (d .args .records) (d .args .request)
     queue l q (opens e) (sym (g .before .before .standing .ensures .0) ∙ not-true _ (g .if1 .taken))))
 
+slice-aggregate-admitted-step : tie.Need-slice-aggregate-admitted-step
+slice-aggregate-admitted-step c = search needs
+
 admitted-step-requires : tie.Need-admitted-step-requires
 admitted-step-requires c κs =
-    let g = c .before .before .before in
-    let e = g .before in
-    let d = e .before .before .before .before .before .before in
-    (handed.plan-passes (d .args .plan .now) (d .args .cells .now) (d .args .size) (opens e), g .standing .ensures .1)
+    let g = c .before .before .before .before in
+    let f = g .before .before in
+    (plan-passes (f .before), f .transaction-places .ensures, g .standing .ensures .1)
 
 same-length-3 : tie.Need-same-length-3
 same-length-3 c = search needs
 
 returns-3 : tie.Need-returns-3
 returns-3 c = λ queue l q.
-    let g = c .before .before .before .before in
-    let e = g .before .before .before in
+    let g = c .before .before .before .before .before in
+    let e = g .before .before .before .before .before in
     let d = e .before .before .before .before .before .before in
     c .before .before .admitted-step .ensures queue l
     ∙ sym (left-by-verdict (d .args .plan .now) (d .args .state) (d .args .cells .now) queue (d .args .request) _
@@ -97,10 +108,13 @@ request-core-spec =
     same-length
     returns
     enum-told
+    transaction-places-requires
+    slice-aggregate-standing
     standing-requires
     unchanged-step-requires-2
     same-length-2
     returns-2
+    slice-aggregate-admitted-step
     admitted-step-requires
     same-length-3
     returns-3)
