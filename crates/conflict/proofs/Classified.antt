@@ -13,7 +13,7 @@ use Rattle.plan.specs.Admission.{planVerdict, accepted, refused}
 use Rattle.plan.specs.Place.{StandsAt, transactionPlace, transactionFrom}
 use Rattle.plan.proofs.Accepted.{transaction-count, desk-count}
 use Rattle.plan.proofs.Places.{stands-at, transaction-is}
-use Rattle.operation.specs.Operation.{operation, deskBy}
+use Rattle.operation.specs.Operation.{deskBy}
 use Rattle.operation.specs.Admission.{transactionExists, parametersPass, operationVerdict}
 use Rattle.conflict.specs.Class.{Class, classBy}
 use Rattle.conflict.specs.Answer.{isRefused, withDesk, classifyResult}

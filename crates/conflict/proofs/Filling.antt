@@ -1,17 +1,17 @@
 -- The table while the plan is walked: what is in it, joined with what is still to come, is the mask of each cell.
 -- Assumes nothing.
-use mathlib.Core.Path.{_≡_, refl, _∙_, sym, ap, fun-ext, subst}
-use mathlib.Core.Bool.{Bool, true, false, _||_, _&&_, or-assoc}
-use mathlib.Core.List.{List, [], _∷_, _++_, map}
+use mathlib.Core.Path.{_≡_, _∙_, sym, ap, subst}
+use mathlib.Core.Bool.{true, _||_, or-assoc}
+use mathlib.Core.List.{List, [], _∷_, map}
 use mathlib.Core.Logic.{_⊎_, inl, inr, ⊎-elim}
-use Prim.Native.Nat.{ℕ, zero, suc, _+_, _-_, _≤_, _<_}
-use native.Mathlib.Nat.{le-of-suc-le-suc, sub-zero, not-suc-le-zero, eq-or-lt-of-le}
+use Prim.Native.Nat.{ℕ, suc, _+_, _-_, _≤_, _<_}
+use native.Mathlib.Nat.{le-of-suc-le-suc, sub-zero}
 use native.Mathlib.Numerals.{add-one}
 use native.Mathlib.Omega.{arith}
 use lib.Bits.{bitOr, or-zero-r, or-zero-l}
-use lib.Dec.{leb, ltb}
-use lib.ListN.{length, getD, take, drop, drop-of-length-le, replicate, length-replicate, getD-replicate, length-append, List·getD-append}
-use lib.Seq.{drop-cons, ext-getD, getD-append-seam}
+use lib.Dec.{leb}
+use lib.ListN.{length, getD, take, drop, drop-of-length-le, replicate, length-replicate, getD-replicate}
+use lib.Seq.{drop-cons}
 use borrow.Author.Tests.{leb-true}
 use Rattle.word.specs.Field.{stepCount, partitioningField, headDesks, headTransactions}
 use Rattle.plan.specs.Plan.{Partitioning}

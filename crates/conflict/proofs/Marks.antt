@@ -1,22 +1,20 @@
 -- One step's cells, joined row by row into the table.
 -- Assumes nothing.
 use mathlib.Core.Path.{_≡_, refl, _∙_, sym, ap, ap₂}
-use mathlib.Core.Bool.{Bool, true, false, _||_, _&&_, cond, and-false}
-use mathlib.Core.List.{List, [], _∷_}
-use mathlib.Core.Logic.{_⊎_, inl, inr, ⊎-elim}
-use Prim.Native.Nat.{ℕ, zero, suc, _+_, _*_, _/_, _%_, _≤_, _<_}
+use mathlib.Core.Bool.{Bool, true, false, _&&_, and-false}
+use mathlib.Core.List.{List}
+use mathlib.Core.Logic.{_⊎_, ⊎-elim}
+use Prim.Native.Nat.{ℕ, _+_, _*_, _/_, _%_, _≤_, _<_}
 use native.Mathlib.Decide.{ℕ-discrete}
 use native.Mathlib.Omega.{arith}
 use lib.Bits.{bitOr, or-zero-r}
-use lib.Dec.{ltb, leb, eqb}
+use lib.Dec.{ltb, eqb}
 use lib.ListN.{length, getD, set, length-set}
 use lib.Seq.{getD-set-same, getD-set-other}
 use borrow.Author.Tests.{eq-eqb, lt-ltb, le-ltb, le-leb, lt-leb, eqb-true, eqb-false}
 use Rattle.word.specs.Field.{kindOf, tableField, columnField}
 use Rattle.plan.specs.Plan.{Partitioning}
-use Rattle.plan.specs.Decode.{accessBy, stepOf, rowOf}
-use Rattle.plan.specs.Admission.{stepFormed}
-use Rattle.plan.proofs.Words.{step-kind-low}
+use Rattle.plan.specs.Decode.{stepOf, rowOf}
 use Rattle.plan.proofs.Places.{lt-or-ge}
 use Rattle.conflict.specs.Mask.{maskOf}
 use Rattle.conflict.specs.Touch.{rowTouched, cellTouched, stepTouches, Joined}

@@ -1,13 +1,13 @@
 -- Masks of desks as numbers: `|` joins them.
 -- Assumes nothing.
-use mathlib.Core.Path.{_≡_, refl, _∙_, sym, ap, ap₂, fun-ext, subst}
-use mathlib.Core.Bool.{Bool, true, false, _||_, _&&_, false≢true}
-use mathlib.Core.Logic.{_⊎_, inl, inr, ⊎-elim}
+use mathlib.Core.Path.{_≡_, refl, _∙_, sym, ap, ap₂, fun-ext}
+use mathlib.Core.Bool.{Bool, true, false, _||_}
+use mathlib.Core.Logic.{_⊎_, inl, inr}
 use Prim.Native.Nat.{ℕ, zero, suc, _+_, _-_, _*_, _/_, _%_, _^_, _<_, max}
 use native.Mathlib.Nat.{pow-suc, zero-mul, not-suc-le-zero, le-of-suc-le-suc, eq-or-lt-of-le, add-comm, mul-assoc, add-mul-div-right}
 use native.Mathlib.Omega.{arith}
-use lib.Arith.{bin-ind, digits-mod, digits-div}
-use lib.Bits.{bitOr, or-step, or-zero-l, or-zero-r, or-self, or-block, or-shr}
+use lib.Arith.{bin-ind}
+use lib.Bits.{bitOr, or-step, or-zero-l, or-zero-r, or-self, or-block}
 use lib.Pow.{pow-pos, pow-add, high}
 use Rattle.conflict.specs.Mask.{bit, maskOf}
 

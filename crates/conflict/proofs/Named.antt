@@ -1,22 +1,22 @@
 -- The cells that a transaction's steps name, as the walk over its words meets them.
 -- Assumes nothing.
 use mathlib.Core.Path.{_≡_, refl, _∙_, sym, ap}
-use mathlib.Core.Bool.{Bool, true, false, _&&_, _||_, cond}
-use mathlib.Core.List.{List, [], _∷_}
+use mathlib.Core.Bool.{Bool, true, false, _&&_, _||_}
+use mathlib.Core.List.{List, _∷_}
 use Prim.Native.Nat.{ℕ, _+_, _≤_, _<_}
 use native.Mathlib.Omega.{arith}
 use lib.Count.{ones}
 use lib.Dec.{leb, eqb}
 use lib.ListN.{getD}
-use borrow.Author.Tests.{eqb-true, eqb-false, leb-true, leb-false, eq-eqb, ne-eqb, le-leb, lt-leb}
+use borrow.Author.Tests.{eqb-true, eqb-false, leb-true, leb-false, eq-eqb, ne-eqb, le-leb}
 use Rattle.word.specs.Field.{kindOf, stepCount, tableField, columnField}
-use Rattle.plan.specs.Plan.{Access, reads, writes, Step}
+use Rattle.plan.specs.Plan.{reads, writes, Step}
 use Rattle.plan.specs.Decode.{accessBy, stepOf, rowOf}
 use Rattle.plan.specs.Admission.{every, stepFormed}
 use Rattle.plan.specs.Place.{StandsAt, transactionFrom}
 use Rattle.plan.proofs.Bool.{and-snd}
 use Rattle.plan.proofs.Words.{step-kind-low}
-use Rattle.plan.proofs.Steps.{stepsFrom, steps-all, steps-none, steps-cons, step-formed, every-step}
+use Rattle.plan.proofs.Steps.{stepsFrom, steps-none, steps-cons, step-formed, every-step}
 use Rattle.operation.specs.Operation.{sameAccess, valueOf, cellNumber, cellsNamed}
 use Rattle.operation.specs.Admission.{rowInRange, parametersPass, unusedZero}
 use Rattle.operation.proofs.StepKinds.{row-bound}

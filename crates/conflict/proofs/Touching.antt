@@ -1,21 +1,21 @@
 -- The computed test of touching says just what the papers say: some operation of that desk may access the cell.
 -- Assumes nothing.
 use mathlib.Core.Path.{_≡_, refl, _∙_, sym, ap, subst}
-use mathlib.Core.Bool.{Bool, true, false, _&&_, cond, false≢true}
+use mathlib.Core.Bool.{Bool, true, false, cond, false≢true}
 use mathlib.Core.List.{List, List·Memᴰ}
-use Prim.Native.Nat.{ℕ, _+_, _*_, _/_, _%_, _^_, _≤_, _<_}
+use Prim.Native.Nat.{ℕ, _/_, _%_, _≤_, _<_}
 use native.Mathlib.Nat.{mod-lt}
 use native.Mathlib.Omega.{arith}
 use lib.Dec.{ltb, eqb}
 use lib.ListN.{length, getD}
-use borrow.Author.Tests.{eq-eqb, lt-ltb, eqb-true, ltb-true, leb-true}
+use borrow.Author.Tests.{eq-eqb, lt-ltb, eqb-true, leb-true}
 use Rattle.word.specs.Field.{headTransactions}
 use Rattle.plan.specs.Plan.{Source, param, fixed, Access, Step, cell, operand, Partitioning, byParam, unpartitioned, Transaction, Plan}
 use Rattle.plan.specs.Plan.{noTransaction, transactionAt}
 use Rattle.plan.specs.Decode.{planOf, headOf}
-use Rattle.plan.specs.Admission.{every, accepted, planVerdict, parametersExist, partExists, stepExists, sourceExists}
-use Rattle.plan.specs.Place.{transactionFrom, transactionPlace}
-use Rattle.plan.proofs.Bool.{and-fst, and-snd, and-true}
+use Rattle.plan.specs.Admission.{accepted, planVerdict, parametersExist, partExists, stepExists, sourceExists}
+use Rattle.plan.specs.Place.{transactionPlace}
+use Rattle.plan.proofs.Bool.{and-fst, and-snd}
 use Rattle.plan.proofs.Every.{every-index, every-member}
 use Rattle.plan.proofs.Accepted.{accepted-gives, all-named, transaction-count, desk-count}
 use Rattle.plan.proofs.Places.{stands-at, transaction-is}

@@ -20,7 +20,7 @@ use Rattle.conflict.specs.Mask.{some}
 use Rattle.conflict.specs.Touch.{rowTouched}
 use Rattle.conflict.specs.Written.{rowGiven, cellGiven, stepWrites, written}
 use Rattle.conflict.proofs.Some.{member-some, some-member, index-some, some-index}
-use Rattle.conflict.proofs.Touching.{CellStep, Sound, sound-at, made, cell-parts, value-low, some-desk, few-desks}
+use Rattle.conflict.proofs.Touching.{CellStep, sound-at, made, cell-parts, value-low, some-desk, few-desks}
 
 -- ---- a row that is given is given at some desk
 

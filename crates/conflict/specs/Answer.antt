@@ -1,11 +1,9 @@
 -- What the classifier answers, in the paper's classes, desks and numbers.
 use Prim.Native.Nat.{ℕ}
-use mathlib.Core.Bool.{cond}
 use mathlib.Core.List.{List}
-use Rattle.plan.specs.Plan.{Plan}
 use Rattle.plan.specs.Decode.{planOf}
 use Rattle.plan.specs.Admission.{Verdict, accepted, refused, planVerdict}
-use Rattle.operation.specs.Operation.{Operation, operation, deskOf}
+use Rattle.operation.specs.Operation.{operation, deskOf}
 use Rattle.operation.specs.Admission.{operationVerdict}
 use Rattle.conflict.specs.Class.{Class, free, local, global, classOf}
 use Rattle.conflict.specs.declared.class.Class as code

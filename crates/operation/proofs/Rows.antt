@@ -1,13 +1,13 @@
 -- Question 8 along the steps of a transaction: what is still to be asked is the whole answer.
 -- Assumes nothing.
-use mathlib.Core.Path.{_≡_, refl, _∙_, sym, ap}
-use mathlib.Core.Bool.{Bool, true, false, _&&_}
+use mathlib.Core.Path.{_≡_, _∙_}
+use mathlib.Core.Bool.{true, false, _&&_}
 use mathlib.Core.List.{List}
 use Prim.Native.Nat.{ℕ, _+_, _≤_, _<_}
 use lib.ListN.{getD}
 use Rattle.word.specs.Field.{parameterCount, stepCount}
 use Rattle.plan.specs.Decode.{stepOf}
-use Rattle.plan.specs.Admission.{every, stepFormed}
+use Rattle.plan.specs.Admission.{every}
 use Rattle.plan.specs.Place.{StandsAt, transactionFrom}
 use Rattle.plan.proofs.Steps.{stepsFrom, steps-all, steps-none, steps-cons}
 use Rattle.operation.specs.Admission.{parametersPass, unusedZero, rowInRange}

@@ -5,7 +5,7 @@ use mathlib.Core.Bool.{Bool, true, _&&_, cond}
 use mathlib.Core.List.{List}
 use lib.ListN.{length, getD, drop}
 use lib.Dec.{ltb, leb, eqb}
-use Rattle.plan.specs.Plan.{Source, param, fixed, Step, cell, operand, Transaction, Plan}
+use Rattle.plan.specs.Plan.{param, fixed, Step, cell, operand, Transaction, Plan}
 use Rattle.plan.specs.Admission.{every, Verdict, accepted, refused}
 use Rattle.operation.specs.Operation.{Operation, transactionOf}
 

@@ -4,7 +4,7 @@ use mathlib.Core.Bool.{Bool, true, false, cond}
 use mathlib.Core.List.{List, [], _∷_, _++_}
 use lib.ListN.{getD, set}
 use lib.Dec.{leb}
-use Rattle.plan.specs.Plan.{Access, reads, writes, Action, sets, adds, needs, takes, Step, cell, operand, Transaction, Plan}
+use Rattle.plan.specs.Plan.{reads, writes, Action, sets, adds, needs, takes, Step, cell, operand, Transaction, Plan}
 use Rattle.operation.specs.Operation.{Operation, transactionOf, valueOf, cellNumber}
 
 -- "A book is 1,024 words, one per cell."

@@ -2,7 +2,7 @@
 -- Assumes nothing.
 use mathlib.Core.Path.{_≡_, refl, _∙_, sym, ap, ap₂}
 use mathlib.Core.List.{List, _++_, map}
-use Prim.Native.Nat.{ℕ, _+_, _-_, _*_, _%_, _≤_}
+use Prim.Native.Nat.{ℕ, _+_, _-_, _%_, _≤_}
 use native.Mathlib.Omega.{arith}
 use lib.ListN.{length, take, drop, length-take, length-drop}
 use lib.Seq.{length-take-le}
@@ -10,7 +10,7 @@ use Rattle.plan.specs.Decode.{planOf}
 use Rattle.plan.specs.Admission.{accepted}
 use Rattle.plan.proofs.Accepted.{accepted-gives, desk-count}
 use Rattle.operation.specs.Run.{Store}
-use Rattle.token.specs.Frame.{SentUpdate, sent, updatesWords, frameAround, overwritten}
+use Rattle.token.specs.Frame.{sent, updatesWords, frameAround, overwritten}
 use Rattle.token.specs.Admission.{frameVerdict, frameVisit, updatesPart, updatesFrom, frameUpdates}
 use Rattle.token.specs.Forward.{foreign, applyAll, foreignWords}
 use Rattle.token.specs.WellFormed.{WellFormed}

@@ -1,21 +1,19 @@
 -- The updates that waiting requests make: one for each, and what a frame must have of them.
 -- Assumes nothing.
-use mathlib.Core.Path.{_≡_, refl, _∙_, sym, ap, subst}
-use mathlib.Core.Bool.{true, _&&_}
-use mathlib.Core.List.{List, [], _∷_, map, List·Memᴰ}
-use Prim.Native.Nat.{ℕ, _≤_, _<_}
+use mathlib.Core.Path.{_≡_, refl, subst}
+use mathlib.Core.Bool.{true}
+use mathlib.Core.List.{List, [], _∷_, map}
+use Prim.Native.Nat.{ℕ, _<_}
 use native.Mathlib.Omega.{arith}
-use lib.Dec.{ltb}
-use lib.ListN.{length, getD, drop}
+use lib.ListN.{length}
 use borrow.Author.Tests.{lt-ltb, le-leb}
-use Rattle.word.specs.Field.{parameterCount}
 use Rattle.plan.specs.Plan.{Plan, writes}
 use Rattle.plan.specs.Decode.{planOf}
 use Rattle.plan.specs.Admission.{every, planVerdict, accepted}
 use Rattle.plan.specs.Place.{transactionPlace, transactionFrom}
 use Rattle.plan.proofs.Bool.{and-fst, and-snd, and-true}
 use Rattle.plan.proofs.Every.{member-every}
-use Rattle.operation.specs.Admission.{unusedZero, rowInRange, parametersPass}
+use Rattle.operation.specs.Admission.{unusedZero, parametersPass}
 use Rattle.operation.specs.Run.{Store, Outcome, applyUpdate, run, runTransaction}
 use Rattle.operation.proofs.Bounds.{cells-low, transaction-fits}
 use Rattle.operation.proofs.Runs.{update-few, writes-within}

@@ -1,7 +1,7 @@
 -- Waiting requests run one after another: the store, the updates' words and the replies' words, with what is still to run.
 -- Assumes nothing.
 use mathlib.Core.Path.{_≡_, refl, _∙_, sym, ap}
-use mathlib.Core.List.{List, [], _∷_, _++_, map}
+use mathlib.Core.List.{List, [], _∷_, _++_}
 use Prim.Native.Nat.{ℕ, suc, _+_, _-_, _*_, _≤_, _<_}
 use native.Mathlib.Numerals.{add-one}
 use native.Mathlib.Omega.{arith}
@@ -9,7 +9,7 @@ use lib.ListN.{length, getD, take, drop, length-append, drop-of-length-le}
 use lib.Seq.{drop-cons}
 use Rattle.plan.specs.Plan.{Plan}
 use Rattle.operation.specs.Run.{Store, applyUpdate, run}
-use Rattle.token.specs.Frame.{sent, updatesWords, overwritten}
+use Rattle.token.specs.Frame.{updatesWords, overwritten}
 use Rattle.token.proofs.Filling.{Filling, fill-none, fill-size, fill-length, fill-same, fill-part, fill-done}
 use Rattle.queue.specs.Queue.{noRequest}
 use Rattle.queue.specs.declared.record.Request.{Request}

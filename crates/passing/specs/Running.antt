@@ -8,7 +8,7 @@ use Rattle.plan.specs.Plan.{Plan}
 use Rattle.plan.specs.Decode.{planOf}
 use Rattle.plan.specs.Admission.{every, planVerdict, accepted}
 use Rattle.operation.specs.Admission.{operationVerdict}
-use Rattle.operation.specs.Run.{Store, Outcome, applyUpdate, run}
+use Rattle.operation.specs.Run.{Store, applyUpdate, run}
 use Rattle.token.specs.Frame.{sent, updateWords, updatesWords, overwritten}
 use Rattle.queue.specs.declared.record.Request.{Request}
 use Rattle.desk.specs.Queueing.{operationOf}

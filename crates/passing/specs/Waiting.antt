@@ -1,6 +1,6 @@
 -- Waiting requests run one after another, each on the store as the one before left it.
 use Prim.Native.Nat.{ℕ, _+_, _*_, _^_}
-use mathlib.Core.Bool.{Bool, true, false, cond}
+use mathlib.Core.Bool.{Bool, cond}
 use mathlib.Core.List.{List, [], _∷_, _++_}
 use Rattle.plan.specs.Plan.{Plan}
 use Rattle.operation.specs.Run.{Store, Update, Reply, applyUpdate, run}

@@ -1,14 +1,14 @@
 -- What an accepted plan gives: each question's yes.
 -- Assumes nothing.
 use mathlib.Core.Path.{_≡_, refl, ap}
-use mathlib.Core.Bool.{Bool, true, false, _&&_, cond, false≢true}
+use mathlib.Core.Bool.{Bool, true, false, cond, false≢true}
 use mathlib.Core.List.{List, [], _∷_}
 use Prim.Native.Nat.{ℕ, zero, suc, _≤_}
 use native.Mathlib.Omega.{arith}
 use lib.Dec.{leb}
 use lib.ListN.{length, take, drop}
 use borrow.Author.Tests.{leb-true}
-use Rattle.word.specs.Field.{kindOf, headDesks, headTransactions, headWords, stepCount}
+use Rattle.word.specs.Field.{headDesks, headTransactions, stepCount}
 use Rattle.plan.specs.Decode.{headOf, transactionsOf, planOf}
 use Rattle.plan.specs.Admission.{Verdict, accepted, refused, hasHead, countsInRange, wellFormed, transactionFormed, stepFormed}
 use Rattle.plan.specs.Admission.{every}

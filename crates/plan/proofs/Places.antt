@@ -1,8 +1,8 @@
 -- Transaction k of an accepted plan stands whole at its place, and decodes to entry k.
 -- Assumes nothing.
 use mathlib.Core.Path.{_≡_, refl, _∙_, sym, ap}
-use mathlib.Core.Bool.{Bool, true, false, _&&_, false≢true}
-use mathlib.Core.List.{List, [], _∷_}
+use mathlib.Core.Bool.{Bool, true, false, false≢true}
+use mathlib.Core.List.{List, _∷_}
 use Prim.Native.Nat.{ℕ, zero, suc, _+_, _-_, _≤_, _<_}
 use native.Mathlib.Nat.{sub-zero, add-zero}
 use native.Mathlib.Numerals.{add-one}
@@ -14,7 +14,7 @@ use lib.Seq.{drop-cons, drop-drop, getD-drop}
 use borrow.Author.Tests.{leb-true, ltb-true, ltb-false}
 use Rattle.word.specs.Field.{stepCount, headTransactions}
 use Rattle.plan.specs.Plan.{Transaction, noTransaction, transactionAt}
-use Rattle.plan.specs.Decode.{transactionsOf, transactionOf, planOf, headOf}
+use Rattle.plan.specs.Decode.{transactionsOf, planOf, headOf}
 use Rattle.plan.specs.Admission.{wellFormed, transactionFormed, stepFormed, every, planVerdict, accepted}
 use Rattle.plan.specs.Place.{transactionPlace, transactionFrom, StandsAt}
 use Rattle.plan.proofs.Bool.{and-fst, and-snd}

@@ -1,13 +1,12 @@
 -- What the questions say of a well-formed step's word, by its fields.
 -- Assumes nothing.
 use mathlib.Core.Path.{_≡_, refl}
-use mathlib.Core.Bool.{Bool, true, false, _&&_, _||_, cond}
+use mathlib.Core.Bool.{Bool, true, false, _||_}
 use Prim.Native.Nat.{ℕ, _≤_}
-use native.Mathlib.Omega.{arith}
 use lib.Dec.{ltb, leb, eqb}
-use borrow.Author.Tests.{leb-true, leb-false, le-leb, le-ltb}
+use borrow.Author.Tests.{leb-true, le-leb, le-ltb}
 use Rattle.word.specs.Field.{kindOf, parameterCount, stepCount, rowSource, fixedRow, operandSource, fixedNumber}
-use Rattle.word.specs.Reserved.{sourceField, reservedZero}
+use Rattle.word.specs.Reserved.{sourceField}
 use Rattle.plan.specs.Decode.{sourceBy, stepOf}
 use Rattle.plan.specs.Admission.{transactionFormed, stepFormed, sourceExists, stepExists}
 use Rattle.plan.proofs.Bool.{and-fst, and-snd}

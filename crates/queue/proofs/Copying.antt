@@ -14,7 +14,7 @@ use mathlib.Core.List.{List, _++_, append-nil}
 use lib.Dec.{ltb}
 use lib.ListN.{length, getD, set, take, replicate, length-replicate, length-append, List·getD-append, List·getD-eq-default}
 use lib.ListN.{getD-replicate}
-use lib.Seq.{paste, paste-zero, paste-suc, length-paste, getD-take, getD-append-add, length-take-le, take-append-le, take-all}
+use lib.Seq.{paste, paste-zero, paste-suc, length-paste, getD-append-add, take-append-le, take-all}
 use borrow.Author.Tests.{ltb-true, ltb-false}
 use Rattle.queue.specs.declared.record.Request.{Request}
 use Rattle.queue.specs.Queue.{noRequest, recordAt, recordsOf}

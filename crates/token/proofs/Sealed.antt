@@ -2,12 +2,12 @@
 -- Assumes nothing.
 use mathlib.Core.Path.{_≡_, _∙_, sym, ap}
 use mathlib.Core.List.{List, [], _∷_, _++_}
-use Prim.Native.Nat.{ℕ, _+_, _-_, _%_, _≤_}
+use Prim.Native.Nat.{ℕ, _+_, _-_, _≤_}
 use native.Mathlib.Nat.{not-suc-le-zero}
 use native.Mathlib.Omega.{arith}
 use lib.ListN.{length, set, take, drop, length-take, length-drop, take-append-drop}
 use lib.Seq.{take-at}
-use Rattle.token.specs.Frame.{SentUpdate, updatesWords, frameHead, sumsOf, sealed, frameAround, frameWords, overwritten, sealedAt}
+use Rattle.token.specs.Frame.{frameHead, sumsOf, sealed, frameAround, overwritten}
 use Rattle.token.proofs.Written.{write-two}
 
 -- two words in front of those that stand there already

@@ -6,7 +6,7 @@ use native.Mathlib.Omega.{arith}
 use lib.ListN.{length, getD}
 use borrow.Author.Tests.{eq-eqb, ne-eqb}
 use Rattle.word.specs.Field.{stepCount}
-use Rattle.plan.specs.Place.{StandsAt, transactionFrom}
+use Rattle.plan.specs.Place.{transactionFrom}
 use Rattle.plan.proofs.Steps.{stepsFrom, steps-all, step-here}
 use Rattle.conflict.specs.Mask.{some}
 use Rattle.conflict.specs.Class.{isWrite}

@@ -8,7 +8,6 @@ use Rattle.plan.specs.Decode.{planOf}
 use Rattle.conflict.specs.Touch.{deskMask}
 use Rattle.plan.proofs.Tables.{length-tabulate}
 use Rattle.conflict.proofs.Tabled.{global-tabled}
-use borrow.Author.Needs.{needs}
 use Rattle.conflict.proofs.class.is_global.Statement.{statement}
 use Rattle.conflict.proofs.class.is_global.Tie as tie
 

@@ -2,13 +2,13 @@
 -- Assumes nothing.
 use mathlib.Core.Path.{_≡_, refl, _∙_, sym, ap}
 use mathlib.Core.List.{List}
-use Prim.Native.Nat.{ℕ, _+_, _-_, _<_, _≤_}
+use Prim.Native.Nat.{_+_, _-_, _<_, _≤_}
 use native.Mathlib.Omega.{arith}
 use lib.ListN.{length, getD}
-use Rattle.word.specs.Field.{kindOf, stepCount}
+use Rattle.word.specs.Field.{stepCount}
 use Rattle.plan.specs.Plan.{writes, Step}
 use Rattle.plan.specs.Decode.{rowOf}
-use Rattle.plan.specs.Place.{StandsAt, transactionFrom}
+use Rattle.plan.specs.Place.{transactionFrom}
 use Rattle.plan.proofs.Steps.{stepsFrom, steps-all, step-here}
 use Rattle.operation.specs.Operation.{valueOf, cellsNamed}
 use Rattle.conflict.specs.Class.{oneDeskEach}

@@ -1,7 +1,6 @@
 -- The mask of a row: each answer is the law of its partitioning and source.
 -- Assumes nothing.
-use Prim.Native.Nat.{_≤_, _<_, _%_}
-use mathlib.Core.Path.{_∙_, sym}
+use mathlib.Core.Path.{_∙_}
 use native.Mathlib.Nat.{mod-lt}
 use native.Mathlib.Omega.{arith}
 use borrow.Author.Tests.{eq-eqb, ne-eqb}

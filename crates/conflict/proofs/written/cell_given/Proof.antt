@@ -1,6 +1,5 @@
 -- Whether a step's cell can be this one: table, column and row are asked in turn.
 -- Assumes nothing.
-use mathlib.Core.Bool.{and-false}
 use borrow.Author.Tests.{eq-eqb, ne-eqb}
 use Rattle.conflict.specs.Written.{cellGiven}
 use Rattle.conflict.proofs.written.cell_given.Statement.{statement}

@@ -3,17 +3,17 @@
 use mathlib.Core.Path.{_≡_, refl, _∙_, sym, ap}
 use mathlib.Core.Bool.{_||_}
 use mathlib.Core.List.{List}
-use Prim.Native.Nat.{ℕ, _+_, _-_, _<_, _≤_}
+use Prim.Native.Nat.{_+_, _-_, _<_}
 use native.Mathlib.Omega.{arith}
 use lib.ListN.{length, getD}
-use Rattle.word.specs.Field.{kindOf, stepCount, tableField, columnField}
+use Rattle.word.specs.Field.{stepCount}
 use Rattle.plan.specs.Plan.{reads, Step}
-use Rattle.plan.specs.Decode.{stepOf, rowOf}
-use Rattle.plan.specs.Place.{StandsAt, transactionFrom}
+use Rattle.plan.specs.Decode.{stepOf}
+use Rattle.plan.specs.Place.{transactionFrom}
 use Rattle.plan.proofs.Steps.{stepsFrom, steps-all, step-here}
-use Rattle.operation.specs.Operation.{valueOf, cellsNamed}
+use Rattle.operation.specs.Operation.{cellsNamed}
 use Rattle.conflict.specs.Mask.{some}
-use Rattle.conflict.specs.Written.{cellGiven, stepWrites}
+use Rattle.conflict.specs.Written.{stepWrites}
 use Rattle.conflict.proofs.Named.{row-passes, read-found, read-other, read-done}
 use Rattle.conflict.proofs.WriteWords.{writes-here}
 use borrow.Author.Needs.{needs}

@@ -1,9 +1,7 @@
 -- Question 7: an accepted plan has as many transactions as its head says.
 -- Assumes nothing.
 use mathlib.Core.Path.{ap, sym}
-use Prim.Native.Nat.{ℕ}
 use lib.Dec.{ltb}
-use Rattle.plan.specs.Decode.{planOf}
 use Rattle.plan.proofs.Accepted.{accepted-gives, transaction-count}
 use Rattle.operation.specs.Admission.{transactionExists}
 use Rattle.operation.proofs.admission.transaction_exists.Statement.{statement}

@@ -4,7 +4,7 @@ use mathlib.Core.Path.{_≡_, _∙_, ap}
 use native.Mathlib.Omega.{arith}
 use lib.ListN.{length}
 use Rattle.plan.specs.Decode.{planOf}
-use Rattle.operation.specs.Answer.{outcomeOf, updateOf}
+use Rattle.operation.specs.Answer.{outcomeOf}
 use Rattle.operation.specs.Run.{Outcome, run, applyUpdate}
 use Rattle.token.specs.Frame.{sent, updateWords, overwritten}
 use Rattle.desk.specs.Queueing.{operationOf}

@@ -3,14 +3,13 @@
 use mathlib.Core.Path.{_≡_, refl, _∙_, sym, ap}
 use Prim.Native.Nat.{_+_, _-_, _*_, _≤_, _<_}
 use native.Mathlib.Omega.{arith}
-use lib.ListN.{length, take, drop, length-drop, getD}
+use lib.ListN.{length, take, length-drop, getD}
 use lib.Seq.{length-take-le, getD-take}
 use Rattle.plan.specs.Decode.{planOf}
 use Rattle.plan.proofs.Every.{every-index}
 use Rattle.plan.proofs.Placing.{places-long}
 use Rattle.token.proofs.Filling.{fill-length}
 use Rattle.queue.specs.Queue.{noRequest}
-use Rattle.queue.specs.declared.record.Request.{Request}
 use Rattle.desk.specs.Admission.{Admitted}
 use Rattle.desk.proofs.Asked.{below-32, there, place-looked-up, operation-admitted}
 use Rattle.passing.specs.Running.{AllRun, isOperation, madeWords}

@@ -6,7 +6,7 @@ use native.Mathlib.Omega.{arith}
 use lib.ListN.{length, getD}
 use Rattle.word.specs.Field.{stepCount, headTransactions}
 use Rattle.plan.specs.Decode.{headOf}
-use Rattle.plan.specs.Place.{transactionPlace, StandsAt}
+use Rattle.plan.specs.Place.{transactionPlace}
 use Rattle.plan.proofs.Accepted.{accepted-gives}
 use Rattle.plan.proofs.Places.{place-next, stands-at}
 use Rattle.plan.proofs.Placing.{Placing, placing-none, placing-more, placing-done}

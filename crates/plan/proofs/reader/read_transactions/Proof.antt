@@ -2,11 +2,11 @@
 -- Assumes nothing.
 use mathlib.Core.Path.{_≡_, _∙_, sym, ap, ap₂}
 use mathlib.Core.Bool.{Bool, true, cond}
-use Prim.Native.Nat.{_+_, _-_, _<_, _≤_}
+use Prim.Native.Nat.{_-_, _<_}
 use borrow.Author.Tests.{not-true, not-false}
 use mathlib.Core.Logic.{⊎-elim}
 use native.Mathlib.Omega.{arith}
-use lib.ListN.{length, getD, drop}
+use lib.ListN.{length, drop}
 use Rattle.plan.specs.Admission.{transactionsVerdict, accepted, refused, transactionFormed, stepFormed}
 use Rattle.plan.proofs.Rest.{there, stands, restAt, restInAt, walk-start, tx-fault, tx-step, end-more, end-done, step-fault}
 use Rattle.plan.proofs.Rest.{step-step, steps-done}

@@ -1,6 +1,6 @@
 -- Questions 7 and 8, and the route: each arm is the branch of the definition for its answer.
 -- Assumes nothing.
-use mathlib.Core.Path.{_≡_, _∙_, sym, ap}
+use mathlib.Core.Path.{_∙_, sym, ap}
 use Rattle.plan.specs.Decode.{planOf}
 use Rattle.plan.specs.Admission.{Verdict}
 use Rattle.plan.specs.Place.{transactionPlace}

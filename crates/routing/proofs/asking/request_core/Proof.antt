@@ -1,12 +1,9 @@
 -- The request: refused with the number of the first question whose answer is no, or left as its route leaves it.
 -- Assumes nothing.
 use mathlib.Core.Path.{_≡_, _∙_, sym, ap}
-use mathlib.Core.Bool.{true}
 use borrow.Author.Tests.{not-true, not-false}
-use Rattle.plan.specs.Decode.{planOf}
 use Rattle.plan.specs.Admission.{planVerdict, accepted}
 use Rattle.plan.specs.Answer.{verdictOf}
-use Rattle.desk.specs.Admission.{deskStands}
 use Rattle.routing.specs.Step.{openingVerdict}
 use Rattle.routing.proofs.Handed.{opening-refused, desk-unfit, by-operation}
 use Rattle.routing.proofs.Handed as handed

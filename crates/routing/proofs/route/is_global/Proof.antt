@@ -2,8 +2,6 @@
 -- Assumes nothing.
 use mathlib.Core.Path.{_≡_, _∙_, sym, ap}
 use mathlib.Core.Bool.{true}
-use Prim.Native.Nat.{ℕ}
-use mathlib.Core.List.{List}
 use borrow.Author.Tests.{not-true}
 use Rattle.plan.specs.Decode.{planOf}
 use Rattle.plan.specs.Place.{StandsAt, transactionFrom}
