@@ -4,10 +4,10 @@ use crate::draws::draw_word;
 use crate::steps::append;
 use crate::world::PLAN;
 use crate::world::PLAN_WORDS;
-use model::add;
-use model::get;
-use model::part;
-use model::put;
+use words::add;
+use words::get;
+use words::part;
+use words::put;
 
 // The word with one bit set.
 fn bit(b: u32) -> u32 {

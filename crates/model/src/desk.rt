@@ -7,9 +7,9 @@ use crate::class::class_of;
 use crate::decode::desks_of;
 use crate::run::apply;
 use crate::run::run;
-use crate::words::add;
-use crate::words::get;
-use crate::words::put;
+use words::add;
+use words::get;
+use words::put;
 
 pub const REPLIED: u32 = 4;
 

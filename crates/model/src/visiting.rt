@@ -14,13 +14,13 @@ use crate::frame::update_desk;
 use crate::run::apply;
 use crate::run::run;
 use crate::run::write_update;
-use crate::words::add;
-use crate::words::get;
-use crate::words::narrow;
-use crate::words::next;
-use crate::words::part;
-use crate::words::put;
-use crate::words::remainder;
+use words::add;
+use words::get;
+use words::narrow;
+use words::next;
+use words::part;
+use words::put;
+use words::remainder;
 
 pub const PASSED: u32 = 7;
 

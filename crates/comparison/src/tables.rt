@@ -1,0 +1,35 @@
+// The model's tables, which lie in the world between the generator's words and the sides, and what they say of the operation at hand.
+use crate::side::ENGINE;
+use generator::world::PARAMS;
+use generator::world::TRANSACTION;
+use generator::world::WORLD;
+use generator::world::params_at;
+use model::Class;
+use words::get;
+
+// The tables, to be read.
+pub fn tables_of(world: &[u32]) -> &[u32] {
+    if ENGINE <= world.len() {
+        &world[WORLD..ENGINE]
+    } else {
+        &world[..0]
+    }
+}
+
+// The tables, to be written.
+pub fn tables_in(world: &mut [u32]) -> &mut [u32] {
+    if ENGINE <= world.len() {
+        &mut world[WORLD..ENGINE]
+    } else {
+        &mut world[..0]
+    }
+}
+
+// The class of the operation at hand.
+pub fn class_at_hand(world: &[u32]) -> Class {
+    model::class_of(
+        tables_of(world),
+        get(world, TRANSACTION),
+        params_at(world, PARAMS),
+    )
+}
