@@ -7,10 +7,12 @@ use generator::world::params_at;
 use model::Class;
 use words::get;
 
-// The tables, to be read.
+// The tables, to be read. The bounds are locals, since a large constant in a range is slow to check.
 pub fn tables_of(world: &[u32]) -> &[u32] {
-    if ENGINE <= world.len() {
-        &world[WORLD..ENGINE]
+    let start = WORLD;
+    let end = ENGINE;
+    if end <= world.len() {
+        &world[start..end]
     } else {
         &world[..0]
     }
@@ -18,8 +20,10 @@ pub fn tables_of(world: &[u32]) -> &[u32] {
 
 // The tables, to be written.
 pub fn tables_in(world: &mut [u32]) -> &mut [u32] {
-    if ENGINE <= world.len() {
-        &mut world[WORLD..ENGINE]
+    let start = WORLD;
+    let end = ENGINE;
+    if end <= world.len() {
+        &mut world[start..end]
     } else {
         &mut world[..0]
     }
