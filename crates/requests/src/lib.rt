@@ -2,7 +2,7 @@
 mod odd;
 mod openings;
 mod operations;
-mod plan;
+mod planning;
 mod requests;
 
 pub use odd::damaged_request;
@@ -13,4 +13,4 @@ pub use openings::open_history;
 pub use operations::burst_request;
 pub use operations::choose_burst;
 pub use operations::usual_request;
-pub use plan::plan_history;
+pub use planning::plan_history;
