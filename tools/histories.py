@@ -1,7 +1,7 @@
 """Prints what the program `histories` must write: the same generator and the same calls, over the model of model.py.
 
-The generator draws from one number modulo 2^32; its functions have their counterparts in the crates generator, comparison and
-histories, and draw in the same order. Usage: python3 tools/histories.py [histories] > crates/histories/stdout
+The generator draws from one number modulo 2^32; its functions have their counterparts in the crates generator, comparison,
+requests, visits and histories, and draw in the same order. Usage: python3 tools/histories.py [histories] > crates/histories/stdout
 """
 
 import sys

@@ -1,29 +1,37 @@
-// The model's classifier, new desk, starting frame and frame reader on its side.
+// The model's plan reader, classifier, new desk, starting frame and frame reader on its side.
+use crate::side::ANSWER;
 use crate::side::Answered;
 use crate::side::HANDED;
 use crate::side::OUT;
+use crate::side::SECOND;
 use crate::side::put_answer;
 use crate::side::put_state;
+use crate::tables::class_at_hand;
+use crate::tables::tables_in;
+use crate::tables::tables_of;
 use generator::parts::frame_of;
+use generator::parts::front;
 use generator::parts::load;
+use generator::parts::move_part;
 use generator::parts::store;
 use generator::world::DESK;
+use generator::world::FRAME;
+use generator::world::FRAME_WORDS;
 use generator::world::OUT_SIZE;
-use generator::world::PARAMS;
-use generator::world::TRANSACTION;
+use generator::world::PLAN;
+use generator::world::PLAN_WORDS;
 use generator::world::VERDICT;
-use generator::world::params_at;
 use model::Answer;
 use model::REFUSED;
 use model::REPLIED;
-use model::get;
-use model::narrow;
-use model::put;
+use slices::get;
+use slices::put;
 
 // A refusal.
-pub fn refuse(side: &mut [u32], question: u32) {
+pub fn refuse(world: &mut [u32], question: u32) {
     put_answer(
-        side,
+        world,
+        SECOND,
         Answered {
             tag: REFUSED,
             first: question,
@@ -33,11 +41,18 @@ pub fn refuse(side: &mut [u32], question: u32) {
 }
 
 // Notes an answer and the state that is handed back.
-pub fn put_result(side: &mut [u32], answer: Answer) {
+pub fn put_result(world: &mut [u32], answer: Answer) {
     let state = answer.state;
-    put_state(side, HANDED, state.desk, state.waiting, state.awaited);
+    put_state(
+        world,
+        SECOND + HANDED,
+        state.desk,
+        state.waiting,
+        state.awaited,
+    );
     put_answer(
-        side,
+        world,
+        SECOND,
         Answered {
             tag: answer.tag,
             first: answer.first,
@@ -46,14 +61,24 @@ pub fn put_result(side: &mut [u32], answer: Answer) {
     );
 }
 
+// The plan reader's verdict, 0 or the question; the tables are filled.
+pub fn verdict(world: &mut [u32]) -> u32 {
+    let mut plan = [0u32; 512];
+    load(world, PLAN, &mut plan);
+    let end = (get(world, PLAN_WORDS) % 512) as usize;
+    model::verdict(&plan[..end], tables_in(world))
+}
+
 // Classifies the operation at hand.
-pub fn classify(world: &[u32], tables: &[u32], side: &mut [u32]) {
-    if get(world, VERDICT) > 0 {
-        return refuse(side, get(world, VERDICT));
+pub fn classify(world: &mut [u32]) {
+    let question = get(world, VERDICT);
+    if question > 0 {
+        return refuse(world, question);
     }
-    let class = model::class_of(tables, get(world, TRANSACTION), params_at(world, PARAMS));
+    let class = class_at_hand(world);
     put_answer(
-        side,
+        world,
+        SECOND,
         Answered {
             tag: class.tag,
             first: class.number,
@@ -63,37 +88,31 @@ pub fn classify(world: &[u32], tables: &[u32], side: &mut [u32]) {
 }
 
 // A new desk, whose state is handed back.
-pub fn new_desk(world: &[u32], tables: &[u32], side: &mut [u32]) {
-    if get(world, VERDICT) > 0 {
-        return refuse(side, get(world, VERDICT));
+pub fn new_desk(world: &mut [u32]) {
+    let question = get(world, VERDICT);
+    if question > 0 {
+        return refuse(world, question);
     }
     let desk = get(world, DESK);
-    let answer = model::new_desk(tables, desk);
+    let answer = model::new_desk(tables_of(world), desk);
     if answer.tag == REFUSED {
-        refuse(side, answer.first)
+        refuse(world, answer.first)
     } else {
-        put_result(side, answer)
-    }
-}
-
-// The starting frame in a buffer of some size.
-fn start(out: &mut [u32], size: usize) -> u32 {
-    if size <= out.len() {
-        model::starting_frame(&mut out[..size])
-    } else {
-        0
+        put_result(world, answer)
     }
 }
 
 // The starting frame in the outgoing buffer.
-pub fn starting_frame(world: &[u32], side: &mut [u32]) {
+pub fn starting_frame(world: &mut [u32]) {
     let mut out = [0u32; 16];
-    load(side, OUT, &mut out);
-    let question = start(&mut out, get(world, OUT_SIZE) as usize);
-    store(side, OUT, &out);
+    load(world, SECOND + OUT, &mut out);
+    let size = get(world, OUT_SIZE) as usize;
+    let question = model::starting_frame(front(&mut out, size));
+    store(world, SECOND + OUT, &out);
     let tag: u32 = if question > 0 { REFUSED } else { REPLIED };
     put_answer(
-        side,
+        world,
+        SECOND,
         Answered {
             tag: tag,
             first: question,
@@ -103,44 +122,37 @@ pub fn starting_frame(world: &[u32], side: &mut [u32]) {
 }
 
 // Questions 1 to 4 and 10 to 12.
-fn frame_question(world: &[u32], tables: &[u32]) -> u32 {
+fn frame_question(world: &[u32]) -> u32 {
     if get(world, VERDICT) > 0 {
         return get(world, VERDICT);
     }
-    model::frame_question(model::desks_of(tables), frame_of(world))
+    model::frame_question(model::desks_of(tables_of(world)), frame_of(world))
 }
 
 // The frame reader's second call.
-pub fn frame_visit(world: &[u32], tables: &[u32], side: &mut [u32]) {
-    let question = frame_question(world, tables);
+pub fn frame_visit(world: &mut [u32]) {
+    let question = frame_question(world);
     if question > 0 {
-        return refuse(side, question);
+        return refuse(world, question);
     }
+    let number = get(world, FRAME + 1);
     put_answer(
-        side,
+        world,
+        SECOND,
         Answered {
             tag: REPLIED,
-            first: get(frame_of(world), 1),
+            first: number,
             second: 0,
         },
     );
 }
 
-// The words of a frame from word 2 to the sums.
-fn inner(frame: &[u32]) -> &[u32] {
-    if frame.len() < 4 {
-        return &frame[..0];
+// The frame reader's first call: the words from word 2 to the sums go into the outgoing buffer, and their number is the second answer.
+pub fn read_frame(world: &mut [u32]) {
+    if frame_question(world) > 0 {
+        return put(world, SECOND + ANSWER + 2, 0);
     }
-    let end = frame.len() - 2;
-    &frame[2..end]
-}
-
-// The frame reader's first call: the words that it gives back go into the outgoing buffer, and their number is the second answer.
-pub fn read_frame(world: &[u32], tables: &[u32], side: &mut [u32]) {
-    if frame_question(world, tables) > 0 {
-        return put(side, 2, 0);
-    }
-    let words = inner(frame_of(world));
-    store(side, OUT, words);
-    put(side, 2, narrow(words.len()));
+    let size = std::num::wrapping_sub_u32(get(world, FRAME_WORDS), 4);
+    move_part(world, FRAME + 2, SECOND + OUT, size as usize);
+    put(world, SECOND + ANSWER + 2, size);
 }

@@ -1,5 +1,6 @@
-// What the engine is handed and hands back as structs, and how a side holds it: states, rows and answers.
+// What the engine is handed and hands back as structs, and how its side holds it: states, rows and answers.
 use crate::side::Answered;
+use crate::side::ENGINE;
 use crate::side::HANDED;
 use crate::side::awaited_at;
 use crate::side::put_answer;
@@ -15,10 +16,10 @@ use model::PASSED;
 use model::REFUSED;
 use model::REPLIED;
 use model::WAITS;
-use model::get;
-use model::narrow;
-use model::put;
 use queue::Request;
+use slices::get;
+use slices::narrow;
+use slices::put;
 
 // A refusal as an answer.
 pub fn refused(question: u32) -> Answered {
@@ -30,49 +31,49 @@ pub fn refused(question: u32) -> Answered {
 }
 
 // The state that is handed in.
-pub fn handed(side: &[u32]) -> Desk {
+pub fn handed(world: &[u32]) -> Desk {
     Desk {
-        desk: get(side, HANDED),
-        waiting: get(side, HANDED + 1),
-        awaited: awaited_at(side, HANDED),
+        desk: get(world, ENGINE + HANDED),
+        waiting: get(world, ENGINE + HANDED + 1),
+        awaited: awaited_at(world, ENGINE + HANDED),
     }
 }
 
 // Record i of a desk's row.
-fn record(side: &[u32], desk: u32, i: usize) -> Request {
+fn record(world: &[u32], desk: u32, i: usize) -> Request {
     Request {
-        client: get(side, record_place(desk, i, 0)),
-        transaction: get(side, record_place(desk, i, 1)),
-        p0: get(side, record_place(desk, i, 2)),
-        p1: get(side, record_place(desk, i, 3)),
-        p2: get(side, record_place(desk, i, 4)),
-        p3: get(side, record_place(desk, i, 5)),
+        client: get(world, record_place(ENGINE, desk, i, 0)),
+        transaction: get(world, record_place(ENGINE, desk, i, 1)),
+        p0: get(world, record_place(ENGINE, desk, i, 2)),
+        p1: get(world, record_place(ENGINE, desk, i, 3)),
+        p2: get(world, record_place(ENGINE, desk, i, 4)),
+        p3: get(world, record_place(ENGINE, desk, i, 5)),
     }
 }
 
 // The records of a desk's row, with one more.
-pub fn records(side: &[u32], desk: u32) -> [Request; 33] {
+pub fn records(world: &[u32], desk: u32) -> [Request; 33] {
     let mut row = [queue::blank(); 33];
     for i in 0..33usize {
-        row[i] = record(side, desk, i);
+        row[i] = record(world, desk, i);
     }
     row
 }
 
 // Stores record i of a desk's row.
-fn put_record(side: &mut [u32], desk: u32, i: usize, request: Request) {
-    put(side, record_place(desk, i, 0), request.client);
-    put(side, record_place(desk, i, 1), request.transaction);
-    put(side, record_place(desk, i, 2), request.p0);
-    put(side, record_place(desk, i, 3), request.p1);
-    put(side, record_place(desk, i, 4), request.p2);
-    put(side, record_place(desk, i, 5), request.p3);
+fn put_record(world: &mut [u32], desk: u32, i: usize, request: Request) {
+    put(world, record_place(ENGINE, desk, i, 0), request.client);
+    put(world, record_place(ENGINE, desk, i, 1), request.transaction);
+    put(world, record_place(ENGINE, desk, i, 2), request.p0);
+    put(world, record_place(ENGINE, desk, i, 3), request.p1);
+    put(world, record_place(ENGINE, desk, i, 4), request.p2);
+    put(world, record_place(ENGINE, desk, i, 5), request.p3);
 }
 
 // Stores the records of a desk's row.
-fn put_records(side: &mut [u32], desk: u32, row: [Request; 33]) {
+fn put_records(world: &mut [u32], desk: u32, row: [Request; 33]) {
     for i in 0..33usize {
-        put_record(side, desk, i, row[i]);
+        put_record(world, desk, i, row[i]);
     }
 }
 
@@ -114,25 +115,38 @@ fn request_answer(answer: RequestAnswer) -> Answered {
 }
 
 // Notes what a request answers: answer, state and row.
-pub fn put_requested(side: &mut [u32], desk: u32, requested: Requested) {
+pub fn put_requested(world: &mut [u32], desk: u32, requested: Requested) {
     let result = requested.result;
     let state = result.state;
     let row = requested.queue;
     let answer = result.answer;
-    put_state(side, HANDED, state.desk, state.waiting, state.awaited);
-    put_records(side, desk, row);
-    put_answer(side, request_answer(answer));
+    put_state(
+        world,
+        ENGINE + HANDED,
+        state.desk,
+        state.waiting,
+        state.awaited,
+    );
+    put_records(world, desk, row);
+    put_answer(world, ENGINE, request_answer(answer));
 }
 
 // Notes what a visit answers: answer and state.
-pub fn put_visited(side: &mut [u32], result: VisitResult) {
+pub fn put_visited(world: &mut [u32], result: VisitResult) {
     let state = result.state;
     let answer = result.answer;
-    put_state(side, HANDED, state.desk, state.waiting, state.awaited);
+    put_state(
+        world,
+        ENGINE + HANDED,
+        state.desk,
+        state.waiting,
+        state.awaited,
+    );
     match answer {
         VisitAnswer::Passed(words, replies) => {
             put_answer(
-                side,
+                world,
+                ENGINE,
                 Answered {
                     tag: PASSED,
                     first: narrow(words),
@@ -140,6 +154,6 @@ pub fn put_visited(side: &mut [u32], result: VisitResult) {
                 },
             )
         }
-        VisitAnswer::Refused(question) => put_answer(side, refused(question)),
+        VisitAnswer::Refused(question) => put_answer(world, ENGINE, refused(question)),
     }
 }

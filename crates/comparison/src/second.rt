@@ -4,10 +4,13 @@ use crate::reading::refuse;
 use crate::side::HANDED;
 use crate::side::OUT;
 use crate::side::REPLIES;
+use crate::side::SECOND;
 use crate::side::awaited_at;
 use crate::side::book_place;
 use crate::side::row_place;
+use crate::tables::tables_of;
 use generator::parts::frame_of;
+use generator::parts::front;
 use generator::parts::load;
 use generator::parts::store;
 use generator::world::BOOK_SIZE;
@@ -20,135 +23,106 @@ use generator::world::REPLY_SIZE;
 use generator::world::TRANSACTION;
 use generator::world::VERDICT;
 use generator::world::params_at;
+use model::Answer;
 use model::State;
-use model::get;
+use slices::get;
 
 // The state that is handed in.
-fn handed(side: &[u32]) -> State {
+fn handed(world: &[u32]) -> State {
     State {
-        desk: get(side, HANDED),
-        waiting: get(side, HANDED + 1),
-        awaited: awaited_at(side, HANDED),
+        desk: get(world, SECOND + HANDED),
+        waiting: get(world, SECOND + HANDED + 1),
+        awaited: awaited_at(world, SECOND + HANDED),
     }
 }
 
 // A request with a book of the size at hand, of which more words are there.
-fn request_on(world: &[u32], tables: &[u32], side: &mut [u32], cells: &mut [u32], row: &mut [u32]) {
+fn request_on(world: &[u32], cells: &mut [u32], row: &mut [u32]) -> Answer {
     let size = get(world, BOOK_SIZE) as usize;
     let lent = get(world, RECORDS) as usize;
-    let params = params_at(world, PARAMS);
-    let state = handed(side);
-    let client = get(world, CLIENT);
-    let transaction = get(world, TRANSACTION);
-    if size <= cells.len() {
-        let answer = model::request(
-            tables,
-            state,
-            &mut cells[..size],
-            row,
-            lent,
-            client,
-            transaction,
-            params,
-        );
-        put_result(side, answer);
-    }
+    let state = handed(world);
+    model::request(
+        tables_of(world),
+        state,
+        front(cells, size),
+        row,
+        lent,
+        get(world, CLIENT),
+        get(world, TRANSACTION),
+        params_at(world, PARAMS),
+    )
 }
 
 // A request.
-pub fn request(world: &[u32], tables: &[u32], side: &mut [u32]) {
-    if get(world, VERDICT) > 0 {
-        return refuse(side, get(world, VERDICT));
+pub fn request(world: &mut [u32]) {
+    let question = get(world, VERDICT);
+    if question > 0 {
+        return refuse(world, question);
     }
+    request_read(world);
+}
+
+// A request with a plan that is not refused.
+fn request_read(world: &mut [u32]) {
     let desk = get(world, DESK);
     let mut cells = [0u32; 1025];
     let mut row = [0u32; 198];
-    load(side, book_place(desk), &mut cells);
-    load(side, row_place(desk), &mut row);
-    request_on(world, tables, side, &mut cells, &mut row);
-    store(side, book_place(desk), &cells);
-    store(side, row_place(desk), &row);
-}
-
-// A visit with a book and a row, and with parts of the outgoing buffer and of the replies.
-fn visit_in(
-    world: &[u32],
-    tables: &[u32],
-    side: &mut [u32],
-    cells: &mut [u32],
-    row: &[u32],
-    out: &mut [u32],
-    replies: &mut [u32],
-) {
-    let state = handed(side);
-    let lent = get(world, RECORDS) as usize;
-    let answer = model::visit(
-        tables,
-        state,
-        cells,
-        row,
-        lent,
-        frame_of(world),
-        out,
-        replies,
-    );
-    put_result(side, answer);
+    load(world, book_place(SECOND, desk), &mut cells);
+    load(world, row_place(SECOND, desk), &mut row);
+    let answer = request_on(world, &mut cells, &mut row);
+    store(world, book_place(SECOND, desk), &cells);
+    store(world, row_place(SECOND, desk), &row);
+    put_result(world, answer);
 }
 
 // A visit with buffers of the sizes at hand, of which more words are there.
 fn visit_on(
     world: &[u32],
-    tables: &[u32],
-    side: &mut [u32],
     cells: &mut [u32],
     row: &[u32],
     out: &mut [u32],
     replies: &mut [u32],
-) {
+) -> Answer {
     let size = get(world, BOOK_SIZE) as usize;
+    let lent = get(world, RECORDS) as usize;
     let out_size = get(world, OUT_SIZE) as usize;
     let reply_size = get(world, REPLY_SIZE) as usize;
-    if size <= cells.len() {
-        if out_size <= out.len() {
-            if reply_size <= replies.len() {
-                visit_in(
-                    world,
-                    tables,
-                    side,
-                    &mut cells[..size],
-                    row,
-                    &mut out[..out_size],
-                    &mut replies[..reply_size],
-                );
-            }
-        }
-    }
+    let state = handed(world);
+    model::visit(
+        tables_of(world),
+        state,
+        front(cells, size),
+        row,
+        lent,
+        frame_of(world),
+        front(out, out_size),
+        front(replies, reply_size),
+    )
 }
 
 // A visit.
-pub fn visit(world: &[u32], tables: &[u32], side: &mut [u32]) {
-    if get(world, VERDICT) > 0 {
-        return refuse(side, get(world, VERDICT));
+pub fn visit(world: &mut [u32]) {
+    let question = get(world, VERDICT);
+    if question > 0 {
+        return refuse(world, question);
     }
+    visit_read(world);
+}
+
+// A visit with a plan that is not refused.
+fn visit_read(world: &mut [u32]) {
     let desk = get(world, DESK);
     let mut cells = [0u32; 1025];
     let mut row = [0u32; 198];
     let mut out = [0u32; 6416];
     let mut replies = [0u32; 100];
-    load(side, book_place(desk), &mut cells);
-    load(side, row_place(desk), &mut row);
-    load(side, OUT, &mut out);
-    load(side, REPLIES, &mut replies);
-    visit_on(
-        world,
-        tables,
-        side,
-        &mut cells,
-        &row,
-        &mut out,
-        &mut replies,
-    );
-    store(side, book_place(desk), &cells);
-    store(side, OUT, &out);
-    store(side, REPLIES, &replies);
+    load(world, book_place(SECOND, desk), &mut cells);
+    load(world, row_place(SECOND, desk), &mut row);
+    load(world, SECOND + OUT, &mut out);
+    load(world, SECOND + REPLIES, &mut replies);
+    let answer = visit_on(world, &mut cells, &row, &mut out, &mut replies);
+    store(world, book_place(SECOND, desk), &cells);
+    store(world, SECOND + OUT, &out);
+    store(world, SECOND + REPLIES, &replies);
+    put_result(world, answer);
 }

@@ -4,10 +4,10 @@ use crate::draws::draw_word;
 use crate::steps::append;
 use crate::world::PLAN;
 use crate::world::PLAN_WORDS;
-use model::add;
-use model::get;
-use model::part;
-use model::put;
+use slices::add;
+use slices::get;
+use slices::part;
+use slices::put;
 
 // The word with one bit set.
 fn bit(b: u32) -> u32 {

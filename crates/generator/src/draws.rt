@@ -1,9 +1,10 @@
 // The generator: a number modulo 2^32, and what is drawn from it.
+use crate::world::DESKS;
 use crate::world::STATE;
-use model::add;
-use model::get;
-use model::put;
-use model::remainder;
+use slices::add;
+use slices::get;
+use slices::put;
+use slices::remainder;
 
 // The generator's number after x.
 fn stir(x: u32) -> u32 {
@@ -38,6 +39,12 @@ pub fn draw_word(world: &mut [u32]) -> u32 {
 // Whether a drawn number below n is 0.
 pub fn chance(world: &mut [u32], n: u32) -> bool {
     draw(world, n) == 0
+}
+
+// A drawn desk.
+pub fn any_desk(world: &mut [u32]) -> u32 {
+    let desks = get(world, DESKS);
+    draw(world, desks)
 }
 
 // n times k, for a small k.

@@ -7,10 +7,10 @@ use crate::slots::sum_again;
 use crate::world::DESKS;
 use crate::world::FRAME;
 use crate::world::FRAME_WORDS;
-use model::add;
-use model::get;
-use model::put;
-use model::remainder;
+use slices::add;
+use slices::get;
+use slices::put;
+use slices::remainder;
 
 // Puts a word at the end of the frame at hand.
 fn extend(world: &mut [u32], word: u32) {

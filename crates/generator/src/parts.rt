@@ -1,10 +1,10 @@
-// Parts of slices: loaded, stored, filled and moved; and the parts of the world that are a plan or a frame.
+// Parts of slices: lent, loaded, stored, filled and moved; and the parts of the world that are a plan or a frame.
 use crate::world::FRAME;
 use crate::world::FRAME_WORDS;
 use crate::world::PLAN;
 use crate::world::PLAN_WORDS;
-use model::get;
-use model::put;
+use slices::get;
+use slices::put;
 
 // The plan's words.
 pub fn plan_of(world: &[u32]) -> &[u32] {
@@ -23,6 +23,15 @@ pub fn frame_of(world: &[u32]) -> &[u32] {
         &world[FRAME..end]
     } else {
         &world[..0]
+    }
+}
+
+// The first so many words of a slice, or all where there are less.
+pub fn front(words: &mut [u32], size: usize) -> &mut [u32] {
+    if size <= words.len() {
+        &mut words[..size]
+    } else {
+        words
     }
 }
 

@@ -8,9 +8,9 @@ use crate::steps::make_steps;
 use crate::world::DESKS;
 use crate::world::PLAN;
 use crate::world::PLAN_WORDS;
-use model::add;
-use model::get;
-use model::put;
+use slices::add;
+use slices::get;
+use slices::put;
 
 // A partitioning parameter or 15.
 fn make_partition(world: &mut [u32], shape: u32, params: u32) -> u32 {

@@ -9,12 +9,12 @@ use crate::world::FRAME_WORDS;
 use crate::world::FRAMES;
 use crate::world::SIZES;
 use crate::world::SLOTS;
-use model::add;
-use model::get;
-use model::next;
-use model::part;
-use model::put;
-use model::remainder;
+use slices::add;
+use slices::get;
+use slices::next;
+use slices::part;
+use slices::put;
+use slices::remainder;
 
 // The place of a slot's words.
 fn slot_place(slot: u32) -> usize {
@@ -31,20 +31,12 @@ pub fn frame_place(i: u32) -> usize {
     FRAME + (i % 8192) as usize
 }
 
-// Copies so many words of a side, from a place on, into the next slot.
-pub fn push(world: &mut [u32], side: &[u32], at: usize, size: u32) {
+// Copies so many words from a place on into the next slot.
+pub fn push(world: &mut [u32], at: usize, size: u32) {
     let slot = get(world, SLOTS);
-    copy(world, slot_place(slot), side, at, size as usize);
+    move_part(world, at, slot_place(slot), size as usize);
     put(world, size_place(slot), size);
     put(world, SLOTS, add(slot, 1));
-}
-
-// Copies words of a side into the world.
-fn copy(world: &mut [u32], to: usize, side: &[u32], at: usize, size: usize) {
-    for i in 0..size {
-        let word = get(side, std::num::wrapping_add_usize(at, i));
-        put(world, std::num::wrapping_add_usize(to, i), word);
-    }
 }
 
 // Makes a slot's frame the frame at hand.
@@ -105,7 +97,7 @@ pub fn is_known(world: &[u32]) -> bool {
 pub fn sum_again(world: &mut [u32]) {
     let words = get(world, FRAME_WORDS);
     let end = std::num::wrapping_sub_u32(words, 2);
-    let sums = model::frame_sums(frame_of(world), end as usize);
+    let sums = slices::frame_sums(frame_of(world), end as usize);
     put(world, frame_place(end), sums.first);
     put(world, next(frame_place(end)), sums.second);
 }

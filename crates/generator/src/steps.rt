@@ -3,9 +3,9 @@ use crate::draws::chance;
 use crate::draws::draw;
 use crate::world::PLAN;
 use crate::world::PLAN_WORDS;
-use model::add;
-use model::get;
-use model::put;
+use slices::add;
+use slices::get;
+use slices::put;
 
 // What the steps of a transaction are drawn for.
 pub struct Theme {

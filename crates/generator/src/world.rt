@@ -1,9 +1,9 @@
 // The world of a history: the generator's number, what the next call is handed, the history's own numbers and the counts, and behind
 // these the plan's words, the starting book, the frame at hand and the frames that were written.
-use model::add;
-use model::get;
-use model::next;
-use model::put;
+use slices::add;
+use slices::get;
+use slices::next;
+use slices::put;
 
 pub const STATE: usize = 0;
 
@@ -80,7 +80,7 @@ pub const FRAME: usize = 1664;
 pub const SIZES: usize = 8096;
 
 pub const FRAMES: usize = 8160;
-
+// The end of the generator's words, behind which lies what is compared.
 pub const WORLD: usize = 419808;
 
 pub const CALLS: usize = 0;

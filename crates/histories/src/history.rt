@@ -1,12 +1,5 @@
 // One history: a plan, new desks, sixty calls, and the serial run at its end.
-use crate::ending::finish;
 use crate::odd::odd_call;
-use crate::openings::open_history;
-use crate::openings::plan_history;
-use crate::operations::burst_request;
-use crate::operations::choose_burst;
-use crate::operations::usual_request;
-use crate::visits::usual_visit;
 use generator::draws::chance;
 use generator::draws::draw;
 use generator::world::BURST;
@@ -16,16 +9,23 @@ use generator::world::FORGING;
 use generator::world::PACE;
 use generator::world::SEED;
 use generator::world::STATE;
-use model::get;
-use model::put;
+use requests::burst_request;
+use requests::choose_burst;
+use requests::open_history;
+use requests::plan_history;
+use requests::usual_request;
+use slices::get;
+use slices::put;
+use visits::finish;
+use visits::usual_visit;
 
 // Draws how the history goes.
-fn choose_ways(world: &mut [u32], tables: &[u32]) {
+fn choose_ways(world: &mut [u32]) {
     let forging: u32 = if chance(world, 4) { 1 } else { 0 };
     put(world, FORGING, forging);
     let pace = draw(world, 4);
     put(world, PACE, pace);
-    choose_burst(world, tables);
+    choose_burst(world);
 }
 
 // How many of a hundred calls are requests.
@@ -66,16 +66,16 @@ fn forges_now(world: &mut [u32]) -> bool {
 }
 
 // A call that is not of the burst.
-fn any_call(world: &mut [u32], tables: &mut [u32], engine: &mut [u32], second: &mut [u32]) {
+fn any_call(world: &mut [u32]) {
     let form = draw(world, 100);
     if form < requests_in_hundred(get(world, PACE)) {
-        return usual_request(world, tables, engine, second);
+        return usual_request(world);
     }
     if form < 92 {
-        return usual_visit(world, tables, engine, second);
+        return usual_visit(world);
     }
     let odd = choose_odd(world);
-    odd_call(world, tables, engine, second, odd);
+    odd_call(world, odd);
 }
 
 // Notes the number of the call while there is no difference.
@@ -86,19 +86,19 @@ fn note_call(world: &mut [u32], i: u32) {
 }
 
 // Call i.
-fn one_call(world: &mut [u32], tables: &mut [u32], engine: &mut [u32], second: &mut [u32], i: u32) {
+fn one_call(world: &mut [u32], i: u32) {
     note_call(world, i);
     if in_burst(world, i) {
-        burst_request(world, tables, engine, second)
+        burst_request(world)
     } else {
-        any_call(world, tables, engine, second)
+        any_call(world)
     }
 }
 
 // All calls.
-fn all_calls(world: &mut [u32], tables: &mut [u32], engine: &mut [u32], second: &mut [u32]) {
+fn all_calls(world: &mut [u32]) {
     for i in 0..60u32 {
-        one_call(world, tables, engine, second, i);
+        one_call(world, i);
     }
 }
 
@@ -110,28 +110,16 @@ fn set_seed(world: &mut [u32], seed: u32) {
 }
 
 // The plan and the desks of a seed.
-fn begin_history(
-    world: &mut [u32],
-    tables: &mut [u32],
-    engine: &mut [u32],
-    second: &mut [u32],
-    seed: u32,
-) {
+fn begin_history(world: &mut [u32], seed: u32) {
     set_seed(world, seed);
-    plan_history(world, tables, engine, second);
-    open_history(world, tables, engine, second);
+    plan_history(world);
+    open_history(world);
 }
 
 // The history of a seed.
-pub fn history(
-    world: &mut [u32],
-    tables: &mut [u32],
-    engine: &mut [u32],
-    second: &mut [u32],
-    seed: u32,
-) {
-    begin_history(world, tables, engine, second, seed);
-    choose_ways(world, tables);
-    all_calls(world, tables, engine, second);
-    finish(world, tables, engine);
+pub fn history(world: &mut [u32], seed: u32) {
+    begin_history(world, seed);
+    choose_ways(world);
+    all_calls(world);
+    finish(world);
 }

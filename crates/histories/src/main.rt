@@ -1,28 +1,20 @@
 // Random histories of the engine against the second model: every call compared whole, and every history with its serial run.
-mod ending;
 mod history;
-mod loans;
 mod odd;
-mod openings;
-mod operations;
-mod readers;
 mod report;
-mod requests;
-mod states;
-mod visits;
 
 use generator::world;
-use model::add;
-use model::get;
+use slices::add;
+use slices::get;
 
 const HISTORIES: u32 = 2000;
 
 // Runs histories, each with a seed of its own, until one differs.
-fn run_histories(world: &mut [u32], tables: &mut [u32], engine: &mut [u32], second: &mut [u32]) {
+fn run_histories(world: &mut [u32]) {
     let mut seed: u32 = 97;
     let histories = HISTORIES;
     for _turn in 0..histories {
-        history::history(world, tables, engine, second, seed);
+        history::history(world, seed);
         if get(world, world::DIFFERENCE) > 0 {
             return;
         }
@@ -40,10 +32,7 @@ fn write_report(world: &[u32]) {
 }
 
 fn main() {
-    let mut world = [0u32; 419808];
-    let mut tables = [0u32; 19458];
-    let mut engine = [0u32; 16340];
-    let mut second = [0u32; 16340];
-    run_histories(&mut world, &mut tables, &mut engine, &mut second);
+    let mut world = [0u32; 471946];
+    run_histories(&mut world);
     write_report(&world);
 }

@@ -1,199 +1,75 @@
-// Odd calls: what the questions refuse, and calls that change nothing.
-use crate::loans::odd_loan;
-use crate::operations::make_operation;
-use crate::readers::odd_reader;
-use crate::requests::call_request;
-use crate::visits::call_visit;
-use crate::visits::usual_visit;
-use comparison::calls::ready;
-use comparison::side::state_place;
-use generator::draws::draw;
-use generator::draws::times;
-use generator::forge::forge;
-use generator::slots::addressed;
-use generator::slots::alter_and_sum;
-use generator::slots::alter_word;
-use generator::slots::cut;
-use generator::slots::sum_again;
-use generator::slots::take_any;
-use generator::slots::take_latest;
-use generator::world::DESKS;
-use generator::world::FORGING;
-use generator::world::FRAME;
-use generator::world::PARAMS;
-use generator::world::TRANSACTION;
-use model::add;
-use model::get;
-use model::put;
+// An odd call by its form: what the questions refuse, and calls that change nothing.
+use requests::damaged_request;
+use requests::odd_class;
+use requests::spoilt_request;
+use requests::unfit_request;
+use visits::damaged_visit;
+use visits::forged_visit;
+use visits::last_visit;
+use visits::odd_frame;
+use visits::odd_opening;
+use visits::odd_reading;
+use visits::past_a_word;
+use visits::twice;
+use visits::unfit_visit;
 
-// Any desk.
-pub fn any_desk(world: &mut [u32]) -> u32 {
-    let desks = get(world, DESKS);
-    draw(world, desks)
+// Operations and frames that are not as they should be.
+fn odd_words(world: &mut [u32], form: u32) {
+    if form < 2 {
+        return spoilt_request(world, form);
+    }
+    if form < 9 {
+        return odd_frame(world, form);
+    }
+    forged_visit(world);
 }
 
-// Spoils the operation at hand: a transaction that does not exist, or a parameter that is not fit.
-fn spoil(world: &mut [u32], tables: &[u32], form: u32) {
-    if form == 0 {
-        let more = draw(world, 3);
-        return put(
-            world,
-            TRANSACTION,
-            add(model::transactions_of(tables), more),
-        );
+// Buffers that are not fit, and a request with a damaged state.
+fn odd_loan(world: &mut [u32], form: u32) {
+    if form == 10 {
+        return unfit_visit(world);
     }
-    if model::parameters(tables, get(world, TRANSACTION) as usize) < 4 {
-        let some = draw(world, 5);
-        return put(world, PARAMS + 3, add(some, 1));
+    if form == 11 {
+        return unfit_request(world);
     }
-    let some = draw(world, 3);
-    put(world, PARAMS, add(some, 32));
+    damaged_request(world);
 }
 
-// A request that question 7 or 8 refuses.
-fn odd_request(
-    world: &mut [u32],
-    tables: &mut [u32],
-    engine: &mut [u32],
-    second: &mut [u32],
-    form: u32,
-) {
-    make_operation(world, tables);
-    spoil(world, tables, form);
-    let desk = any_desk(world);
-    ready(world, engine, second, desk);
-    call_request(world, tables, engine, second);
+// Visits with a damaged state, and the ends of the visit numbers.
+fn odd_state(world: &mut [u32], form: u32) {
+    if form == 13 {
+        return damaged_visit(world);
+    }
+    if form == 14 {
+        return last_visit(world);
+    }
+    past_a_word(world);
 }
 
-// The frame that an odd visit begins with: the latest, or in forms 2 and 4 any.
-fn choose_frame(world: &mut [u32], form: u32) {
-    if form == 2 {
-        return take_any(world);
+// Calls that change nothing, and a frame twice.
+fn odd_reader(world: &mut [u32], form: u32) {
+    if form == 16 {
+        return odd_class(world);
     }
-    if form == 4 {
-        return take_any(world);
+    if form == 17 {
+        return odd_reading(world);
     }
-    take_latest(world);
-}
-
-// The desk of an odd visit: the one addressed, or in forms 3 and 4 any.
-fn choose_desk(world: &mut [u32], form: u32) -> u32 {
-    if form == 3 {
-        return any_desk(world);
+    if form == 18 {
+        return odd_opening(world);
     }
-    if form == 4 {
-        return any_desk(world);
-    }
-    addressed(world)
-}
-
-// Gives the frame at hand another visit number, and right sums.
-fn renumber(world: &mut [u32]) {
-    let rounds = draw(world, 3);
-    let more = draw(world, 2);
-    let number = add(
-        get(world, FRAME + 1),
-        add(times(get(world, DESKS), rounds), more),
-    );
-    put(world, FRAME + 1, number);
-    sum_again(world);
-}
-
-// Alters the frame at hand; its sums are right afterwards only where frames are forged.
-fn alter_frame(world: &mut [u32], form: u32) {
-    if form == 7 {
-        if get(world, FORGING) > 0 {
-            return alter_and_sum(world);
-        }
-    }
-    alter_word(world);
-}
-
-// Changes the frame at hand by the form of the call.
-fn change_frame(world: &mut [u32], form: u32) {
-    if form == 5 {
-        return cut(world);
-    }
-    if form == 6 {
-        return alter_frame(world, form);
-    }
-    if form == 7 {
-        return alter_frame(world, form);
-    }
-    if form == 8 {
-        renumber(world);
-    }
-}
-
-// A visit with a frame repeated, misdirected, cut, altered or renumbered.
-fn odd_frame(
-    world: &mut [u32],
-    tables: &mut [u32],
-    engine: &mut [u32],
-    second: &mut [u32],
-    form: u32,
-) {
-    choose_frame(world, form);
-    let desk = choose_desk(world, form);
-    change_frame(world, form);
-    call_visit(world, tables, engine, second, desk);
-}
-
-// The number of a forged frame: the latest frame's at its own desk, or else what the desk awaits.
-fn forged_number(world: &[u32], second: &[u32], desk: u32, usual: bool) -> u32 {
-    if usual {
-        get(world, FRAME + 1)
-    } else {
-        get(second, state_place(desk) % 64 + 2)
-    }
-}
-
-// The desk of a forged frame: the latest frame's, or else any.
-fn forged_desk(world: &mut [u32], usual: bool) -> u32 {
-    if usual {
-        addressed(world)
-    } else {
-        any_desk(world)
-    }
-}
-
-// A visit with a forged frame.
-fn forge_next(world: &mut [u32], tables: &mut [u32], engine: &mut [u32], second: &mut [u32]) {
-    let usual = draw(world, 8) > 0;
-    let desk = forged_desk(world, usual);
-    let number = forged_number(world, second, desk, usual);
-    forge(world, desk, number);
-    call_visit(world, tables, engine, second, desk);
-}
-
-// A visit with a forged frame, where frames are forged, or else one more usual visit.
-fn forged_visit(world: &mut [u32], tables: &mut [u32], engine: &mut [u32], second: &mut [u32]) {
-    if get(world, FORGING) == 0 {
-        return usual_visit(world, tables, engine, second);
-    }
-    take_latest(world);
-    forge_next(world, tables, engine, second);
+    twice(world);
 }
 
 // An odd call by its form.
-pub fn odd_call(
-    world: &mut [u32],
-    tables: &mut [u32],
-    engine: &mut [u32],
-    second: &mut [u32],
-    form: u32,
-) {
-    if form < 2 {
-        return odd_request(world, tables, engine, second, form);
+pub fn odd_call(world: &mut [u32], form: u32) {
+    if form < 10 {
+        return odd_words(world, form);
     }
-    if form < 9 {
-        return odd_frame(world, tables, engine, second, form);
-    }
-    if form == 9 {
-        return forged_visit(world, tables, engine, second);
+    if form < 13 {
+        return odd_loan(world, form);
     }
     if form < 16 {
-        return odd_loan(world, tables, engine, second, form);
+        return odd_state(world, form);
     }
-    odd_reader(world, tables, engine, second, form);
+    odd_reader(world, form);
 }

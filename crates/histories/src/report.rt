@@ -6,7 +6,7 @@ use generator::world::OF_ENGINE;
 use generator::world::OF_MODEL;
 use generator::world::REFUSALS;
 use generator::world::SEED;
-use model::get;
+use slices::get;
 
 // A number after its name.
 fn line(name: &[u8], number: u32) {

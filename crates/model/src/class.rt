@@ -9,7 +9,7 @@ use crate::mark::desk_of;
 use crate::mark::may_write;
 use crate::mark::row_of;
 use crate::mark::touched_elsewhere;
-use crate::words::param;
+use slices::param;
 
 pub const FREE: u32 = 0;
 

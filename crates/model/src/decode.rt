@@ -1,6 +1,6 @@
 // Plan words: questions 1 to 4, and the plan tables into a flat table. Two words for desks and transactions, then 64 for each
 // transaction: parameters, partitioning parameter, steps, one unused, and for each step kind, table, column, source and fixed field.
-use crate::words::get;
+use slices::get;
 
 // The number of desks.
 pub fn desks_of(tables: &[u32]) -> u32 {

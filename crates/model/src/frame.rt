@@ -1,32 +1,13 @@
 // Frames: the sums, questions 10 to 12, and the starting frame.
-use crate::words::add;
-use crate::words::get;
-use crate::words::kind;
-use crate::words::narrow;
-use crate::words::next;
-use crate::words::part;
-use crate::words::put;
-use crate::words::remainder;
-
-// Both sums.
-pub struct Sums {
-    pub first: u32,
-    pub second: u32,
-}
-
-// The sums over the words before `end`.
-pub fn frame_sums(words: &[u32], end: usize) -> Sums {
-    let mut first: u32 = 0;
-    let mut second: u32 = 0;
-    for i in 0..end {
-        first = add(first, get(words, i));
-        second = add(second, first);
-    }
-    Sums {
-        first: first,
-        second: second,
-    }
-}
+use slices::add;
+use slices::frame_sums;
+use slices::get;
+use slices::kind;
+use slices::narrow;
+use slices::next;
+use slices::part;
+use slices::put;
+use slices::remainder;
 
 // The place of the first sum in a frame.
 pub fn sums_place(frame: &[u32]) -> usize {

@@ -11,12 +11,12 @@ use crate::decode::step_source;
 use crate::decode::step_table;
 use crate::decode::steps;
 use crate::decode::transactions_of;
-use crate::words::get;
-use crate::words::next;
-use crate::words::param;
-use crate::words::put;
-use crate::words::remainder;
-use crate::words::with_param;
+use slices::get;
+use slices::next;
+use slices::param;
+use slices::put;
+use slices::remainder;
+use slices::with_param;
 
 // The desk of an operation of transaction k.
 pub fn desk_of(tables: &[u32], k: usize, params: [u32; 4]) -> u32 {

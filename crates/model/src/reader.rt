@@ -6,13 +6,13 @@ use crate::decode::step_source;
 use crate::decode::steps;
 use crate::decode::transaction_place;
 use crate::decode::transactions_of;
-use crate::words::get;
-use crate::words::in_range;
-use crate::words::kind;
-use crate::words::narrow;
-use crate::words::next;
-use crate::words::part;
-use crate::words::put;
+use slices::get;
+use slices::in_range;
+use slices::kind;
+use slices::narrow;
+use slices::next;
+use slices::part;
+use slices::put;
 
 // Question 3 for a transaction word.
 pub fn transaction_fits(word: u32) -> bool {

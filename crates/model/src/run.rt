@@ -4,12 +4,12 @@ use crate::decode::step_kind;
 use crate::decode::step_source;
 use crate::decode::steps;
 use crate::mark::cell_of;
-use crate::words::add;
-use crate::words::get;
-use crate::words::narrow;
-use crate::words::next;
-use crate::words::param;
-use crate::words::put;
+use slices::add;
+use slices::get;
+use slices::narrow;
+use slices::next;
+use slices::param;
+use slices::put;
 
 // What a run has come to: whether it goes on, its working number, and how many cells its update has.
 pub struct RunResult {

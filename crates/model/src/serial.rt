@@ -4,8 +4,8 @@
 // run serially.
 use crate::run::apply;
 use crate::run::run;
-use crate::words::get;
-use crate::words::put;
+use slices::get;
+use slices::put;
 
 // The place of word f of entry i of the log.
 fn log_place(i: usize, f: usize) -> usize {

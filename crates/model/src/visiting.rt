@@ -1,11 +1,5 @@
 // The visit: the others' updates applied and handed on, the waiting requests run in order, the outgoing frame and the replies written.
 use crate::decode::desks_of;
-use crate::desk::Answer;
-use crate::desk::State;
-use crate::desk::record;
-use crate::desk::record_params;
-use crate::desk::refused;
-use crate::desk::state_fits;
 use crate::frame::frame_question;
 use crate::frame::left_after;
 use crate::frame::seal;
@@ -14,13 +8,19 @@ use crate::frame::update_desk;
 use crate::run::apply;
 use crate::run::run;
 use crate::run::write_update;
-use crate::words::add;
-use crate::words::get;
-use crate::words::narrow;
-use crate::words::next;
-use crate::words::part;
-use crate::words::put;
-use crate::words::remainder;
+use crate::state::Answer;
+use crate::state::State;
+use crate::state::record;
+use crate::state::record_params;
+use crate::state::refused;
+use crate::state::state_fits;
+use slices::add;
+use slices::get;
+use slices::narrow;
+use slices::next;
+use slices::part;
+use slices::put;
+use slices::remainder;
 
 pub const PASSED: u32 = 7;
 

@@ -8,12 +8,10 @@ use Rattle.histories.proofs.run_histories.Statement.{statement}
 use Rattle.histories.proofs.run_histories.Tie as tie
 
 abbrev Inv-loop : tie.InvT-loop
-Inv-loop world₀ tables₀ engine₀ second₀ seed₀ histories -turn₀ world tables engine second seed -turn =
-    (-turn ≤ histories) × (length world ≡ length world₀) × (length tables ≡ length tables₀) × (length engine ≡ length engine₀)
-    × (length second ≡ length second₀)
+Inv-loop world₀ seed₀ histories -turn₀ world seed -turn = (-turn ≤ histories) × (length world ≡ length world₀)
 
 abbrev μ-loop : tie.MeasureT-loop
-μ-loop world₀ tables₀ engine₀ second₀ seed₀ histories -turn₀ world tables engine second seed -turn = histories - -turn
+μ-loop world₀ seed₀ histories -turn₀ world seed -turn = histories - -turn
 
 loop-holds : tie.Need-loop-holds Inv-loop μ-loop
 loop-holds c = search needs
@@ -26,15 +24,6 @@ get-requires c κs = search needs
 
 same-length : tie.Need-same-length Inv-loop μ-loop
 same-length c = search needs
-
-same-length-2 : tie.Need-same-length-2 Inv-loop μ-loop
-same-length-2 c = search needs
-
-same-length-3 : tie.Need-same-length-3 Inv-loop μ-loop
-same-length-3 c = search needs
-
-same-length-4 : tie.Need-same-length-4 Inv-loop μ-loop
-same-length-4 c = search needs
 
 returns : tie.Need-returns Inv-loop μ-loop
 returns c = search needs
@@ -51,17 +40,8 @@ loop-less c = search needs
 loop-again : tie.Need-loop-again Inv-loop μ-loop
 loop-again c = search needs
 
-same-length-5 : tie.Need-same-length-5 Inv-loop μ-loop
-same-length-5 c = search needs
-
-same-length-6 : tie.Need-same-length-6 Inv-loop μ-loop
-same-length-6 c = search needs
-
-same-length-7 : tie.Need-same-length-7 Inv-loop μ-loop
-same-length-7 c = search needs
-
-same-length-8 : tie.Need-same-length-8 Inv-loop μ-loop
-same-length-8 c = search needs
+same-length-2 : tie.Need-same-length-2 Inv-loop μ-loop
+same-length-2 c = search needs
 
 returns-2 : tie.Need-returns-2 Inv-loop μ-loop
 returns-2 c = search needs
@@ -76,16 +56,10 @@ run-histories-spec =
     history-requires
     get-requires
     same-length
-    same-length-2
-    same-length-3
-    same-length-4
     returns
     add-requires
     add--turn
     loop-less
     loop-again
-    same-length-5
-    same-length-6
-    same-length-7
-    same-length-8
+    same-length-2
     returns-2)

@@ -6,16 +6,22 @@ use Rattle.comparison.proofs.side.first_difference.Statement.{statement
 use Rattle.comparison.proofs.side.first_difference.Tie as tie
 
 abbrev Inv-loop : tie.InvT-loop
-Inv-loop engine second i₀ i-end i = i ≤ i-end
+Inv-loop world i₀ i = i ≤ 16340
 
 abbrev μ-loop : tie.MeasureT-loop
-μ-loop engine second i₀ i-end i = i-end - i
+μ-loop world i₀ i = 16340 - i
 
 loop-holds : tie.Need-loop-holds Inv-loop μ-loop
 loop-holds c = search needs
 
+add-get : tie.Need-add-get Inv-loop μ-loop
+add-get c = search needs
+
 get-requires : tie.Need-get-requires Inv-loop μ-loop
 get-requires c κs = search needs
+
+add-get-2 : tie.Need-add-get-2 Inv-loop μ-loop
+add-get-2 c = search needs
 
 get-requires-2 : tie.Need-get-requires-2 Inv-loop μ-loop
 get-requires-2 c κs = search needs
@@ -42,7 +48,9 @@ first-difference-spec =
     Inv-loop
     μ-loop
     loop-holds
+    add-get
     get-requires
+    add-get-2
     get-requires-2
     returns
     add-i

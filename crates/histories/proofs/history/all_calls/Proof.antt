@@ -8,12 +8,10 @@ use Rattle.histories.proofs.history.all_calls.Statement.{statement}
 use Rattle.histories.proofs.history.all_calls.Tie as tie
 
 abbrev Inv-loop : tie.InvT-loop
-Inv-loop world₀ tables₀ engine₀ second₀ i₀ world tables engine second i =
-    (i ≤ 60) × (length world ≡ length world₀) × (length tables ≡ length tables₀) × (length engine ≡ length engine₀)
-    × (length second ≡ length second₀)
+Inv-loop world₀ i₀ world i = (i ≤ 60) × (length world ≡ length world₀)
 
 abbrev μ-loop : tie.MeasureT-loop
-μ-loop world₀ tables₀ engine₀ second₀ i₀ world tables engine second i = 60 - i
+μ-loop world₀ i₀ world i = 60 - i
 
 loop-holds : tie.Need-loop-holds Inv-loop μ-loop
 loop-holds c = search needs
@@ -33,15 +31,6 @@ loop-again c = search needs
 same-length : tie.Need-same-length Inv-loop μ-loop
 same-length c = search needs
 
-same-length-2 : tie.Need-same-length-2 Inv-loop μ-loop
-same-length-2 c = search needs
-
-same-length-3 : tie.Need-same-length-3 Inv-loop μ-loop
-same-length-3 c = search needs
-
-same-length-4 : tie.Need-same-length-4 Inv-loop μ-loop
-same-length-4 c = search needs
-
 returns : tie.Need-returns Inv-loop μ-loop
 returns c = search needs
 
@@ -57,7 +46,4 @@ all-calls-spec =
     loop-less
     loop-again
     same-length
-    same-length-2
-    same-length-3
-    same-length-4
     returns)
