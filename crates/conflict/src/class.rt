@@ -18,6 +18,7 @@ use crate::written;
 use plan::PlanAnswer;
 use word::fields;
 
+// The class of an operation, without its desk.
 pub enum Class {
     Free,
     Local,

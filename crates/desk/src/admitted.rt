@@ -36,6 +36,7 @@ pub fn locate(plan: &[u32], places: &[usize], request: Request) -> Located
     Located::At(at)
 }
 
+// The desk of the operation.
 pub fn operation_desk(plan: &[u32], at: usize, request: Request) -> u32
     requires { ⌜ Placed (now plan) request at ⌝ }
     ensures { λ r. ⌜ r ≡ deskOf (planOf (now (plan .entry))) (operationOf request) ⌝ }

@@ -104,6 +104,7 @@ pub fn standing(plan: &[u32], places: &[usize], state: Desk, records: [Request; 
     }
 }
 
+// Question 6 alone.
 pub fn desk_stands(plan: &[u32], places: &[usize], state: Desk, records: [Request; 32]) -> bool
     requires { ⌜ (planVerdict (now plan) ≡ accepted) × (now places ≡ transactionPlaces (now plan)) ⌝ }
     ensures { λ r. ⌜ r ≡ deskStands (planOf (now (plan .entry))) state records ⌝ }

@@ -32,6 +32,7 @@ fn is_global(plan: &[u32], at: usize, request: Request, standing: DeskCheck) -> 
     conflict::is_global(plan, at, params, &masks)
 }
 
+// Where the operation goes. `own` says whether this desk is its own.
 pub(crate) fn route_of(
     plan: &[u32],
     at: usize,
