@@ -9,26 +9,22 @@ use lib.Dec.{leb, eqb}
 use lib.ListN.{length, getD, take, drop, take-append-drop}
 use borrow.Author.Tests.{eq-eqb, ne-eqb, eqb-true, eqb-false, leb-true}
 use Rattle.word.specs.Field.{kindOf, stepCount, tableField, columnField}
-use Rattle.plan.specs.Plan.{writes, Step, cell}
+use Rattle.plan.specs.Plan.{Step, cell}
 use Rattle.plan.specs.Decode.{accessBy, stepOf, rowOf, transactionsOf, planOf}
 use Rattle.plan.specs.Admission.{every, wellFormed, transactionFormed, stepFormed, planVerdict, accepted}
 use Rattle.plan.proofs.Bool.{and-fst, and-snd}
 use Rattle.plan.proofs.Words.{step-kind-low}
 use Rattle.plan.proofs.Accepted.{accepted-gives}
+use Rattle.operation.proofs.StepKinds.{step-writes}
 use Rattle.conflict.specs.Mask.{some}
 use Rattle.conflict.specs.Written.{cellGiven, stepWrites, written}
 use Rattle.conflict.proofs.Some.{some-here, some-past, some-append, some-swap, some-same}
 
 -- ---- one word
 
--- the word of a write step
-write-word : (w : ℕ) → kindOf w ≡ 4 → stepOf w ≡ cell writes (tableField w) (columnField w) (rowOf w)
-unfolding stepOf accessBy
-write-word w e = rw e
-
 pub writes-here : (w c : ℕ) → kindOf w ≡ 4 → stepWrites (stepOf w) c ≡ cellGiven (tableField w) (columnField w) (rowOf w) c
 unfolding stepWrites
-writes-here w c e = ap (λ (s : Step). stepWrites s c) (write-word w e)
+writes-here w c e = ap (λ (s : Step). stepWrites s c) (step-writes w e)
 
 writes-none : (w c : ℕ) → stepFormed w ≡ true → (kindOf w ≡ 4 → ⊥) → stepWrites (stepOf w) c ≡ false
 unfolding stepOf accessBy stepWrites

@@ -113,7 +113,7 @@ found-lacking (refused n) place question e = ap (λ (m : ℕ). refused m) (sym (
     number (standsAt n) = n
     number (isRefused n) = n
 
-accepted-is : (v : Verdict) → isAccepted v ≡ true → v ≡ accepted
+pub accepted-is : (v : Verdict) → isAccepted v ≡ true → v ≡ accepted
 accepted-is accepted e = refl
 accepted-is (refused question) e = absurd (false≢true e)
 

@@ -20,14 +20,13 @@ use ghost.Atoms.{Atoms}
 use types.Kit.{Given}
 use denote.RattleType.{RattleType}
 use denote.Laws.{Is, Makes}
-use denote.Shadow.{shadow}
 use denote.Slice.{Room}
-use denote.Array.{Array, each as eachOf, array-typed, array-makes}
+use denote.Array.{Array, array-typed, array-makes}
 use denote.Struct.Laws as LL
 use Rattle.queue.specs.declared.record.Request.{Request}
 use Rattle.queue.proofs.record.Request as T
 use Rattle.queue.proofs.record.Request.Laws as T′
-use Rattle.queue.proofs.Records.{request-makes}
+use Rattle.queue.proofs.Records.{request-makes, each-field}
 
 abbrev pub Queue : RattleType
 Queue = Array T.the-row 33
@@ -41,13 +40,6 @@ module _ {M : Type 1} (𝓤 : URA M) (H : Heap 𝓤) (A : Atoms 𝓤) (W : Given
 
   pub queue-makes : Makes 𝓤 H A Queue (Is Queue)
   queue-makes = array-makes 𝓤 H A W T.the-row (request-makes 𝓤 H A W) 33
-
-each-field : (zs : List Request) (us : List Val) → shadow (eachOf Request (T.the-row .own) zs us)
-    → shadow (eachOf (T.the-field .row .Denot) (T.the-field .row .own) (map (T.the-field .into) zs) us)
-each-field [] [] s = s
-each-field [] (u ∷ us) s = s
-each-field (z ∷ zs) [] s = s
-each-field (z ∷ zs) (u ∷ us) s = (s .0, each-field zs us (s .1))
 
 pub queue-field : (zs : List Request) (vs : List Val) → Is Queue zs vs → Is (Array (T.the-field .row) 33) (map (T.the-field .into) zs) vs
 queue-field zs vs p = (p .0, ((p .1 .0 .0, length-map zs (T.the-field .into) ∙ p .1 .0 .1), each-field zs (p .0) (p .1 .1)))

@@ -22,20 +22,21 @@ use Rattle.operation.proofs.Words.{AllWords}
 use Rattle.token.specs.Frame.{overwritten}
 use Rattle.token.specs.Admission.{frameVerdict, frameVisit, frameUpdates, readVerdict}
 use Rattle.token.proofs.OneWord.{one-word}
-use Rattle.token.proofs.Verdicts.{read-after}
+use Rattle.token.proofs.Verdicts.{both, read-after}
 use Rattle.queue.specs.Queue.{paramsOf}
 use Rattle.queue.specs.declared.record.Request.{Request}
 use Rattle.desk.specs.declared.state.Desk.{Desk}
 use Rattle.desk.specs.Queueing.{operationOf, waitingIn}
 use Rattle.desk.specs.Admission.{isAccepted, deskBuffersFit, waitsHere, deskStands}
+use Rattle.desk.proofs.Asked.{accepted-is}
 use Rattle.passing.specs.Admission.{visitBuffersFit}
 use Rattle.passing.specs.Visit.{forwarded, isRefused, Visited, caughtUp, outgoingUpdates, outgoingFrame, visitedBy, visitVerdict}
 use Rattle.passing.specs.Visit.{visitResult}
 use Rattle.passing.specs.Waiting.{Answered, repliesOf, repliesWords}
 use Rattle.serial.proofs.Lists.{mem-All}
 use Rattle.history.specs.History.{Holding}
-use Rattle.history.proofs.Operations.{Runs, only-accepted}
-use Rattle.history.proofs.Standing.{Stands, Six, six, then-both}
+use Rattle.history.proofs.Operations.{Runs}
+use Rattle.history.proofs.Standing.{Stands, Six, six}
 use Rattle.history.proofs.Visits.{turn-of, sends-reads}
 
 -- the parameters of every record are words
@@ -86,14 +87,14 @@ module _ (plan : List ℕ) (d : Desk) (cells : List ℕ) (queue : List Request) 
 
     plan-of : planVerdict plan ≡ accepted
     unfolding visitVerdict
-    plan-of = then-both (planVerdict plan) _ verdict-of .0
+    plan-of = both (planVerdict plan) _ verdict-of .0
 
     rest-of : (deskBuffersFit cells queue && visitBuffersFit out replies ≡ true) × (deskStands (planOf plan) d queue ≡ true)
     unfolding visitVerdict
     rest-of =
-        let a = then-both (planVerdict plan) _ verdict-of .1 in
-        let b = then-both (cond (deskBuffersFit cells queue && visitBuffersFit out replies) accepted (refused 5)) _ a in
-        let c = then-both (cond (deskStands (planOf plan) d queue) accepted (refused 6)) _ (b .1) in (
+        let a = both (planVerdict plan) _ verdict-of .1 in
+        let b = both (cond (deskBuffersFit cells queue && visitBuffersFit out replies) accepted (refused 5)) _ a in
+        let c = both (cond (deskStands (planOf plan) d queue) accepted (refused 6)) _ (b .1) in (
           yes-of (deskBuffersFit cells queue && visitBuffersFit out replies) accepted 5 (b .0) .0,
           yes-of (deskStands (planOf plan) d queue) accepted 6 (c .0) .0,
         )
@@ -164,7 +165,7 @@ module _ (plan : List ℕ) (d : Desk) (cells : List ℕ) (queue : List Request) 
         record {
           four = refl;
           words = fit r (mem-take (d .waiting) queue r m);
-          passes = only-accepted (operationVerdict (planOf plan) (operationOf r))
+          passes = accepted-is (operationVerdict (planOf plan) (operationOf r))
               (and-fst (isAccepted (operationVerdict (planOf plan) (operationOf r))) _ e);
         }
 

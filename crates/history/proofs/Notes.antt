@@ -10,6 +10,7 @@ use Rattle.plan.specs.Plan.{Plan}
 use Rattle.plan.specs.Decode.{planOf}
 use Rattle.plan.specs.Admission.{Verdict, accepted, refused, planVerdict}
 use Rattle.operation.specs.Operation.{Operation, deskOf}
+use Rattle.token.proofs.Verdicts.{both}
 use Rattle.conflict.specs.Class.{Class, free, local, global}
 use Rattle.queue.specs.declared.record.Request.{Request}
 use Rattle.desk.specs.declared.state.Desk.{Desk}
@@ -21,7 +22,6 @@ use Rattle.history.specs.History.{Holding, Call, request, visit, deskCal
 use Rattle.history.specs.History.{written, WordsFit, Proper}
 use Rattle.history.specs.SerialRun.{Serial, noteNothing, noteRun, noteJoin, noteRequest, ranked, noteVisit, note, noteAll}
 use Rattle.history.proofs.Operations.{Runs}
-use Rattle.history.proofs.Standing.{then-both}
 use Rattle.history.proofs.Requests.{record-runs}
 use Rattle.history.proofs.OrderSeen.{RanAs, RunsAll}
 
@@ -83,9 +83,9 @@ module _ (ws : List ℕ) where
   unfolding requestResult requestVerdict
   accepted-runs h client k ps words e =
       let v = not-refused (h .state) (h .cells) (h .queue) (recordOf client k ps) _ e in
-      let a = then-both (planVerdict ws) _ v .1 in
-      let b = then-both (cond (deskBuffersFit (h .cells) (h .queue)) accepted (refused 5)) _ a .1 in
-      let c = then-both (cond (deskStands (planOf ws) (h .state) (h .queue)) accepted (refused 6)) _ b .1 in
+      let a = both (planVerdict ws) _ v .1 in
+      let b = both (cond (deskBuffersFit (h .cells) (h .queue)) accepted (refused 5)) _ a .1 in
+      let c = both (cond (deskStands (planOf ws) (h .state) (h .queue)) accepted (refused 6)) _ b .1 in
       record-runs ws client k ps words c
 
   module _ (class : Operation → Class) where

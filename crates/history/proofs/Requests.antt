@@ -14,9 +14,11 @@ use Rattle.plan.specs.Decode.{planOf}
 use Rattle.plan.specs.Admission.{every, Verdict, accepted, refused, planVerdict}
 use Rattle.plan.proofs.Bool.{and-snd, and-true}
 use Rattle.plan.proofs.Accepted.{yes-of}
+use Rattle.plan.proofs.Every.{every-last}
 use Rattle.operation.specs.Operation.{Operation, deskOf}
 use Rattle.operation.specs.Admission.{IsOperation, operationVerdict}
 use Rattle.operation.specs.Run.{Store, Outcome, Reply}
+use Rattle.token.proofs.Verdicts.{both}
 use Rattle.conflict.specs.Class.{Class, free, local, global, classOf}
 use Rattle.conflict.proofs.Classes.{class-free, class-local, class-global}
 use Rattle.queue.specs.declared.record.Request.{Request}
@@ -33,10 +35,9 @@ use Rattle.history.specs.History.{Holding, requested, holdingAfter}
 use Rattle.history.specs.SerialRun.{Is, Classifies}
 use Rattle.history.proofs.Operations.{Runs}
 use Rattle.history.proofs.Protocol.{classSeen, roomBy, sizesFit, requestAsked, system}
-use Rattle.history.proofs.Outgoing.{every-last}
 use Rattle.history.proofs.Seen.{requestSeen, ran-is, one-seen}
 use Rattle.history.proofs.View.{view, responseSeen}
-use Rattle.history.proofs.Standing.{Stands, six, then-both}
+use Rattle.history.proofs.Standing.{Stands, six}
 
 -- the record of a request whose parameters are words and that passes 7 and 8 holds an operation
 four-words : (ps : List ℕ) → ((i : ℕ) → getD ps i 0 < 2 ^ 32) → (i : ℕ)
@@ -92,7 +93,7 @@ module _ (ws : List ℕ) (accept : planVerdict ws ≡ accepted) (class : Operati
 
   pub passes : asking ≡ accepted → Passes
   passes e =
-      let b = then-both (cond (sizesFit ws class records (h .cells) (d .desk)) accepted (refused 5)) _ (sym asking-is ∙ e) in
+      let b = both (cond (sizesFit ws class records (h .cells) (d .desk)) accepted (refused 5)) _ (sym asking-is ∙ e) in
       let s = yes-of (sizesFit ws class records (h .cells) (d .desk)) accepted 5 (b .0) .0 in
       record {
         runs = record-runs ws client k ps words (b .1);

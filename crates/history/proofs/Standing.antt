@@ -10,9 +10,8 @@ use lib.Dec.{ltb, leb, eqb}
 use lib.ListN.{length}
 use borrow.Author.Tests.{leb-true, eqb-true, lt-ltb, eq-eqb}
 use Rattle.plan.specs.Decode.{planOf}
-use Rattle.plan.specs.Admission.{every, Verdict, accepted, refused}
+use Rattle.plan.specs.Admission.{every}
 use Rattle.plan.proofs.Bool.{and-fst, and-snd, and-true}
-use Rattle.token.specs.Admission.{andThen}
 use Rattle.queue.specs.declared.record.Request.{Request}
 use Rattle.desk.specs.Queueing.{waitingIn}
 use Rattle.desk.specs.Admission.{waitsHere, deskStands}
@@ -60,9 +59,3 @@ start-stands ws cells rows p h =
       room = omega arith;
       runs = tt;
     }
-
--- ---- verdicts one after another
-
-pub then-both : (v w : Verdict) → andThen v w ≡ accepted → (v ≡ accepted) × (w ≡ accepted)
-then-both accepted w e = (refl, e)
-then-both (refused q) w e = let z : _≡_ {A = ℕ} 0 1 = cc in absurd (omega arith)

@@ -28,6 +28,7 @@ use Rattle.desk.specs.Queueing.{waitingIn}
 use Rattle.desk.specs.Admission.{isAccepted, deskBuffersFit, deskStands}
 use Rattle.passing.specs.Admission.{visitBuffersFit, turnVerdict}
 use Rattle.token.specs.Forward.{foreign, applyAll}
+use Rattle.token.proofs.Verdicts.{both}
 use Rattle.passing.specs.Visit.{Visited, caughtUp, outgoingUpdates, outgoingFrame, passed, visitedBy, visitVerdict}
 use Rattle.passing.specs.Visit.{visitResult}
 use Rattle.passing.specs.Waiting.{runAll, updatesOf, repliesOf}
@@ -42,7 +43,7 @@ use Rattle.history.proofs.Outgoing.{outgoing-formed}
 use Rattle.history.proofs.Seen.{requestSeen, updateSeen, frameSeen, answeredSeen, foreign-seen, apply-seen, sent-seen, runAll-seen}
 use Rattle.history.proofs.Seen.{updates-seen, replies-seen}
 use Rattle.history.proofs.View.{view, passageSeen}
-use Rattle.history.proofs.Standing.{Stands, six, then-both}
+use Rattle.history.proofs.Standing.{Stands, six}
 
 and-false : (a : Bool) → (a && false) ≡ false
 and-false true = refl
@@ -57,10 +58,10 @@ pub turn-of : (ws : List ℕ) (d : Desk) (cells : List ℕ) (queue : List Reques
     visitVerdict ws d cells queue ft out replies ≡ accepted → Turn ws d ft
 unfolding visitVerdict turnVerdict
 turn-of ws d cells queue ft out replies e =
-    let a = then-both (planVerdict ws) _ e .1 in
-    let b = then-both (cond (deskBuffersFit cells queue && visitBuffersFit out replies) accepted (refused 5)) _ a .1 in
-    let c = then-both (cond (deskStands (planOf ws) d queue) accepted (refused 6)) _ b .1 in
-    let f = then-both (frameVerdict (planOf ws .desks) ft) _ c in
+    let a = both (planVerdict ws) _ e .1 in
+    let b = both (cond (deskBuffersFit cells queue && visitBuffersFit out replies) accepted (refused 5)) _ a .1 in
+    let c = both (cond (deskStands (planOf ws) d queue) accepted (refused 6)) _ b .1 in
+    let f = both (frameVerdict (planOf ws .desks) ft) _ c in
     let t = yes-of (eqb (addressedDesk (headOf ft)) (d .desk)) _ 13 (f .1) .1 in
     record {
       reads = f .0;

@@ -1,8 +1,8 @@
--- A test of every element of a list: at an index, and of a member.
+-- A test of every element of a list: at an index, of a member, and of two lists in one.
 -- Assumes nothing.
 use mathlib.Core.Path.{_≡_, refl, _∙_, ap, ap₂}
 use mathlib.Core.Bool.{Bool, true, _&&_}
-use mathlib.Core.List.{List, [], _∷_, List·Memᴰ, List·Memᴰ·head, List·Memᴰ·tail}
+use mathlib.Core.List.{List, [], _∷_, _++_, List·Memᴰ, List·Memᴰ·head, List·Memᴰ·tail}
 use Prim.Native.Nat.{ℕ, zero, suc, _+_, _≤_, _<_}
 use native.Mathlib.Nat.{not-suc-le-zero, le-of-suc-le-suc}
 use native.Mathlib.Numerals.{add-one}
@@ -42,3 +42,13 @@ pub every-same : {A : Type 0} (f g : A → Bool) (l : List A) → ((x : A) → L
 unfolding every
 every-same f g [] h = refl
 every-same f g (y ∷ ys) h = ap₂ _&&_ (h y (List·Memᴰ·head refl)) (every-same f g ys (λ x m. h x (List·Memᴰ·tail m)))
+
+module _ {A : Type 0} (f : A → Bool) where
+  pub every-append : (xs ys : List A) → every f xs ≡ true → every f ys ≡ true → every f (xs ++ ys) ≡ true
+  unfolding every
+  every-append [] ys h k = k
+  every-append (x ∷ xs) ys h k = and-true (f x) _ (and-fst (f x) _ h) (every-append xs ys (and-snd (f x) _ h) k)
+
+  pub every-last : (xs : List A) (y : A) → every f xs ≡ true → f y ≡ true → every f (xs ++ (y ∷ [])) ≡ true
+  unfolding every
+  every-last xs y h k = every-append xs (y ∷ []) h (and-true (f y) true k refl)

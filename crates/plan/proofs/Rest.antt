@@ -17,6 +17,7 @@ use Rattle.plan.specs.Decode.{transactionsOf, stepOf, partBy}
 use Rattle.plan.specs.Admission.{Verdict, accepted, refused, every, wellFormed, parametersExist, transactionFormed, stepFormed}
 use Rattle.plan.specs.Admission.{stepExists, partExists}
 use Rattle.plan.specs.Admission.{transactionsVerdict}
+use Rattle.plan.proofs.Places.{left-suc}
 
 -- the verdict when n transactions are still to come in the words ws; m: a parameter was missing already
 rest : ℕ → List ℕ → Bool → Verdict
@@ -82,9 +83,6 @@ in-good k p n w ws m e = simp (e, noted, leb·suc-suc)
 
 abbrev pub there : (ℕ → Bool) → List ℕ → ℕ → Bool
 there form plan at = ltb at (length plan) && form (getD plan at 0)
-
-left-suc : (n k : ℕ) → k < n → n - k ≡ suc (n - (k + 1))
-left-suc n k h = omega arith
 
 left-none : (n k : ℕ) → n ≤ k → n - k ≡ 0
 left-none n k h = omega arith

@@ -85,7 +85,7 @@ module _ {M : Type 1} (𝓤 : URA M) (H : Heap 𝓤) (A : Atoms 𝓤) (W : Given
   pub records-makes : Makes 𝓤 H A Records (Is Records)
   records-makes = array-makes 𝓤 H A W T.the-row request-makes 32
 
-each-field : (zs : List Request) (us : List Val) → shadow (eachOf Request (T.the-row .own) zs us)
+pub each-field : (zs : List Request) (us : List Val) → shadow (eachOf Request (T.the-row .own) zs us)
     → shadow (eachOf (T.the-field .row .Denot) (T.the-field .row .own) (map (T.the-field .into) zs) us)
 each-field [] [] s = s
 each-field [] (u ∷ us) s = s

@@ -10,6 +10,7 @@ use lib.ListN.{length}
 use borrow.Author.Tests.{eqb-true}
 use Rattle.plan.specs.Admission.{every}
 use Rattle.plan.proofs.Bool.{and-fst, and-snd, and-true}
+use Rattle.plan.proofs.Every.{every-append}
 use Rattle.operation.specs.Run.{Update}
 use Rattle.token.specs.Frame.{SentUpdate, sent, updateWords, updatesWords}
 use Rattle.token.specs.Admission.{deskCount}
@@ -23,11 +24,6 @@ words-append (u ∷ us) ts =
     ap (λ (w : List ℕ). updateWords u ++ w) (words-append us ts) ∙ sym (append-assoc (updateWords u) (updatesWords us) (updatesWords ts))
 
 -- ---- each of them
-
-every-append : (f : SentUpdate → Bool) (us ts : List SentUpdate) → every f us ≡ true → every f ts ≡ true → every f (us ++ ts) ≡ true
-unfolding every
-every-append f [] ts e g = g
-every-append f (u ∷ us) ts e g = and-true (f u) _ (and-fst (f u) _ e) (every-append f us ts (and-snd (f u) _ e) g)
 
 every-foreign : (f : SentUpdate → Bool) (desk : ℕ) (us : List SentUpdate) → every f us ≡ true → every f (foreign desk us) ≡ true
 unfolding every foreign
