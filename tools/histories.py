@@ -1,627 +1,550 @@
-"""Prints what the program `histories` must write: the same generator and the same calls, over the model of model.py.
+"""Draws random histories and writes them as one script in the language of docs/SCRIPT.md:
 
-The generator draws from one number modulo 2^32; its functions have their counterparts in the crates generator, comparison,
-requests, visits and histories, and draw in the same order. Usage: python3 tools/histories.py [histories] > crates/histories/stdout
+    python3 tools/histories.py [histories] [seed] [first] > script
+
+Every line is followed by the interpreter of script.py over the model as soon as it is written, so that the plan, the states, the frames
+and all answers are known while the next line is drawn. At the end of a history that keeps the premise of demand 3 the model's answers are
+held to the serial run of model.py. A history is drawn by its number and the seed alone, so that it can be drawn without those before it.
 """
 
+import random
 import sys
+from collections import deque
 
-from model import (
-    CELLS,
-    OUTGOING,
-    REPLIES,
-    ROWS,
-    STARTING_FRAME,
-    WORD,
-    Desk,
-    Plan,
-    Serial,
-    classify,
-    field,
-    frame_visit,
-    new_desk,
-    request,
-    seal,
-    starting_frame,
-    sums,
-    visit,
-    write_frame,
-)
+from model import CELLS, OUTGOING, REPLIES, ROWS, STARTING_FRAME, WORD
+from model import Desk, Serial, cell_of, field, question_6
+from plans import PlanDrawing, damage, hexadecimal
+from script import Interpreter
+from tally import Difference, Tally
 
-HISTORIES, CALLS = 2000, 60
-JUNK = (WORD - 1,) * 6
-COUNTS = [
-    "calls",
-    "plans",
-    "damaged plans",
-    "classifications",
-    "requests",
-    "free runs",
-    "local runs",
-    "waits",
-    "elsewheres",
-    "declined runs",
-    "visits",
-    "visits with several waiting",
-    "globals",
-    "altered frames accepted",
-    "words of the longest frame accepted",
-    "words of the longest frame written",
-    "histories with the premise",
-    "histories without the premise",
-]
+HISTORIES, SEED, CALLS = 500, 97, 60
+# The shape of a history by its number; it decides on the plan and on how the calls begin.
+SHAPES = ["one desk", "no partition", "many transactions", "most words", "full frame", "long pass"]
+SHAPES += ["own cells"] * 3 + ["burst"] * 2 + ["plain"] * 9
 
 
-def scramble(x):
-    """Carries the high bits of a number of the generator into the low ones."""
-    x ^= x >> 16
-    x = x * 73244475 % WORD
-    return x ^ (x >> 16)
+def four(params):
+    return list(params) + [0] * (4 - len(params))
 
 
-class Draws:
-    """The generator's numbers."""
-
-    def __init__(self, seed):
-        self.state = seed
-
-    def draw(self, n):
-        self.state = (self.state * 1664525 + 1013904223) % WORD
-        return scramble(self.state) % n
-
-    def word(self):
-        high = self.draw(65536)
-        return high * 65536 + self.draw(65536)
+def text_of(transaction, params):
+    """An operation, as the script has it."""
+    return " ".join(["T%d" % transaction] + [str(p) for p in params])
 
 
-# ---- Plans
-
-
-def cell_step(rng, kind, shape, theme, params, partition):
-    """A read or write step. Tables 0 and 1 are left alone where the plan has transactions of its own for them, table 7 is only read."""
-    base = 2 if 3 <= shape <= 5 else 0
-    table = base + theme
-    if theme > 1:
-        table = base + rng.draw(3)
-    if kind == 3 and rng.draw(4) == 0:
-        table = 7
-    column = rng.draw(2)
-    if table == base:
-        source, fixed = partition, 0
-        if partition == 15:
-            source, fixed = 7, 28 + rng.draw(4)
-    else:
-        source, fixed = 7, rng.draw(4)
-        if params > 0 and rng.draw(3) > 0:
-            source, fixed = rng.draw(params), 0
-    return (kind << 28) + (table << 25) + (column << 23) + (source << 20) + fixed
-
-
-def operand_step(rng, kind, params):
-    """A set, add, need or take step."""
-    source, fixed = 7, rng.draw(8)
-    if rng.draw(16) == 0:
-        fixed = rng.draw(16777216)
-    if params > 0 and rng.draw(2) > 0:
-        source, fixed = rng.draw(params), 0
-    return (kind << 28) + (source << 25) + fixed
-
-
-def make_step(rng, shape, theme, params, partition, last):
-    """A step of any kind; a transaction of theme 3 only reads, and any other ends with a write."""
-    form = rng.draw(8)
-    if last and theme < 3:
-        form = 2
-    if form >= 4:
-        return operand_step(rng, form + 1, params)
-    kind = 3 if form < 2 or theme == 3 else 4
-    return cell_step(rng, kind, shape, theme, params, partition)
-
-
-def make_transaction(rng, words, shape):
-    """A transaction word and its steps. Shape 2 has no partitioning, shape 6 the most steps."""
-    params = rng.draw(5)
-    partition = 15
-    if params > 0 and shape != 2 and rng.draw(5) > 0:
-        partition = rng.draw(params)
-    theme = (0, 0, 1, 1, 1, 2, 2, 3)[rng.draw(8)]
-    steps = 1 + rng.draw(6)
-    if rng.draw(16) == 0 or shape == 6:
-        steps = 12
-    words.append((2 << 28) + (params << 24) + (steps << 20) + (partition << 16))
-    for j in range(steps):
-        words.append(make_step(rng, shape, theme, params, partition, j + 1 == steps))
-
-
-# A global that writes a cell of its own desk and a cell of all, a local that writes the first, a local that reads it.
-OWN_CELLS = [0x22300000, 0x52000000, 0x40000000, 0x42700000, 0x22300000, 0x30000000, 0x62000000, 0x40000000, 0x21100000, 0x30000000]
-
-
-def make_plan(rng):
-    """A plan that is accepted. Shape 0 has one desk, shapes 1 and 6 have 32 transactions, shapes 3 to 5 the cells of one desk."""
-    shape = rng.draw(16)
-    desks = 2 + rng.draw(3)
-    if rng.draw(2) == 0:
-        desks = 1 + rng.draw(8)
-    if shape == 0:
-        desks = 1
-    count = 2 + rng.draw(6)
-    if shape in (1, 6):
-        count = 32
-    words = [0]
-    made = 0
-    if 3 <= shape <= 5:
-        words += OWN_CELLS
-        made = 3
-        count += 3
-    for _ in range(made, count):
-        make_transaction(rng, words, shape)
-    words[0] = (1 << 28) + (desks << 24) + (count << 16) + len(words)
-    return words
-
-
-def flip(word, bit):
-    return word ^ (1 << bit)
-
-
-def alter(rng, word):
-    """Another word in place of one."""
-    form = rng.draw(4)
-    if form == 0:
-        return flip(word, rng.draw(32))
-    if form == 1:
-        return rng.word()
-    if form == 2:
-        return (word + 1) % WORD
-    return (11 << 28) + rng.draw(1024)
-
-
-def damage_head(rng, words, form):
-    """Damages of count, kind, desks and transactions."""
-    if form == 0:
-        words[0] = (words[0] + 1) % WORD
-    elif form == 1:
-        words[0] = words[0] % (1 << 28) + (rng.draw(16) << 28)
-    elif form == 2:
-        desks = rng.draw(8)
-        if desks > 0:
-            desks += 8
-        words[0] = words[0] - (field(words[0], 27, 24) << 24) + (desks << 24)
-    else:
-        count = rng.draw(223)
-        if count > 0:
-            count += 32
-        words[0] = words[0] - (field(words[0], 23, 16) << 16) + (count << 16)
-
-
-def damage_length(rng, words, form):
-    """Damages of the number of words; form 5 leaves the count as it was."""
-    if form == 4:
-        words.pop()
-        words[0] -= 1
-    elif form == 5:
-        words.pop()
-    elif form == 6:
-        words.append(rng.word())
-        words[0] += 1
-    elif form == 7:
-        words.clear()
-    else:
-        while len(words) < 418:
-            words.append(0)
-        words[0] = words[0] - field(words[0], 15, 0) + 418
-
-
-def damage(rng, words):
-    """Damages a plan; some are still accepted afterwards."""
-    form = rng.draw(16)
-    if form < 4:
-        damage_head(rng, words, form)
-    elif form < 9:
-        damage_length(rng, words, form)
-    elif form < 12:
-        if field(words[1], 27, 24) > 0:
-            words[1] -= 1 << 24
-    else:
-        at = rng.draw(len(words))
-        words[at] = alter(rng, words[at])
-
-
-# ---- Histories
+def any_word(rng):
+    """A word: small, any, or one of the last."""
+    return rng.choice((rng.randrange(100), rng.randrange(WORD), rng.randrange(WORD), WORD - 1 - rng.randrange(3)))
 
 
 class History:
-    """One history: desks with their books and rows, the frames written so far, and the serial run."""
+    """One history. `premise` says whether it keeps the premise so far; a forging one is drawn so that it mostly does not. The token is
+    the number of the frame that the latest accepted visit sent, and `by_hand` the desk whose state is not as the calls left it, if any."""
 
-    def __init__(self, seed, tally):
-        self.rng = Draws(seed)
-        self.tally = tally
-        words = make_plan(self.rng)
-        if self.rng.draw(4) == 0:
-            self.try_damaged(list(words))
-        self.plan = Plan(words)
-        assert self.plan.verdict == 0
-        self.n = self.plan.desks
-        tally["plans"] += 1
-        self.clean = True
-        self.open_desks()
-        self.serial = Serial(self.plan)
-        self.given = {}
+    def __init__(self, number, seed, interpreter, lines, tally):
+        self.number, self.rng = number, random.Random("%d %d" % (seed, number))
+        self.interpreter, self.lines, self.tally = interpreter, lines, tally
+        self.shape = "full round" if number % 500 == 19 else SHAPES[number % len(SHAPES)]
+        self.forging = self.shape not in ("full round", "long pass") and self.rng.randrange(100) < 31
+        self.request_share = self.rng.choice((84, 78, 70, 62))
+        self.calls, self.token, self.premise, self.by_hand = 0, 0, True, None
+        self.clients, self.given, self.visits, self.highest = [], [], [], 0
 
-    def count(self, answer):
-        """Counts a call and, if it is one, its refusal."""
-        self.tally["calls"] += 1
+    def write(self, line):
+        """A line of the script, followed at once."""
+        self.lines.append(line)
+        self.interpreter.line(line)
+
+    def call(self, line, calls=1):
+        """A line that makes a call, or several by `pass`; gives the answer of the last."""
+        self.write(line)
+        self.calls += 1
+        self.tally.counts["calls"] += calls
+        answer = self.interpreter.last.answer
         if answer[0] == "refused":
-            self.tally[answer[1]] += 1
+            self.tally.counts["refused by %d" % answer[1]] += 1
         return answer
 
-    def try_damaged(self, words):
-        """All calls with a plan that may be refused; the five after the first only where it is."""
-        damage(self.rng, words)
-        plan = Plan(words)
-        self.tally["damaged plans"] += 1
-        refusals = 6 if plan.verdict else 0
-        self.tally["calls"] += max(1, refusals)
-        if plan.verdict:
-            self.tally[plan.verdict] += refusals
+    def holding(self, desk):
+        return self.interpreter.desks[desk]
 
-    def open_desks(self):
-        """New desks, one that is refused, and the starting frame, once in a buffer too short for it."""
+    # The opening and the course
+
+    def open(self):
+        """The plan, the desks with equal books and rows that hold anything, and the starting frame."""
         rng = self.rng
-        self.states = []
-        for d in range(self.n):
-            self.states.append(self.count(new_desk(self.plan, d))[1])
-        self.count(new_desk(self.plan, self.n + rng.draw(3)))
-        self.count(starting_frame([0] * rng.draw(4)))
-        self.count(starting_frame([0] * (4 + rng.draw(4))))
-        self.slots = [list(STARTING_FRAME)]
-        form = rng.draw(3)
-        self.start = [0 if form == 0 else c % 11 if form == 1 else rng.draw(64) for c in range(CELLS)]
-        self.books = [list(self.start) for _ in range(self.n)]
-        self.rows = [[JUNK] * ROWS for _ in range(self.n)]
+        drawing = PlanDrawing(rng, self.shape)
+        self.write("reset")
+        self.call("plan " + hexadecimal(drawing.draw()))
+        self.plan, self.rows, self.n = self.interpreter.plan, drawing.rows, self.interpreter.plan.desks
+        self.tally.plan(self.plan)
+        fill = rng.choice(("", "%d" % any_word(rng), "seed %d" % rng.randrange(1000)))
+        for desk in range(self.n):
+            self.call("desk %d" % desk)
+            if fill:
+                self.write("cells %d %s" % (desk, fill))
+            if rng.randrange(4) == 0:
+                self.write("records %d 0 33 client %d %s" % (desk, self.client(), text_of(*self.operation())))
+        self.serial, self.book = Serial(self.plan), self.holding(0).book[:CELLS]
+        if rng.randrange(8) == 0:
+            self.call("visit 0")
+        if rng.randrange(8) == 0:
+            self.lent("out %d" % rng.randrange(4), lambda: self.call("start"))
+        self.call("start")
+        self.sent = {tuple(STARTING_FRAME)}
 
     def run(self):
-        self.forging = self.rng.draw(4) == 0
-        self.pace = self.rng.draw(4)
-        self.choose_burst()
-        for i in range(CALLS):
-            self.one_call(i)
+        """The opening and 60 calls, which begin in some shapes with a course of their own; the longest of these has 300 calls more."""
+        self.open()
+        first, last = self.calls, self.calls + CALLS + (300 if self.shape == "full round" else 0)
+        damage_at = self.rng.randrange(first, last) if self.rng.randrange(4) == 0 else last
+        pass_at = first + 20 if self.shape == "long pass" else last
+        course = {"full frame": self.full_frame, "full round": self.full_round, "burst": self.burst, "own cells": self.own_cells}
+        course.get(self.shape, self.usual_request)()
+        while self.calls < last:
+            if self.calls >= damage_at:
+                damage_at = last
+                self.damaged_plan()
+            elif self.calls >= pass_at:
+                pass_at = last
+                self.long_pass()
+            else:
+                self.next_call()
         self.finish()
 
-    def choose_burst(self):
-        """In some histories the first requests are all of one global operation, if one is found."""
-        self.burst = None
-        if self.rng.draw(12) > 0:
-            return
-        for _ in range(24):
-            transaction, params = self.make_operation()
-            found = self.plan.class_of(transaction, params)
-            if self.burst is None and found[0] == "global":
-                self.burst = (found[1], transaction, params)
-
-    def one_call(self, i):
-        if self.burst is not None and i < 35:
-            desk, transaction, params = self.burst
-            self.call_request(desk, self.states[desk], CELLS, ROWS, transaction, params, False)
-            return
-        form = self.rng.draw(100)
-        if form < (84, 76, 66, 50)[self.pace]:
+    def next_call(self):
+        """A request, a visit, or an odd call, which is mostly refused or changes nothing."""
+        form, waiting = self.rng.randrange(100), any(self.holding(desk).state.waiting for desk in range(self.n))
+        if form < (self.request_share if waiting else 83):
             self.usual_request()
-        elif form < 92:
+        elif form < 89:
             self.usual_visit()
+        elif self.shape == "own cells" and form < 91:
+            self.own_cells()
         else:
-            self.odd_call(self.choose_odd())
+            odd = [self.odd_request] * 2 + [self.odd_frame] * 5 + [self.forged_frame] * 3 + [self.lent_call] * 2 + [self.odd_state] * 2
+            odd += [self.last_number, self.past_a_word, self.usual_class, self.usual_read, self.outside_desk, self.other_start]
+            odd += [self.forged_frame] * 6 + [self.odd_frame, self.made_by_hand, self.made_by_hand] if self.forging else []
+            self.rng.choice(odd)()
 
-    def choose_odd(self):
-        """The form of an odd call; where frames are forged, mostly a forged one."""
-        if self.forging and self.rng.draw(2) == 0:
-            return 7 + 2 * self.rng.draw(2)
-        return self.rng.draw(20)
+    # Requests
 
-    # ---- Requests
+    def client(self):
+        return self.rng.randrange(10) if self.rng.randrange(24) else any_word(self.rng)
 
-    def make_operation(self):
-        """A transaction and four parameters, mostly such that pass questions 7 and 8."""
-        rng = self.rng
-        transaction = rng.draw(len(self.plan.transactions))
-        params = [0, 0, 0, 0]
-        for i in range(self.plan.transactions[transaction].params):
-            params[i] = self.make_parameter()
-        return transaction, params
+    def parameter(self, t, k):
+        """A number for a parameter: of a row mostly one of the plan's rows and seldom above 31, of others small or any word."""
+        rng, form = self.rng, self.rng.randrange(40)
+        if any(s.kind in (3, 4) and s.source == k for s in t.steps):
+            return rng.choice(self.rows) if form < 30 else rng.randrange(ROWS) if form < 39 else rng.choice((32, 33, any_word(rng)))
+        return rng.randrange(10) if form < 35 else any_word(rng)
 
-    def make_parameter(self):
-        form = self.rng.draw(32)
-        if form < 26:
-            return self.rng.draw(8)
-        if form < 30:
-            return self.rng.draw(32)
-        return self.rng.draw(40) if form == 30 else self.rng.word()
+    def operation(self):
+        """A transaction and its parameters, mostly such that pass questions 7 and 8."""
+        transaction = self.rng.randrange(len(self.plan.transactions))
+        t = self.plan.transactions[transaction]
+        return transaction, [self.parameter(t, k) for k in range(t.params)]
+
+    def global_operation(self, desk=None):
+        """The desk, transaction and parameters of a global operation, of a desk if one is named, or None if none was drawn."""
+        for _ in range(60):
+            transaction, params = self.operation()
+            found = self.plan.class_of(transaction, four(params))
+            if found[0] == "global" and desk in (None, found[1]):
+                return found[1], transaction, params
+        return None
 
     def usual_request(self):
         """A request, mostly at the operation's own desk."""
-        transaction, params = self.make_operation()
-        desk = self.plan.desk_of(self.plan.transactions[transaction], params)
-        if self.rng.draw(4) == 0:
-            desk = self.rng.draw(self.n)
-        self.call_request(desk, self.states[desk], CELLS, ROWS, transaction, params, False)
+        transaction, params = self.operation()
+        own = self.plan.desk_of(self.plan.transactions[transaction], four(params))
+        self.request(own if self.rng.randrange(6) else self.rng.randrange(self.n), transaction, params)
 
-    def call_request(self, desk, state, size, records, transaction, params, altered):
-        """A request at a desk with a state, altered or the desk's own, and with a book and a row of some size."""
-        client = self.rng.draw(100000)
-        book = self.books[desk] if size == CELLS else [0] * size
-        row = self.rows[desk] if records == ROWS else [JUNK] * records
-        answer, after = request(self.plan, state, book, row, client, transaction, params)
-        self.count(answer)
-        self.tally["requests"] += 1
-        self.keep_state(desk, after, altered, answer)
-        if answer[0] == "elsewhere":
-            self.tally["elsewheres"] += 1
-        elif answer[0] == "waits":
-            self.tally["waits"] += 1
-        elif answer[0] == "replied":
-            free = self.plan.class_of(transaction, params)[0] == "free"
-            self.tally["free runs" if free else "local runs"] += 1
-            self.tally["declined runs"] += int(not answer[1])
-        if not altered and answer[0] != "refused":
-            name = self.tally["calls"]
-            self.serial.accepted_request(desk, name, transaction, params)
-            if answer[0] == "replied":
-                self.given[name] = answer[1:]
+    def request(self, desk, transaction, params):
+        client = self.client()
+        answer = self.call("request %d client %d %s" % (desk, client, text_of(transaction, params)))
+        if answer[0] == "refused":
+            return
+        params, name = four(params), len(self.clients)
+        self.tally.request(self.plan, transaction, params, answer)
+        self.premise = self.premise and desk != self.by_hand
+        self.clients.append(client)
+        self.serial.accepted_request(desk, name, transaction, params)
+        if answer[0] == "replied":
+            self.given.append((name, client, *answer[1:]))
 
-    def keep_state(self, desk, after, altered, answer):
-        """A call with an altered state that is not refused leaves the premise, and only its number waiting is kept."""
-        if not altered:
-            self.states[desk] = after
-        elif answer[0] != "refused":
-            self.clean = False
-            self.states[desk] = self.states[desk]._replace(waiting=after.waiting)
+    def odd_request(self):
+        """A transaction that does not exist, an unused parameter that is not zero, or a row above 31."""
+        rng, form = self.rng, self.rng.randrange(3)
+        transaction, params = self.operation()
+        if form == 0:
+            transaction = min(WORD - 1, len(self.plan.transactions) + rng.choice((0, 0, 1, 32, any_word(rng))))
+        elif form == 1 and len(params) < 4:
+            params = four(params)[:3] + [rng.choice((1, any_word(rng)))]
+        elif params:
+            params[rng.randrange(len(params))] = rng.choice((32, 33, rng.randrange(ROWS, WORD)))
+        self.request(rng.randrange(self.n), transaction, params)
 
-    # ---- Visits
+    def burst(self):
+        """One global operation until its desk's row is full, and some more."""
+        found = self.global_operation()
+        for _ in range(33 + self.rng.randrange(3) if found else 0):
+            self.request(*found)
+
+    def own_cells(self):
+        """The global that writes a cell of its own desk, the local that writes it afterwards, the token once around, and the reader."""
+        row = self.rng.choice(self.rows)
+        for transaction, params in ((0, [row, self.rng.randrange(100)]), (1, [row, self.rng.randrange(100)]), (2, [row])):
+            self.request(row % self.n, transaction, params)
+            round_end = self.interpreter.frames[self.token][1] + self.n
+            for _ in range(self.n if transaction < 2 else 0):
+                if self.interpreter.frames[self.token][1] < round_end:
+                    self.usual_visit()
+
+    # Visits
+
+    def frame_text(self, number):
+        """A kept frame, as the script has it."""
+        return "" if number + 1 == len(self.interpreter.frames) else "frame %d" % number
+
+    def addressed(self, number):
+        return field(self.interpreter.frames[number][0], 27, 24)
+
+    def token_visit(self, change=""):
+        """The token goes on, with its frame as it is or changed."""
+        self.visit(self.addressed(self.token), self.frame_text(self.token) + change)
 
     def usual_visit(self):
-        """The token goes on: the latest frame at the desk that it is addressed to."""
-        frame = self.slots[-1]
-        self.call_visit(self.addressed(frame), frame)
-
-    def addressed(self, frame):
-        return field(frame[0], 27, 24) % self.n
-
-    def call_visit(self, desk, frame):
-        """A visit with fit buffers."""
-        out, replies = OUTGOING + self.rng.draw(3), REPLIES + self.rng.draw(3)
-        self.visit_with(desk, self.states[desk], CELLS, ROWS, frame, out, replies, False)
-
-    def visit_with(self, desk, state, size, records, frame, out_size, replies_size, altered):
-        """A visit with a state, altered or the desk's own, and buffers of some size, filled with a word."""
-        junk = self.rng.word()
-        book = self.books[desk] if size == CELLS else [0] * size
-        row = self.rows[desk] if records == ROWS else [JUNK] * records
-        out, replies = [junk] * out_size, [junk] * replies_size
-        answer, after = visit(self.plan, state, book, row, frame, out, replies)
-        self.count(answer)
-        self.keep_state(desk, after, altered, answer)
-        if answer[0] == "passed":
-            self.tally["visits"] += 1
-            self.tally["globals"] += answer[2]
-            self.raise_to("words of the longest frame accepted", len(frame))
-            self.raise_to("words of the longest frame written", answer[1])
-            self.tally["visits with several waiting"] += int(answer[2] > 1)
-            self.tally["declined runs"] += sum(1 for w in replies[0 : 3 * answer[2] : 3] if w % 2 == 0)
-            if not altered:
-                self.passed(desk, frame, out[: answer[1]], replies[: 3 * answer[2]])
-
-    def raise_to(self, name, number):
-        self.tally[name] = max(self.tally[name], number)
-
-    def passed(self, desk, frame, written, replies):
-        """Notes an accepted visit: the premise, what it finished and what it wrote."""
-        if frame not in self.slots:
-            self.clean = False
-            self.tally["altered frames accepted"] += 1
-        self.slots.append(written)
-        if self.clean:
-            for k, name in enumerate(self.serial.accepted_visit(desk)):
-                self.given[name] = (bool(replies[3 * k] % 2), replies[3 * k + 2])
-
-    # ---- Odd calls
-
-    def odd_call(self, form):
-        if form < 2:
-            self.odd_request(form)
-        elif form < 10:
-            self.odd_frame(form)
-        elif form < 16:
-            self.odd_loan(form)
+        """The token goes on, often by `pass`, at times by a frame that is written by hand word for word."""
+        form, steps, frame = self.rng.randrange(24), self.steps_to_waiting(), self.interpreter.frames[self.token]
+        if form < 20 and steps and self.frame_text(self.token) == "":
+            self.pass_on(self.rng.choice((steps, steps, self.rng.randrange(1, steps + 1))))
+        elif form == 20:
+            self.token_visit(" word 1 %X" % frame[1])
+        elif form == 21 and frame == STARTING_FRAME:
+            self.visit(0, "words 90000004 0 seal")
         else:
-            self.odd_reader(form)
+            self.token_visit()
 
-    def odd_request(self, form):
-        """A transaction that does not exist, or a parameter that is not fit."""
-        rng = self.rng
-        transaction, params = self.make_operation()
+    def steps_to_waiting(self):
+        """How many visits the token can make up to one with replies, or around; 0 where the next one would be refused."""
+        number = self.interpreter.frames[self.token][1]
+        for k in range(self.n):
+            desk, waiting, awaited = self.holding((number + k) % self.n).state
+            if awaited != number + k or desk != awaited % self.n:
+                return k
+            if waiting:
+                return k + 1
+        return self.n
+
+    def visit(self, desk, text=""):
+        """A visit by the latest frame, or by the frame that the text makes of it."""
+        self.call(("visit %d %s" % (desk, text)).rstrip())
+        if self.interpreter.last.answer[0] != "refused":
+            self.accepted_visit(desk)
+
+    def accepted_visit(self, desk):
+        """Takes account of the latest call, an accepted visit."""
+        call = self.interpreter.last
+        changed = tuple(call.words) not in self.sent
+        self.tally.visit(self.plan, call, self.holding(desk).row, changed)
+        self.premise = self.premise and desk != self.by_hand and not changed
+        self.sent.add(tuple(call.out))
+        self.token, self.highest = len(self.interpreter.frames) - 1, call.words[1]
+        self.visits.append((self.serial.accepted_visit(desk), call.answer[2], call.replies))
+
+    def pass_on(self, steps):
+        """As many visits by `pass`. Nothing waits at their desks, but for the last one."""
+        frames, first = self.interpreter.frames, len(self.interpreter.frames)
+        self.call("pass %d" % steps, steps)
+        if len(frames) != first + steps:
+            raise Difference("history %d: a visit was refused on the way" % self.number)
+        for frame in frames[first:-1]:
+            self.sent.add(tuple(frame))
+            self.visits.append((self.serial.accepted_visit((frame[1] - 1) % self.n), 0, []))
+        self.tally.counts["visits accepted"] += steps - 1
+        self.accepted_visit((frames[-1][1] - 1) % self.n)
+
+    def long_pass(self):
+        """The token goes round until nothing waits, and then on for some hundred visits, or past 2^16 in a few histories."""
+        for _ in range(self.n):
+            self.token_visit()
+        if self.frame_text(self.token) == "" and self.steps_to_waiting() == self.n:
+            self.pass_on(self.rng.randrange(65600, 70000) if self.number % 200 == 105 else self.rng.randrange(200, 900))
+
+    # Frames that come late, and those that no desk sent
+
+    def drawn_frame(self):
+        """The number of any kept frame."""
+        count = len(self.interpreter.frames)
+        return self.rng.randrange(max(0, count - 64), count)
+
+    def word_change(self, number, behind):
+        """A kept frame with a word changed, but for some at its end."""
+        rng, frame = self.rng, self.interpreter.frames[number]
+        at = rng.randrange(len(frame) - behind)
+        word = rng.choice((frame[at] ^ 1 << rng.randrange(32), frame[at] + 1, rng.randrange(WORD), 11 << 28 | rng.randrange(CELLS)))
+        return "%s word %d %X" % (self.frame_text(number), at, word % WORD)
+
+    def odd_frame(self):
+        """A frame twice, late, at a wrong desk, cut, renumbered with right sums, or with a word changed, if forging with right sums."""
+        rng, number, form = self.rng, self.token, self.rng.randrange(6)
         if form == 0:
-            transaction = len(self.plan.transactions) + rng.draw(3)
-        elif self.plan.transactions[transaction].params < 4:
-            params[3] = 1 + rng.draw(5)
+            self.usual_visit()
+        elif form == 1:
+            number = self.drawn_frame()
+        desk, text, frame = self.addressed(number), self.frame_text(number), self.interpreter.frames[number]
+        if form == 2:
+            desk = rng.randrange(self.n)
+        elif form == 3:
+            text += " cut %d" % rng.choice((1, 2, len(frame), rng.randrange(1, len(frame) + 1)))
+        elif form == 4:
+            text += " word 1 %X sums" % ((frame[1] + rng.choice((1, 2, self.n, self.n, 2 * self.n, WORD - self.n))) % WORD)
+        elif form == 5:
+            text = self.word_change(number, 2) + " sums" if self.forging else self.word_change(number, 0)
+        self.visit(desk, text)
+
+    def touched_cell(self):
+        """A cell that the plan touches, or at times any."""
+        step = self.rng.choice(self.rng.choice(self.plan.transactions).steps)
+        return cell_of(step, [self.rng.choice(self.rows)] * 4) if step.kind in (3, 4) else self.rng.randrange(CELLS)
+
+    def update(self, desk, count):
+        """An update of a desk with so many cells, over all cells and all words."""
+        words = [10 << 28 | desk << 24 | count << 20]
+        for _ in range(count):
+            cell = self.rng.choice((self.touched_cell(), self.rng.randrange(CELLS), CELLS - 1 - self.rng.randrange(8)))
+            words += [11 << 28 | cell, any_word(self.rng)]
+        return words
+
+    def forged(self, number, parts):
+        """The frame of a visit number with these parts, each some words and how often they stand there, as the script has it."""
+        length = 4 + sum(len(words) * times for words, times in parts)
+        text = "words %X %X" % (9 << 28 | number % self.n << 24 | length, number)
+        for words, times in parts:
+            text += " " + hexadecimal(words) + (" *%d/%d" % (len(words) * (times - 1), len(words)) if times > 1 else "")
+        return text + " seal"
+
+    def sound_parts(self):
+        """Updates that are well formed; at times as many and as long as they can be."""
+        rng = self.rng
+        if rng.randrange(12) == 0:
+            return [(self.update(desk, 12), rng.choice((31, 32))) for desk in range(self.n)]
+        parts = [(self.update(rng.randrange(self.n), rng.randrange(4)), 1) for _ in range(rng.randrange(5))]
+        return parts + [(self.update(rng.randrange(self.n), rng.randrange(2)), 27)] * (rng.randrange(8) == 0)
+
+    def flawed_parts(self):
+        """Updates that are not well formed: a desk outside the plan, 13 cells, 33 of a desk, a word short, too many, or a wrong bit."""
+        rng = self.rng
+        parts = [(self.update(rng.randrange(self.n), rng.randrange(3)), 1) for _ in range(rng.randrange(3))]
+        head, cell, *rest = self.update(rng.randrange(self.n), rng.randrange(1, 4))
+        flaws = [(self.update(rng.choice((self.n, 15, rng.randrange(self.n, 16))), rng.randrange(3)), 1)]
+        flaws += [(self.update(rng.randrange(self.n), rng.choice((13, 15))), 1), ([head, cell, *rest], 33), ([head, cell, *rest[:-1]], 1)]
+        flaws += [([head ^ 1 << rng.choice((rng.randrange(20), rng.randrange(28, 32))), cell, *rest], 1)]
+        flaws += [([head, cell ^ 1 << rng.randrange(10, 32), *rest], 1)]
+        flaws += [([10 << 28], 6400 - sum(len(words) for words, _ in parts) + rng.randrange(2))]
+        return parts + [rng.choice(flaws)]
+
+    def forged_frame(self):
+        """A frame that no desk sent: flawed, or sound, and then only in a forging history the one that this desk awaits."""
+        desk, number = self.addressed(self.token), self.interpreter.frames[self.token][1]
+        sound = self.rng.randrange(8) < (7 if self.forging else 2)
+        if sound and not self.forging:
+            wrong_desk = self.n > 1 and self.rng.randrange(2)
+            desk, number = ((desk + 1) % self.n, number) if wrong_desk else (desk, number + self.n)
+        self.visit(desk, self.forged(number, self.sound_parts() if sound else self.flawed_parts()))
+
+    def full_frame(self):
+        """A desk with 32 waiting operations of 12 writes takes a frame with all updates of all other desks and sends 6,404 words."""
+        for _ in range(self.rng.randrange(8)):
+            self.token_visit()
+        number, desk = self.interpreter.frames[self.token][1], self.addressed(self.token)
+        self.wait_by_hand(desk, 32, 0, [desk + 8 * self.rng.randrange(4), self.rng.choice(self.rows)])
+        others = [d for d in range(8) if d != desk or self.rng.randrange(2)]
+        self.visit(desk, self.forged(number, [(self.update(d, 12), 32) for d in others]))
+
+    def full_round(self):
+        """All rows are filled by requests for operations of 12 writes, and the token goes round, with a frame of up to 6,404 words."""
+        for k in range(256):
+            self.request(k // 32, 0, [k // 32 + 8 * self.rng.randrange(4), self.rng.randrange(ROWS)])
+        for _ in range(9):
+            self.token_visit()
+
+    # Buffers and states
+
+    def lent(self, what, action):
+        """An action while less or more is lent than the paper asks."""
+        self.write("lend " + what)
+        action()
+        self.write("lend")
+
+    def lent_call(self):
+        """A visit or a request with buffers that are mostly not fit."""
+        rng = self.rng
+        book = "book %d" % rng.choice((1023, 1025, rng.randrange(1041)))
+        row = "row %d" % rng.choice((31, 33, rng.randrange(34)))
+        out = "out %d" % rng.choice((OUTGOING - 1, rng.randrange(OUTGOING), OUTGOING + rng.randrange(17)))
+        replies = "replies %d" % rng.choice((REPLIES - 1, rng.randrange(REPLIES), REPLIES + rng.randrange(17)))
+        if rng.randrange(3):
+            self.lent(rng.choice((book, row, out, replies, out + " " + replies)), self.token_visit)
         else:
-            params[0] = 32 + rng.draw(3)
-        desk = rng.draw(self.n)
-        self.call_request(desk, self.states[desk], CELLS, ROWS, transaction, params, False)
+            self.lent(rng.choice((book, row, book + " " + row, out)), self.usual_request)
 
-    def odd_frame(self, form):
-        """Frames repeated, misdirected, cut, altered, renumbered or forged."""
+    def set_state(self, desk, state):
+        self.write("state %d desk %d waiting %d awaits %d" % (desk, *state))
+
+    def with_state(self, desk, state, action):
+        """An action while a desk has another state, which is put back; after an accepted call only as far as the token needs it."""
+        before, token = self.holding(desk).state, self.token
+        self.set_state(desk, state)
+        self.by_hand = desk
+        action()
+        self.by_hand, after = None, self.holding(desk).state
+        if after != state and state[0::2] == before[0::2]:
+            return
+        if after != state:
+            before = before._replace(waiting=after.waiting if state.desk == before.desk else 0)
+        self.token = token
+        self.set_state(desk, before)
+
+    def odd_state(self):
+        """A state of a wrong desk, number waiting or awaited number; only in a forging history it may be fit."""
         rng = self.rng
-        frame = list(self.slots[-1])
-        if form in (2, 4):
-            frame = list(self.slots[rng.draw(len(self.slots))])
-        desk = self.addressed(frame)
-        if form in (3, 4):
-            desk = rng.draw(self.n)
-        if form == 5:
-            frame = frame[: rng.draw(len(frame))]
-        if form == 6 or (form == 7 and not self.forging):
-            at = rng.draw(len(frame))
-            frame[at] = alter(rng, frame[at])
-        if form == 7 and self.forging:
-            self.alter_and_sum(frame)
-        if form == 8:
-            frame[1] = (frame[1] + rng.draw(3) * self.n + rng.draw(2)) % WORD
-            frame = seal(frame[:-2])
-        if form == 9 and self.forging:
-            desk, frame = self.forge(desk, frame[1])
-        self.call_visit(desk, frame)
+        desk, other = self.addressed(self.token) if rng.randrange(2) else rng.randrange(self.n), rng.randrange(self.n)
+        state, row = self.holding(desk).state, self.holding(desk).row
+        states = [state._replace(desk=rng.choice((desk + self.n, self.n, WORD - 1)))]
+        states.append(state._replace(waiting=rng.choice((33, 34, WORD - 1))))
+        states.append(state._replace(waiting=rng.choice((state.waiting + 1, state.waiting + 2, 32))))
+        states.append(state._replace(awaited=state.awaited + rng.randrange(1, self.n + 1)))
+        states.append(state._replace(desk=other, awaited=state.awaited + rng.choice((0, other - desk + self.n))))
+        state = rng.choice(states)
+        if self.forging or not question_6(self.plan, state, row):
+            self.with_state(desk, state, lambda: self.call_at(desk))
 
-    def alter_and_sum(self, frame):
-        at = self.rng.draw(len(frame) - 2)
-        frame[at] = alter(self.rng, frame[at])
-        frame[-2:] = sums(frame[:-2])
-
-    def forge(self, desk, number):
-        """A frame that no desk has written, at times of the largest size and at times for another desk than the next."""
-        rng = self.rng
-        if rng.draw(8) == 0:
-            desk = rng.draw(self.n)
-            number = self.states[desk].awaited % WORD
-        big = rng.draw(6) == 0
-        updates = rng.draw(6)
-        if big:
-            updates = 32 * self.n + int(rng.draw(4) == 0)
-        words = [0, number]
-        for i in range(updates):
-            self.forge_update(words, i, big)
-        words[0] = (9 << 28) + (desk << 24) + len(words) + 2
-        return desk, seal(words)
-
-    def forge_update(self, words, i, big):
-        rng = self.rng
-        desk = i % self.n if big else rng.draw(self.n)
-        if not big and rng.draw(32) == 0:
-            desk = rng.draw(16)
-        cells = 12 if big else rng.draw(4)
-        if not big and rng.draw(64) == 0:
-            cells = 13
-        words.append((10 << 28) + (desk << 24) + (cells << 20))
-        for _ in range(cells):
-            words.append((11 << 28) + rng.draw(512))
-            words.append(rng.draw(100))
-
-    def odd_loan(self, form):
-        """Buffers that are not fit, states that are not fit, and the ends of the visit numbers."""
-        rng = self.rng
-        if form == 10:
-            self.unfit_visit(rng.draw(6))
-        elif form == 11:
-            self.unfit_request(rng.draw(4))
-        elif form == 12:
-            transaction, params = self.make_operation()
-            desk = self.plan.desk_of(self.plan.transactions[transaction], params)
-            state = self.damaged_state(desk)
-            self.call_request(desk, state, CELLS, ROWS, transaction, params, True)
-        elif form == 13:
-            frame = self.slots[-1]
-            desk = self.addressed(frame)
-            state = self.damaged_state(desk)
-            self.visit_with(desk, state, CELLS, ROWS, frame, OUTGOING, REPLIES, True)
-        elif form == 14:
-            self.last_visit()
+    def call_at(self, desk):
+        """A request or a visit at this desk."""
+        if self.rng.randrange(2):
+            self.visit(desk, self.frame_text(self.token))
         else:
-            self.past_a_word()
+            found = self.global_operation(desk) or (desk, *self.operation())
+            self.request(desk, *found[1:])
 
-    def unfit_visit(self, form):
-        frame = self.slots[-1]
-        desk = self.addressed(frame)
-        size = (CELLS, CELLS, 1023, 1025, CELLS, CELLS)[form]
-        records = (ROWS, ROWS, ROWS, ROWS, 31, 33)[form]
-        out, replies = OUTGOING - int(form == 0), REPLIES - int(form == 1)
-        self.visit_with(desk, self.states[desk], size, records, frame, out, replies, False)
-
-    def unfit_request(self, form):
-        transaction, params = self.make_operation()
-        desk = self.plan.desk_of(self.plan.transactions[transaction], params)
-        size, records = (1023, 1025, CELLS, CELLS)[form], (ROWS, ROWS, 31, 33)[form]
-        self.call_request(desk, self.states[desk], size, records, transaction, params, False)
-
-    def damaged_state(self, desk):
-        """A state that question 6 mostly refuses."""
-        state = self.states[desk]
-        form = self.rng.draw(4)
-        if form == 2 and self.n > 1:
-            return state._replace(awaited=state.awaited + 1)
-        if form == 1:
-            return state._replace(waiting=33 + self.rng.draw(3))
-        if form == 3:
-            return state._replace(waiting=state.waiting + 1 + self.rng.draw(3))
-        return state._replace(desk=state.desk + self.n)
-
-    def last_visit(self):
-        """The visit 4,294,967,295, or the one before it, at a desk that awaits it."""
-        number = WORD - 1
-        if self.forging:
-            number -= self.rng.draw(2)
-        desk = number % self.n
-        state = Desk(desk, self.states[desk].waiting, number)
-        self.visit_with(desk, state, CELLS, ROWS, write_frame(desk, number, []), OUTGOING, REPLIES, True)
+    def last_number(self):
+        """The visit 4,294,967,295; in a forging history at times the one before it, and then the one that it sends."""
+        number = WORD - 1 - (self.rng.randrange(2) if self.forging else 0)
+        desk, parts = number % self.n, self.sound_parts() if self.forging else []
+        state = Desk(desk, self.holding(desk).state.waiting, number)
+        self.with_state(desk, state, lambda: self.visit(desk, self.forged(number, parts)))
+        if self.interpreter.last.answer[0] == "passed":
+            desk = (number + 1) % self.n
+            self.with_state(desk, Desk(desk, self.holding(desk).state.waiting, number + 1), lambda: self.visit(desk))
 
     def past_a_word(self):
-        """A desk that awaits a number past a word, and a visit whose number is the rest of it."""
-        desk = self.rng.draw(self.n)
-        rest = (desk + self.n - WORD % self.n) % self.n + self.n * self.rng.draw(3)
-        state = Desk(desk, self.states[desk].waiting, WORD + rest)
-        frame = write_frame(rest % self.n, rest, [])
-        self.visit_with(desk, state, CELLS, ROWS, frame, OUTGOING, REPLIES, True)
+        """A desk that awaits a number past a word, and a visit whose number is the rest of it, or in a forging history any call."""
+        rng, n = self.rng, self.n
+        desk, high = rng.randrange(n), rng.choice((1, 1, rng.randrange(1, WORD))) * WORD
+        rest = (desk - high) % n + n * rng.choice((0, rng.randrange(100), rng.randrange(WORD // n - 1)))
+        state = Desk(desk, self.holding(desk).state.waiting, high + rest)
+        any_call = self.forging and rng.randrange(2)
+        self.with_state(desk, state, lambda: self.call_at(desk) if any_call else self.visit(desk, self.forged(rest, [])))
 
-    def odd_reader(self, form):
-        """Calls that change nothing, and a frame twice."""
-        rng = self.rng
-        if form == 16:
-            transaction, params = self.make_operation()
-            if rng.draw(8) == 0:
-                transaction = rng.draw(40)
-            self.tally["classifications"] += 1
-            self.count(classify(self.plan, transaction, params))
-        elif form == 17:
-            frame = list(self.slots[-1])
-            change = rng.draw(3)
-            if change == 1:
-                self.alter_and_sum(frame)
-            if change == 2:
-                at = rng.draw(len(frame))
-                frame[at] = alter(rng, frame[at])
-            self.count(frame_visit(self.plan, frame))
-        elif form == 18:
-            self.count(new_desk(self.plan, rng.draw(12)))
-            self.count(starting_frame([0] * rng.draw(8)))
+    def wait_by_hand(self, desk, count, transaction, params):
+        """So many waiting records of one operation at a desk, by hand; the history goes on without the premise."""
+        self.premise = False
+        self.write("records %d 0 %d client %d %s" % (desk, count, self.client(), text_of(transaction, params)))
+        self.set_state(desk, self.holding(desk).state._replace(waiting=count))
+
+    def made_by_hand(self):
+        """A cell, waiting records or a whole desk by hand; the history goes on without the premise."""
+        rng, desk, form = self.rng, self.rng.randrange(self.n), self.rng.randrange(4)
+        state, found = self.holding(desk).state, self.global_operation(desk)
+        self.premise = False
+        if form < 2 and found:
+            self.wait_by_hand(desk, rng.choice((32, rng.randrange(1, 33))), *found[1:])
+        elif form == 2:
+            self.call("desk %d" % desk)
+            self.set_state(desk, state._replace(waiting=0))
         else:
-            frame = self.slots[-1]
-            self.call_visit(self.addressed(frame), frame)
-            self.call_visit(self.addressed(frame), frame)
+            self.write("cell %d %d %d" % (desk, rng.choice((self.touched_cell(), rng.randrange(1040))), any_word(rng)))
+        self.call_at(desk)
 
-    # ---- The end
+    # Calls that change nothing, and damaged plans
+
+    def usual_class(self):
+        transaction, params = self.operation()
+        self.call("class " + text_of(transaction if self.rng.randrange(8) else self.rng.randrange(40), params))
+
+    def usual_read(self):
+        number, visit = self.drawn_frame(), any_word(self.rng)
+        texts = [self.frame_text(number), self.word_change(number, 0), self.word_change(number, 2) + " sums", "cut 1"]
+        texts += [self.forged(visit, self.sound_parts()), self.forged(visit, self.flawed_parts())]
+        self.call(("read " + self.rng.choice(texts)).rstrip())
+
+    def outside_desk(self):
+        self.call("desk %d" % self.rng.choice((self.n, self.n, 8, 15, self.rng.randrange(self.n, WORD))))
+
+    def other_start(self):
+        """A starting frame on the way, often in a buffer that is too short."""
+        self.lent("out %d" % self.rng.choice((0, 3, 3, 4, self.rng.randrange(OUTGOING))), lambda: self.call("start"))
+
+    def damaged_plan(self):
+        """A plan that is refused, some calls on it, and the plan as it was."""
+        rng, words = self.rng, self.plan.words
+        change, undo = damage(rng, words, 1 + (self.number + self.number // len(SHAPES)) % 4)
+        answer = self.call("plan same " + change)
+        calls = [self.usual_class, self.usual_request, self.token_visit, self.usual_read]
+        for call in rng.sample(calls + [lambda: self.call("desk %d" % rng.randrange(self.n))], rng.choice((2, 3))):
+            call()
+            if answer[0] != "refused" or self.interpreter.last.answer != answer:
+                raise Difference("history %d: a damaged plan is not refused" % self.number)
+        self.call("plan same " + undo)
+        if self.interpreter.plan.words != words:
+            raise Difference("history %d: the plan is not as it was" % self.number)
+
+    # The end
 
     def finish(self):
-        """Holds the replies and the cells of a history with the premise to the serial run."""
-        if not self.clean:
-            self.tally["histories without the premise"] += 1
-            return
-        self.tally["histories with the premise"] += 1
-        due, book = self.serial.end(self.start)
-        assert due == self.given
+        counts = self.tally.counts
+        counts["histories"] += 1
+        counts["with the premise" if self.premise else "without the premise"] += 1
+        if self.premise:
+            self.check_serial_run()
+            self.tally.seen["highest visit accepted with the premise"].add(self.highest)
+        self.write("say history %d: premise %skept" % (self.number, "" if self.premise else "not "))
+
+    def check_serial_run(self):
+        """Holds all replies and all cells to the serial run."""
+        due, book = self.serial.end(self.book)
+        given = list(self.given)
+        for names, count, replies in self.visits:
+            if count != len(names) or len(replies) != 3 * len(names):
+                raise Difference("history %d: a visit has another count of replies" % self.number)
+            for k, name in enumerate(names):
+                given.append((name, replies[3 * k + 1], replies[3 * k] - (12 << 28), replies[3 * k + 2]))
+        if sorted(given) != sorted((name, self.clients[name], *reply) for name, reply in due.items()):
+            raise Difference("history %d: a reply is not that of the serial run" % self.number)
         for cell in range(CELLS):
-            assert self.books[self.serial.desk_with(cell)][cell] == book[cell]
+            if self.holding(self.serial.desk_with(cell)).book[cell] != book[cell]:
+                raise Difference("history %d: cell %d is not that of the serial run" % (self.number, cell))
+        self.tally.counts["serial replies checked"] += len(given)
+        self.tally.counts["serial cells checked"] += CELLS
 
 
-def main():
-    histories = int(sys.argv[1]) if len(sys.argv) > 1 else HISTORIES
-    tally = {name: 0 for name in COUNTS}
-    tally.update({question: 0 for question in range(1, 16)})
-    for i in range(histories):
-        History((i * 2654435769 + 97) % WORD, tally).run()
-    for name in COUNTS:
-        print(name, tally[name])
-    for question in range(1, 16):
-        print("refused with", question, tally[question])
-    print("equal")
+def script(histories, seed, first=0):
+    """The script of so many histories from the first on, with the counts at its end."""
+    lines, tally, said = [], Tally(), deque(maxlen=40)
+    interpreter = Interpreter(said.append)
+    for number in range(first, first + histories):
+        History(number, seed, interpreter, lines, tally).run()
+    interpreter.end()
+    if b", bad 0\n" not in b"".join(said):
+        raise Difference("a line is not understood")
+    if histories >= HISTORIES:
+        tally.check()
+    lines += ["say " + line for line in tally.lines()]
+    return "".join(line + "\n" for line in lines).encode()
 
 
 if __name__ == "__main__":
-    main()
+    numbers = [int(word) for word in sys.argv[1:]]
+    sys.stdout.buffer.write(script(*numbers, *[HISTORIES, SEED][len(numbers) :]))

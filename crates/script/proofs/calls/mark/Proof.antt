@@ -1,0 +1,61 @@
+-- `script::calls::mark` is safe and ends.
+-- Assumes nothing.
+use Prim.Native.Nat.{_-_, _≤_}
+use mathlib.Core.Path.{_≡_}
+use lib.ListN.{length}
+use borrow.Author.Needs.{needs}
+use Rattle.script.proofs.calls.mark.Statement.{statement}
+use Rattle.script.proofs.calls.mark.Tie as tie
+
+abbrev Inv-loop : tie.InvT-loop
+Inv-loop into₀ i₀ i-end into i = (i ≤ i-end) × (length into ≡ length into₀)
+
+abbrev μ-loop : tie.MeasureT-loop
+μ-loop into₀ i₀ i-end into i = i-end - i
+
+loop-holds : tie.Need-loop-holds Inv-loop μ-loop
+loop-holds c = search needs
+
+narrow-requires : tie.Need-narrow-requires Inv-loop μ-loop
+narrow-requires c κs = search needs
+
+wrapping-add-u32-requires : tie.Need-wrapping-add-u32-requires Inv-loop μ-loop
+wrapping-add-u32-requires c κs = search needs
+
+mul-into : tie.Need-mul-into Inv-loop μ-loop
+mul-into c = search needs
+
+slice-write-into : tie.Need-slice-write-into Inv-loop μ-loop
+slice-write-into c = search needs
+
+add-i : tie.Need-add-i Inv-loop μ-loop
+add-i c = search needs
+
+loop-less : tie.Need-loop-less Inv-loop μ-loop
+loop-less c = search needs
+
+loop-again : tie.Need-loop-again Inv-loop μ-loop
+loop-again c = search needs
+
+same-length : tie.Need-same-length Inv-loop μ-loop
+same-length c = search needs
+
+returns : tie.Need-returns Inv-loop μ-loop
+returns c = search needs
+
+pub mark-spec : {M : Type 1} → statement M
+mark-spec =
+    tie.close
+    (tie.spec
+    Inv-loop
+    μ-loop
+    loop-holds
+    narrow-requires
+    wrapping-add-u32-requires
+    mul-into
+    slice-write-into
+    add-i
+    loop-less
+    loop-again
+    same-length
+    returns)

@@ -1,0 +1,51 @@
+-- `script::interpreter::take_block` is safe and ends.
+-- Assumes nothing.
+use Prim.Native.Nat.{_-_, _≤_}
+use borrow.Author.Needs.{needs}
+use Rattle.script.proofs.interpreter.take_block.Statement.{statement}
+use Rattle.script.proofs.interpreter.take_block.Tie as tie
+
+abbrev Inv-loop : tie.InvT-loop
+Inv-loop m₀ block i₀ i-end m i = i ≤ i-end
+
+abbrev μ-loop : tie.MeasureT-loop
+μ-loop m₀ block i₀ i-end m i = i-end - i
+
+loop-holds : tie.Need-loop-holds Inv-loop μ-loop
+loop-holds c = search needs
+
+shared-slice-read-take : tie.Need-shared-slice-read-take Inv-loop μ-loop
+shared-slice-read-take c = search needs
+
+take-requires : tie.Need-take-requires Inv-loop μ-loop
+take-requires c κs = search needs
+
+add-i : tie.Need-add-i Inv-loop μ-loop
+add-i c = search needs
+
+loop-less : tie.Need-loop-less Inv-loop μ-loop
+loop-less c = search needs
+
+loop-again : tie.Need-loop-again Inv-loop μ-loop
+loop-again c = search needs
+
+flush-requires : tie.Need-flush-requires Inv-loop μ-loop
+flush-requires c κs = search needs
+
+returns : tie.Need-returns Inv-loop μ-loop
+returns c = search needs
+
+pub take-block-spec : {M : Type 1} → statement M
+take-block-spec =
+    tie.close
+    (tie.spec
+    Inv-loop
+    μ-loop
+    loop-holds
+    shared-slice-read-take
+    take-requires
+    add-i
+    loop-less
+    loop-again
+    flush-requires
+    returns)

@@ -1,0 +1,63 @@
+-- `terminal::output::say` is safe and ends.
+-- Assumes nothing.
+use Prim.Native.Nat.{_-_, _≤_}
+use borrow.Author.Needs.{needs}
+use Rattle.terminal.proofs.output.say.Statement.{statement}
+use Rattle.terminal.proofs.output.say.Tie as tie
+
+abbrev Inv-loop : tie.InvT-loop
+Inv-loop m₀ text place₀ -turn₀ m place -turn = -turn ≤ 4096
+
+abbrev μ-loop : tie.MeasureT-loop
+μ-loop m₀ text place₀ -turn₀ m place -turn = 4096 - -turn
+
+on-requires : tie.Need-on-requires Inv-loop μ-loop
+on-requires c κs = search needs
+
+get-requires : tie.Need-get-requires Inv-loop μ-loop
+get-requires c κs = search needs
+
+cast-place : tie.Need-cast-place Inv-loop μ-loop
+cast-place c = search needs
+
+loop-holds : tie.Need-loop-holds Inv-loop μ-loop
+loop-holds c = search needs
+
+get-requires-2 : tie.Need-get-requires-2 Inv-loop μ-loop
+get-requires-2 c κs = search needs
+
+returns : tie.Need-returns Inv-loop μ-loop
+returns c = search needs
+
+next-requires : tie.Need-next-requires Inv-loop μ-loop
+next-requires c κs = search needs
+
+add--turn : tie.Need-add--turn Inv-loop μ-loop
+add--turn c = search needs
+
+loop-less : tie.Need-loop-less Inv-loop μ-loop
+loop-less c = search needs
+
+loop-again : tie.Need-loop-again Inv-loop μ-loop
+loop-again c = search needs
+
+returns-2 : tie.Need-returns-2 Inv-loop μ-loop
+returns-2 c = search needs
+
+pub say-spec : {M : Type 1} → statement M
+say-spec =
+    tie.close
+    (tie.spec
+    Inv-loop
+    μ-loop
+    on-requires
+    get-requires
+    cast-place
+    loop-holds
+    get-requires-2
+    returns
+    next-requires
+    add--turn
+    loop-less
+    loop-again
+    returns-2)

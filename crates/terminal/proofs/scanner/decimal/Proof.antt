@@ -1,0 +1,71 @@
+-- `terminal::scanner::decimal` is safe and ends.
+-- Assumes nothing.
+use Prim.Native.Nat.{_-_, _≤_}
+use borrow.Author.Needs.{needs}
+use Rattle.terminal.proofs.scanner.decimal.Statement.{statement}
+use Rattle.terminal.proofs.scanner.decimal.Tie as tie
+
+abbrev Inv-loop : tie.InvT-loop
+Inv-loop m from to value₀ i₀ value i = 0 ≤ i
+
+abbrev μ-loop : tie.MeasureT-loop
+μ-loop m from to value₀ i₀ value i = to - i
+
+bad-requires : tie.Need-bad-requires Inv-loop μ-loop
+bad-requires c κs = search needs
+
+returns : tie.Need-returns Inv-loop μ-loop
+returns c = search needs
+
+loop-holds : tie.Need-loop-holds Inv-loop μ-loop
+loop-holds c = search needs
+
+byte-at-requires : tie.Need-byte-at-requires Inv-loop μ-loop
+byte-at-requires c κs = search needs
+
+digit-requires : tie.Need-digit-requires Inv-loop μ-loop
+digit-requires c κs = search needs
+
+with-decimal-requires : tie.Need-with-decimal-requires Inv-loop μ-loop
+with-decimal-requires c κs = search needs
+
+bad-requires-2 : tie.Need-bad-requires-2 Inv-loop μ-loop
+bad-requires-2 c κs = search needs
+
+returns-2 : tie.Need-returns-2 Inv-loop μ-loop
+returns-2 c = search needs
+
+add-i : tie.Need-add-i Inv-loop μ-loop
+add-i c = search needs
+
+loop-less : tie.Need-loop-less Inv-loop μ-loop
+loop-less c = search needs
+
+loop-again : tie.Need-loop-again Inv-loop μ-loop
+loop-again c = search needs
+
+good-requires : tie.Need-good-requires Inv-loop μ-loop
+good-requires c κs = search needs
+
+returns-3 : tie.Need-returns-3 Inv-loop μ-loop
+returns-3 c = search needs
+
+pub decimal-spec : {M : Type 1} → statement M
+decimal-spec =
+    tie.close
+    (tie.spec
+    Inv-loop
+    μ-loop
+    bad-requires
+    returns
+    loop-holds
+    byte-at-requires
+    digit-requires
+    with-decimal-requires
+    bad-requires-2
+    returns-2
+    add-i
+    loop-less
+    loop-again
+    good-requires
+    returns-3)

@@ -1,0 +1,63 @@
+-- `terminal::scanner::name` is safe and ends.
+-- Assumes nothing.
+use Prim.Native.Nat.{_-_, _≤_}
+use borrow.Author.Needs.{needs}
+use Rattle.terminal.proofs.scanner.name.Statement.{statement}
+use Rattle.terminal.proofs.scanner.name.Tie as tie
+
+abbrev Inv-loop : tie.InvT-loop
+Inv-loop m from to value₀ i₀ value i = 0 ≤ i
+
+abbrev μ-loop : tie.MeasureT-loop
+μ-loop m from to value₀ i₀ value i = to - i
+
+is-short-requires : tie.Need-is-short-requires Inv-loop μ-loop
+is-short-requires c κs = search needs
+
+returns : tie.Need-returns Inv-loop μ-loop
+returns c = search needs
+
+loop-holds : tie.Need-loop-holds Inv-loop μ-loop
+loop-holds c = search needs
+
+mul-value : tie.Need-mul-value Inv-loop μ-loop
+mul-value c = search needs
+
+byte-at-requires : tie.Need-byte-at-requires Inv-loop μ-loop
+byte-at-requires c κs = search needs
+
+cast-value : tie.Need-cast-value Inv-loop μ-loop
+cast-value c = search needs
+
+add-value : tie.Need-add-value Inv-loop μ-loop
+add-value c = search needs
+
+add-i : tie.Need-add-i Inv-loop μ-loop
+add-i c = search needs
+
+loop-less : tie.Need-loop-less Inv-loop μ-loop
+loop-less c = search needs
+
+loop-again : tie.Need-loop-again Inv-loop μ-loop
+loop-again c = search needs
+
+returns-2 : tie.Need-returns-2 Inv-loop μ-loop
+returns-2 c = search needs
+
+pub name-spec : {M : Type 1} → statement M
+name-spec =
+    tie.close
+    (tie.spec
+    Inv-loop
+    μ-loop
+    is-short-requires
+    returns
+    loop-holds
+    mul-value
+    byte-at-requires
+    cast-value
+    add-value
+    add-i
+    loop-less
+    loop-again
+    returns-2)

@@ -1,0 +1,106 @@
+"""Makes all expected outputs again and compares them with the files: python3 tools/outputs.py
+With `write` it writes the files instead: python3 tools/outputs.py write
+
+The expected outputs are the answers of script.py: to each example alone, to what `belt` is run on (all examples, then questions.txt) and
+to what `histories` is run on (random histories). The values that the paper states of its own course stand below as they are printed
+there, and the run of `belt` is held to them first.
+"""
+
+import sys
+from pathlib import Path
+
+import histories
+from script import Interpreter, answers
+
+ROOT = Path(__file__).resolve().parent.parent
+HISTORIES, SEED = 500, 97
+
+# The paper's "A plan and its course": the plan, then a line of the script and how its answer begins.
+PLAN = "1204000B 22200000 52000000 40000000 22200000 52000000 42700000 21100000 32700000 201F0000 34700000"
+STATED = [
+    ("class T0 5 9", "T0(5, 9): local at desk 1"),
+    ("class T0 4 9", "T0(4, 9): local at desk 0"),
+    ("class T0 31 9", "T0(31, 9): local"),
+    ("class T0 32 9", "T0(32, 9): refused 8:"),
+    ("class T1 0 3", "T1(0, 3): global at desk 0"),
+    ("class T2 1", "T2(1): local at desk 1"),
+    ("class T3", "T3(): free"),
+    ("start", "start: sends frame 0 of 4 words: 90000004 00000000 90000004 20000008\n"),
+    ("request 1 client 9 T0 5 9", "desk 1: T0(5, 9) of client 9: done, 9; cell 20 is now 9\n"),
+    ("request 1 client 9 T0 31 9", "desk 1: T0(31, 9) of client 9: done, 9"),
+    ("request 1 client 9 T0 32 9", "desk 1: T0(32, 9) of client 9: refused 8:"),
+    ("request 0 client 7 T1 0 3", "desk 0: T1(0, 3) of client 7: waits"),
+    (
+        "visit 0",
+        "desk 0: visit 0 by frame 0: 1 reply, client 7 done, 3; "
+        "sends frame 1 of 7 words: 91000007 00000001 A0100000 B0000080 00000003 E110008B 1530012A;",
+    ),
+    ("visit 0", "desk 0: visit by frame 1: refused 13:"),
+    ("request 1 client 8 T2 1", "desk 1: T2(1) of client 8: done, 0"),
+    ("visit 1 word 2 A1100000", "desk 1: visit by frame 1, changed: refused 11:"),
+    ("visit 1", "desk 1: visit 1 by frame 1:"),
+    ("request 1 client 8 T2 1", "desk 1: T2(1) of client 8: done, 3"),
+    ("visit 1 frame 1", "desk 1: visit by frame 1: refused 14:"),
+    ("request 0 client 131 T1 0 3", "desk 0: T1(0, 3) of client 131: waits; record 31 is now"),
+    ("request 0 client 132 T1 0 3", "desk 0: T1(0, 3) of client 132: refused 9:"),
+    ("request 0 client 133 T4", "desk 0: T4() of client 133: refused 7:"),
+]
+
+
+def hold_to_paper(script):
+    """Ends with a message unless the lines stand in the script in this order and are answered as the paper says."""
+    pending, written = list(STATED), []
+    interpreter = Interpreter(written.append)
+    for line in script.split(b"\n"):
+        written.clear()
+        interpreter.line(line)
+        command = b" ".join(line.split(b"#")[0].split()).decode("latin-1")
+        if not pending or command != pending[0][0]:
+            continue
+        said, stated = b"".join(written).decode("latin-1"), pending.pop(0)[1]
+        if interpreter.plan.words != [int(word, 16) for word in PLAN.split()]:
+            sys.exit("%s: the plan is not the paper's" % command)
+        if not said.startswith(stated):
+            sys.exit("%s: the answer is '%s', the paper says '%s'" % (command, said.strip(), stated.strip()))
+    if pending:
+        sys.exit("not in the script, or not in this order: %s" % pending[0][0])
+
+
+def expected():
+    """Every file that is made, by its path."""
+    made, belt = {}, b""
+    for path in sorted((ROOT / "examples").glob("*.txt")):
+        script = path.read_bytes()
+        if not script.endswith(b"\n"):
+            sys.exit("%s does not end with a line feed" % path)
+        made["examples/%s.out" % path.stem] = answers(script)
+        belt += script + b"reset\n"
+    belt += (ROOT / "tools/questions.txt").read_bytes()
+    hold_to_paper(belt)
+    drawn = histories.script(HISTORIES, SEED)
+    for name, script in (("belt", belt), ("histories", drawn)):
+        made["crates/%s/stdin" % name] = script
+        made["crates/%s/stdout" % name] = answers(script)
+    return made
+
+
+def main():
+    if sys.argv[1:] not in ([], ["write"]):
+        sys.exit(__doc__)
+    differing = []
+    for name, data in expected().items():
+        path = ROOT / name
+        if sys.argv[1:] == ["write"]:
+            path.parent.mkdir(parents=True, exist_ok=True)
+            path.write_bytes(data)
+        elif not path.exists() or path.read_bytes() != data:
+            differing.append(name)
+    for name in differing:
+        print(name + " differs")
+    if not differing:
+        print("written" if sys.argv[1:] else "same")
+    sys.exit(1 if differing else 0)
+
+
+if __name__ == "__main__":
+    main()

@@ -1,0 +1,143 @@
+"""Draws plans that are accepted, and damages of plans that are then refused."""
+
+from model import FIXED, NO_PARTITION, ROWS, WORD, names_missing, walk
+
+MOST_FIXED = (1 << 25) - 1
+
+
+def hexadecimal(words):
+    return " ".join("%X" % w for w in words)
+
+
+def cell_word(kind, place, source, row=0):
+    return kind << 28 | place[0] << 25 | place[1] << 23 | source << 20 | row
+
+
+def number_word(kind, source, number=0):
+    return kind << 28 | source << 25 | number
+
+
+class PlanDrawing:
+    """A plan that is accepted. A place is a table and a column, and each has its use in a plan: `own` places are touched only in the row
+    that the partitioning parameter names, `first` ones only by transactions without partitioning, `shared` ones by all, and `constant` ones
+    are only read; a few steps keep to no use. The rows are mostly of a few that are drawn for the plan."""
+
+    def __init__(self, rng, shape):
+        self.rng, self.shape = rng, shape
+        places = [(table, column) for table in range(8) for column in range(4)]
+        rng.shuffle(places)
+        size = rng.choice((1, 1, 2, 8))
+        self.places = {use: places[k * size : (k + 1) * size] for k, use in enumerate(("own", "first", "shared", "constant"))}
+        self.rows = rng.sample(range(ROWS), rng.choice((3, 4, 8)))
+        self.desks = {"one desk": 1, "full frame": 8, "full round": 8}.get(shape, rng.choice((rng.randrange(2, 5), rng.randrange(1, 9))))
+        if shape in ("own cells", "burst"):
+            self.desks = max(2, self.desks)
+        self.words, self.count = [0], 0
+
+    def draw(self):
+        """The words of the plan."""
+        count = 32 if self.shape in ("many transactions", "most words") else self.rng.randrange(2, 8)
+        if self.shape == "own cells":
+            self.add_own_cells()
+        elif self.shape in ("full frame", "full round"):
+            self.add_twelve_writes()
+        for _ in range(count):
+            self.add_transaction()
+        self.words[0] = 1 << 28 | self.desks << 24 | self.count << 16 | len(self.words)
+        return self.words
+
+    def add(self, params, partition, steps):
+        self.words += [2 << 28 | params << 24 | len(steps) << 20 | partition << 16] + steps
+        self.count += 1
+
+    def row(self):
+        return self.rng.choice(self.rows) if self.rng.randrange(4) else self.rng.randrange(ROWS)
+
+    def add_own_cells(self):
+        """A global that writes a cell of its own desk and one of all, a local that writes the first, and a local that reads it."""
+        own, shared = self.places["own"][0], self.places["shared"][0]
+        read, write = cell_word(3, own, 0), cell_word(4, own, 0)
+        self.add(2, 0, [number_word(5, 1), write, cell_word(4, shared, FIXED, self.row())])
+        self.add(2, 0, [read, number_word(6, 1), write])
+        self.add(1, 0, [read])
+
+    def add_twelve_writes(self):
+        """A global of the longest update; the last write is of a cell that all desks write."""
+        steps = [cell_word(4, self.rng.choice(self.places["shared"]), 1) for _ in range(11)]
+        self.add(2, 0, steps + [cell_word(4, self.places["shared"][0], FIXED, self.row())])
+
+    def add_transaction(self):
+        """A transaction of one of the uses, or of all, or one that only reads. All but the readers end with a write."""
+        rng = self.rng
+        params, partition = rng.randrange(5), NO_PARTITION
+        if params and self.shape != "no partition" and rng.randrange(6):
+            partition = rng.randrange(params)
+        theme = rng.choice(("own", "own", "shared", "shared", "shared", "any", "any", "reader", "constant"))
+        length = 12 if self.shape == "most words" else rng.choice((1, 2, 3, 4, 5, 6, rng.randrange(1, 13)))
+        self.add(params, partition, [self.step(theme, params, partition, k + 1 == length) for k in range(length)])
+
+    def step(self, theme, params, partition, last):
+        kind = self.rng.choice((3, 3, 4, 4, 5, 6, 7, 8))
+        if theme in ("reader", "constant"):
+            kind = 3 if kind == 4 else kind
+        elif last:
+            kind = 4
+        return self.cell_step(kind, theme, params, partition) if kind <= 4 else self.number_step(kind, params)
+
+    def cell_step(self, kind, theme, params, partition):
+        """A read or write step, its row of a parameter or fixed."""
+        rng = self.rng
+        use, in_use = rng.choice(("own", "shared", "constant")) if theme in ("any", "reader") else theme, rng.randrange(24)
+        if kind == 4 and use == "constant":
+            use = "shared"
+        elif kind == 3 and rng.randrange(4) == 0:
+            use = "constant"
+        if use == "own" and partition == NO_PARTITION:
+            use = "first"
+        place = rng.choice(self.places[use if in_use else rng.choice(list(self.places))])
+        if use == "own" and in_use:
+            return cell_word(kind, place, partition)
+        if params and rng.randrange(5) > 1:
+            return cell_word(kind, place, rng.randrange(params))
+        return cell_word(kind, place, FIXED, self.row())
+
+    def number_step(self, kind, params):
+        """A set, add, need or take step, of a parameter or of a fixed number, small or over the full range."""
+        rng = self.rng
+        if params and rng.randrange(2):
+            return number_word(kind, rng.randrange(params))
+        number = rng.choice((rng.randrange(4), rng.randrange(16), rng.randrange(16), rng.randrange(MOST_FIXED + 1)))
+        return number_word(kind, FIXED, MOST_FIXED - rng.randrange(3) if rng.randrange(16) == 0 else number)
+
+
+def damage(rng, words, question):
+    """A change of a plan that is then refused with this question, 1 to 4, and what undoes the change, as the script has them."""
+    head, back, count = words[0], " word 0 %X" % words[0], rng.randrange(1, min(len(words), 9))
+    end, more = hexadecimal(words[-count:]), hexadecimal([rng.choice((words[-1], rng.randrange(WORD))) for _ in range(count)])
+    if question == 1:
+        heads = head ^ rng.randrange(1, 1 << 16), head ^ rng.randrange(1, 16) << 28, rng.randrange(WORD) | 2 << 28
+        forms = [("word 0 %X" % h, back) for h in heads] + [("words", "words " + hexadecimal(words))]
+        forms += [("cut %d" % count, end), (more, "cut %d" % count)]
+        forms.append(("*%d word 0 %X" % (418 - len(words), head - len(words) + 418), "cut %d" % (418 - len(words)) + back))
+        return rng.choice(forms)
+    if question == 2:
+        desks = head & 0xF0FFFFFF | rng.choice((0, 9, rng.randrange(9, 16))) << 24
+        transactions = head & 0xFF00FFFF | rng.choice((0, 33, rng.randrange(33, 256))) << 16
+        return "word 0 %X" % rng.choice((desks, transactions)), back
+    if question == 3 and rng.randrange(3) == 0:
+        forms = [("cut %d word 0 %X" % (count, head - count), end + back)]
+        if len(words) + count <= 417:
+            forms.append(("%s word 0 %X" % (more, head + count), "cut %d" % count + back))
+        return rng.choice(forms)
+    return word_damage(rng, words, question)
+
+
+def word_damage(rng, words, question):
+    """One word behind the head changed so that the plan is refused with question 3 or 4, or else with 2, if none is found."""
+    for _ in range(4000):
+        at = rng.randrange(1, len(words))
+        word = words[at] ^ rng.randrange(1, 16) << 4 * rng.randrange(8) if rng.randrange(8) else rng.randrange(WORD)
+        transactions = walk(words[:at] + [word] + words[at + 1 :])
+        if question == (3 if transactions is None else 4 if any(map(names_missing, transactions)) else 0):
+            return "word %d %X" % (at, word), "word %d %X" % (at, words[at])
+    return damage(rng, words, 2)
