@@ -314,7 +314,7 @@ class Interpreter:
 
     # Calls
 
-    def answer(self, call, who, said, changes="", loud=True):
+    def answer(self, call, who, said, changes="", answered=True):
         """Counts a call and writes its answer: what it said and changed, or its refusal."""
         self.last = call
         self.counts["calls"] += 1
@@ -323,7 +323,7 @@ class Interpreter:
             self.refusals[call.answer[1]] += 1
             self.counts["changed"] += changes != ""
             text = "%s: %s%s" % (who, refusal_text(call.answer[1]), "\nCHANGED" + changes if changes else "")
-        if loud:
+        if answered:
             self.say(text)
 
     def do_plan(self, line):
@@ -384,14 +384,14 @@ class Interpreter:
         for i in range(count):
             if self.desks[self.addressed()] is None:
                 return
-            self.visit(self.addressed(), *self.frame(line), loud=i + 1 == count)
+            self.visit(self.addressed(), *self.frame(line), answered=i + 1 == count)
 
     def addressed(self):
         """The desk that the latest frame is addressed to, 0 where none was sent."""
         return field(self.frames[-1][0], 27, 24) % SLOTS if self.frames else 0
 
-    def visit(self, slot, words, name, loud=True):
-        """A visit by some words with their name; one that is not loud writes no answer."""
+    def visit(self, slot, words, name, answered=True):
+        """A visit by some words with their name; one that is not answered writes nothing."""
         desk = self.desks[slot]
         book, row = desk.book[: self.lent[b"book"]], desk.row[: self.lent[b"row"]]
         out, replies = MARKS[: self.lent[b"out"]], MARKS[: self.lent[b"replies"]]
@@ -399,13 +399,13 @@ class Interpreter:
         changes = desk.take_back(slot, book, row, state)
         if answer[0] == "refused":
             changes += others_text((out, 0), (replies, 0))
-            self.answer(Call("visit", slot, words, answer), "desk %d: visit by %s" % (slot, name), "", changes, loud)
+            self.answer(Call("visit", slot, words, answer), "desk %d: visit by %s" % (slot, name), "", changes, answered)
             return
         sent, given = out[: answer[1]], replies[: 3 * answer[2]]
         changes += others_text((out, len(sent)), (replies, len(given)))
         who, said = "desk %d: visit %d by %s" % (slot, words[1], name), replies_text(given) + "; " + self.send(sent)
         self.count_visit(words, name, sent, answer[2])
-        self.answer(Call("visit", slot, words, answer, sent, given), who, said, changes, loud)
+        self.answer(Call("visit", slot, words, answer, sent, given), who, said, changes, answered)
 
     def count_visit(self, words, name, sent, replies):
         self.counts["visits"] += 1
