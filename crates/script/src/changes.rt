@@ -95,7 +95,7 @@ fn write_records(m: &mut Memory, d: usize) {
 // The state, if it changed.
 fn write_state(m: &mut Memory) {
     if 0 < differences(m, desk_place(desk(m)), desk_place(AFTER), 8) {
-        say(m, texts::NEXT_STEP);
+        say(m, texts::SEPARATOR);
         desks::write_state(m, AFTER);
     }
 }

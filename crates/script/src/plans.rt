@@ -150,7 +150,7 @@ fn write_step(m: &mut Memory, i: usize, word: u32) {
         if i == 0 {
             texts::FIRST_STEP
         } else {
-            texts::NEXT_STEP
+            texts::SEPARATOR
         },
     );
     put(m, TABLE, word / 0x200_0000 % 8);

@@ -62,7 +62,7 @@ pub const PARTITION: u32 = 48;
 
 pub const FIRST_STEP: u32 = 49;
 
-pub const NEXT_STEP: u32 = 50;
+pub const SEPARATOR: u32 = 50;
 
 pub const STEPS: u32 = 51;
 
@@ -179,7 +179,8 @@ line %Q, word %R: @\
 line %Q: longer than 65536 bytes\n@\
 lines %O, bad %P\ncalls %A, refused %B, changed by a refusal %C\n@\
 refused %q: %h\n@\
-requests %D: done %E, declined %F, waiting %G, elsewhere %H\nvisits %I: replies %J, several replies %K, changed frames %L, longest frame taken %M, longest frame sent %N\n@\
+requests %D: done %E, declined %F, waiting %G, elsewhere %H\n\
+visits %I: replies %J, several replies %K, changed frames %L, longest frame taken %M, longest frame sent %N\n@\
 \n@\
 plan: accepted, %b desk~, %t transaction~, %h word~\n@\
 plan of %h word~@\
