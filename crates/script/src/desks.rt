@@ -1,167 +1,133 @@
 // What a desk holds: its state, its cells and its records, by the new desk call or by hand.
-use crate::layout::CELL;
+use crate::answers;
 use crate::layout::CELL_COUNT;
 use crate::layout::CLIENT;
 use crate::layout::DESK;
 use crate::layout::DESK_SIZE;
+use crate::layout::FROM;
+use crate::layout::OPERATION;
 use crate::layout::PLAN;
-use crate::layout::RECORD;
+use crate::layout::RECORDS;
+use crate::layout::SEED;
 use crate::layout::STATE;
-use crate::layout::STATE_AWAITED;
-use crate::layout::STATE_DESK;
-use crate::layout::STATE_WAITING;
-use crate::layout::TRANSACTION;
-use crate::layout::VALUE;
-use crate::layout::cell_place;
-use crate::layout::desk;
-use crate::layout::desk_place;
+use crate::layout::TO;
+use crate::layout::here;
 use crate::layout::is_made;
-use crate::layout::plan_end;
 use crate::layout::record_place;
-use crate::refusals;
+use crate::operations;
 use crate::texts;
 use conveyor::Desk;
 use conveyor::DeskAnswer;
 use terminal::Memory;
 use terminal::memory;
-use terminal::memory::PARAMETERS;
+use terminal::memory::ITEM;
+use terminal::memory::NUMBER;
+use terminal::memory::counted;
 use terminal::memory::get;
 use terminal::memory::on;
-use terminal::memory::part;
 use terminal::memory::put;
 use terminal::output::say;
+use terminal::output::say_each;
 use terminal::scanner;
 
-// The state of desk d.
-pub fn state(m: &Memory, d: usize) -> Desk {
-    let place = on(desk_place(d), STATE);
+// The state of the desk at hand.
+pub fn state(m: &Memory) -> Desk {
     Desk {
-        desk: get(m, place),
-        waiting: get(m, on(place, 1)),
-        awaited: memory::get_wide(m, on(place, 2)),
+        desk: get(m, here(m, STATE + 1)),
+        waiting: get(m, here(m, STATE + 2)),
+        awaited: memory::get_wide(m, here(m, STATE + 3)),
     }
 }
 
-// Stores a state at a place.
-fn store_state(m: &mut Memory, place: usize, state: Desk) {
-    put(m, place, state.desk);
-    put(m, on(place, 1), state.waiting);
-    memory::put_wide(m, on(place, 2), state.awaited);
+// Stores a state at a place, and that the desk is made.
+pub fn put_state(m: &mut Memory, place: usize, state: Desk) -> &mut Memory {
+    let m = put(m, place, 1);
+    let m = put(m, on(place, 1), state.desk);
+    let m = put(m, on(place, 2), state.waiting);
+    memory::put_wide(m, on(place, 3), state.awaited)
 }
 
-// Gives desk d a state, which makes it.
-pub fn put_state(m: &mut Memory, d: usize, state: Desk) {
-    put(m, desk_place(d), 1);
-    store_state(m, on(desk_place(d), STATE), state);
-}
-
-// The state of desk d goes to its registers.
-fn take_state(m: &mut Memory, d: usize) {
-    let place = on(desk_place(d), STATE);
-    memory::move_word(m, place, STATE_DESK);
-    memory::move_word(m, on(place, 1), STATE_WAITING);
-    memory::copy(m, on(place, 2), STATE_AWAITED, 2);
-}
-
-// The state of desk d, said of the desk at hand.
-pub fn write_state(m: &mut Memory, d: usize) {
-    take_state(m, d);
-    say(m, texts::STATE);
-    if get(m, STATE_DESK) != get(m, DESK) {
-        say(m, texts::AS_DESK);
-    }
-}
-
-// The state of the desk at hand, on a line.
-fn write_desk(m: &mut Memory) {
-    say(m, texts::AT_DESK);
-    write_state(m, desk(m));
-    say(m, texts::LINE_END);
+// The state of the desk at hand goes to the item at hand.
+fn take_state(m: &mut Memory) -> &mut Memory {
+    let place = here(m, STATE);
+    memory::copy(m, place, ITEM, 5)
 }
 
 // A new desk: its words are zeros but for the state.
-fn open(m: &mut Memory, state: Desk) {
-    refusals::count_call(m, 0);
-    memory::fill(m, desk_place(desk(m)), DESK_SIZE, 0);
-    put_state(m, desk(m), state);
-    write_desk(m);
+fn open(m: &mut Memory, state: Desk) -> &mut Memory {
+    let place = here(m, 0);
+    let m = memory::fill(m, place, DESK_SIZE, 0);
+    let m = put_state(m, on(place, STATE), state);
+    let m = take_state(m);
+    answers::accept(m, texts::STATE, 0)
 }
 
-// The line of a new desk that is refused.
-fn refuse(m: &mut Memory, question: u32) {
-    say(m, texts::DESK);
-    refusals::refused(m, question);
+// A new desk that is refused.
+fn refuse(m: &mut Memory, question: u32) -> &mut Memory {
+    let m = say(m, texts::DESK);
+    answers::refuse(m, question)
 }
 
 // Asks for a new desk.
-fn new_desk(m: &Memory) -> DeskAnswer {
-    conveyor::new_desk(part(m, PLAN, plan_end(m)), get(m, DESK))
-}
-
-// The line of a new desk.
-fn desk_line(m: &mut Memory) {
-    let answer = new_desk(m);
-    match answer {
-        DeskAnswer::Opened(state) => open(m, state),
-        DeskAnswer::Refused(question) => refuse(m, question),
-    }
+fn ask(m: &Memory) -> DeskAnswer {
+    conveyor::new_desk(counted(m, PLAN), get(m, DESK))
 }
 
 // `desk 0`.
-pub fn desk_command(m: &mut Memory) {
-    scanner::number_to(m, DESK, 0xffff_ffff);
-    if scanner::is_understood(m) {
-        desk_line(m);
-    }
+pub fn new_desk(m: &mut Memory) -> &mut Memory {
+    let asked = ask(m);
+    let m = match asked {
+        DeskAnswer::Opened(state) => open(m, state),
+        DeskAnswer::Refused(question) => refuse(m, question),
+    };
+    answers::answer(m)
 }
 
-// The number of a desk, made or not, which is then at hand.
-fn read_desk(m: &mut Memory) {
-    scanner::number_to(m, DESK, 7);
+// The number of a desk that is made, which is then at hand.
+pub fn read_made(m: &mut Memory) -> &mut Memory {
+    let m = scanner::number_to(m, DESK, 7);
+    let is_there = is_made(m);
+    scanner::demand(m, is_there, texts::NOT_MADE)
 }
 
-// The number of a desk that is made.
-pub fn read_made_desk(m: &mut Memory) {
-    read_desk(m);
-    if !is_made(m, desk(m)) {
-        scanner::fault(m, texts::NOT_MADE);
-    }
-}
-
-// A state as a line writes it: `desk 0 waiting 31 awaits 64`.
-fn read_state(m: &mut Memory) -> Desk {
+// A state as a line writes it, `desk 0 waiting 31 awaits 64`, goes to the item at hand.
+fn read_fields(m: &mut Memory) -> &mut Memory {
     // desk
-    scanner::expect(m, 0x6465_736b, texts::NO_DESK);
-    let desk = scanner::full_word(m);
+    let m = scanner::expect(m, 0x6465_736b, texts::NO_DESK);
+    let m = scanner::number_to(m, ITEM + 1, scanner::WORD);
     // waiting
-    scanner::expect(m, 0x77_6169_7469_6e67, texts::NO_WAITING);
-    let waiting = scanner::full_word(m);
+    let m = scanner::expect(m, 0x77_6169_7469_6e67, texts::NO_WAITING);
+    let m = scanner::number_to(m, ITEM + 2, scanner::WORD);
     // awaits
-    scanner::expect(m, 0x6177_6169_7473, texts::NO_AWAITS);
-    Desk {
-        desk: desk,
-        waiting: waiting,
-        awaited: scanner::number(m, 0xffff_ffff_ffff_ffff),
-    }
+    let m = scanner::expect(m, 0x6177_6169_7473, texts::NO_AWAITS);
+    let m = scanner::number(m, 0xffff_ffff_ffff_ffff);
+    memory::copy(m, NUMBER, ITEM + 3, 2)
+}
+
+// `state 0 desk 0 waiting 31 awaits 64`, as a line writes it.
+pub fn read_state(m: &mut Memory) -> &mut Memory {
+    let m = scanner::number_to(m, DESK, 7);
+    let m = put(m, ITEM, 1);
+    read_fields(m)
 }
 
 // `state 0 desk 0 waiting 31 awaits 64`.
-pub fn state_command(m: &mut Memory) {
-    read_desk(m);
-    let state = read_state(m);
-    if scanner::is_understood(m) {
-        put_state(m, desk(m), state);
-    }
+pub fn set_state(m: &mut Memory) -> &mut Memory {
+    let place = here(m, STATE);
+    memory::copy(m, ITEM, place, 5)
+}
+
+// `cell 0 128 7`, as a line writes it.
+pub fn read_cell(m: &mut Memory) -> &mut Memory {
+    let m = read_made(m);
+    let m = scanner::number_to(m, FROM, 1039);
+    scanner::number(m, scanner::WORD)
 }
 
 // `cell 0 128 7`.
-pub fn cell_command(m: &mut Memory) {
-    read_made_desk(m);
-    let i = scanner::number(m, 1039) as usize;
-    let value = scanner::full_word(m);
-    if scanner::is_understood(m) {
-        put(m, cell_place(desk(m), i), value);
-    }
+pub fn set_cell(m: &mut Memory) -> &mut Memory {
+    let place = here(m, get(m, FROM) as usize);
+    memory::copy(m, NUMBER, place, 1)
 }
 
 // The word that is drawn after another.
@@ -170,136 +136,85 @@ fn drawn(x: u32) -> u32 {
 }
 
 // Cells that are drawn from a seed.
-fn draw_cells(m: &mut Memory, place: usize, seed: u32) {
+fn draw_cells(m: &mut Memory, place: usize, seed: u32) -> &mut Memory {
     let mut x = seed;
     for i in 0..1040usize {
         x = drawn(x);
         put(m, on(place, i), x);
     }
+    m
 }
 
-// Goes back to an earlier word of the line.
-fn go_back(m: &mut Memory, at: u32, number: u32) {
-    put(m, memory::LINE_AT, at);
-    put(m, memory::WORD_NUMBER, number);
-}
-
-// Whether the next word is `seed`, which is then read.
-fn takes_seed(m: &mut Memory) -> bool {
-    let at = get(m, memory::LINE_AT);
-    let number = get(m, memory::WORD_NUMBER);
+// The next word is at hand, behind `seed` if it is that.
+fn read_seed(m: &mut Memory) -> &mut Memory {
+    let m = scanner::next_word(m);
     // seed
-    if scanner::next_name(m) == 0x7365_6564 {
-        return true;
+    if scanner::name(m) == 0x7365_6564 {
+        let m = put(m, SEED, 1);
+        scanner::next_word(m)
+    } else {
+        put(m, SEED, 0)
     }
-    go_back(m, at, number);
-    false
 }
 
-// All cells of the desk at hand.
-fn put_cells(m: &mut Memory, is_seed: bool, value: u32) {
-    let place = cell_place(desk(m), 0);
-    if is_seed {
+// `cells 0 7` and `cells 0 seed 7`, as a line writes them.
+pub fn read_cells(m: &mut Memory) -> &mut Memory {
+    let m = read_made(m);
+    let m = read_seed(m);
+    scanner::keep_number(m, scanner::WORD)
+}
+
+// `cells 0 7` and `cells 0 seed 7`.
+pub fn set_cells(m: &mut Memory) -> &mut Memory {
+    let place = here(m, 0);
+    let value = get(m, NUMBER);
+    if get(m, SEED) == 1 {
         draw_cells(m, place, value)
     } else {
         memory::fill(m, place, CELL_COUNT, value)
     }
 }
 
-// `cells 0 7` and `cells 0 seed 7`.
-pub fn cells_command(m: &mut Memory) {
-    read_made_desk(m);
-    let is_seed = takes_seed(m);
-    let value = scanner::full_word(m);
-    if scanner::is_understood(m) {
-        put_cells(m, is_seed, value);
-    }
-}
-
-// An operation of a client, as a line writes it, goes to its registers: `client 9 T0 5 9`.
-pub fn read_operation(m: &mut Memory) {
-    // client
-    scanner::expect(m, 0x636c_6965_6e74, texts::NO_CLIENT);
-    scanner::number_to(m, CLIENT, 0xffff_ffff);
-    scanner::transaction_to(m, TRANSACTION);
-    scanner::parameters(m);
+// `records 0 5 31 client 100 T1 0 3`, as a line writes it.
+pub fn read_records(m: &mut Memory) -> &mut Memory {
+    let m = read_made(m);
+    let m = scanner::number_to(m, FROM, 33);
+    let m = scanner::number_to(m, TO, 33);
+    operations::read_of_client(m)
 }
 
 // Record i of the desk at hand is the operation at hand; the next client is the next number.
-fn put_record(m: &mut Memory, i: usize) {
-    let place = record_place(desk(m), i);
-    memory::move_word(m, CLIENT, place);
-    memory::move_word(m, TRANSACTION, on(place, 1));
-    memory::copy(m, PARAMETERS, on(place, 2), 4);
-    memory::count(m, CLIENT);
-}
-
-// Records from one place on and before another.
-fn put_records(m: &mut Memory, from: usize, to: usize) {
-    for i in from..to {
-        put_record(m, i);
-    }
+fn set_record(m: &mut Memory, i: usize) -> &mut Memory {
+    let place = record_place(m, i);
+    let m = memory::copy(m, OPERATION, place, 6);
+    memory::add(m, CLIENT, 1)
 }
 
 // `records 0 5 31 client 100 T1 0 3`.
-pub fn records_command(m: &mut Memory) {
-    read_made_desk(m);
-    let from = scanner::number(m, 33) as usize;
-    let to = scanner::number(m, 33) as usize;
-    read_operation(m);
-    if scanner::is_understood(m) {
-        put_records(m, from, to);
+pub fn set_records(m: &mut Memory) -> &mut Memory {
+    for i in (get(m, FROM) as usize)..(get(m, TO) as usize) {
+        set_record(m, i);
     }
+    m
 }
 
-// The record at a place: client and operation. It takes the place of the operation at hand.
-pub fn write_record(m: &mut Memory, place: usize) {
-    memory::move_word(m, place, CLIENT);
-    memory::move_word(m, on(place, 1), TRANSACTION);
-    memory::copy(m, on(place, 2), PARAMETERS, 4);
-    put(m, memory::PARAMETERS_GIVEN, 4);
-    say(m, texts::RECORD);
+// How many records are shown.
+fn shown_records(m: &Memory) -> usize {
+    let waiting = get(m, here(m, STATE + 2)) as usize;
+    if waiting < 33 { waiting } else { 33 }
 }
 
-// Record i of the desk at hand, on a line.
-fn show_record(m: &mut Memory, i: usize) {
-    put(m, RECORD, memory::narrow(i));
-    say(m, texts::SHOWN_RECORD);
-    write_record(m, record_place(desk(m), i));
-    say(m, texts::LINE_END);
-}
-
-// The records that wait, at most 33.
-fn show_records(m: &mut Memory) {
-    for i in 0..33usize {
-        if i < get(m, STATE_WAITING) as usize {
-            show_record(m, i);
-        }
-    }
-}
-
-// Cell i of the desk at hand, on a line if it is not zero.
-fn show_cell(m: &mut Memory, i: usize) {
-    put(m, CELL, memory::narrow(i));
-    memory::move_word(m, cell_place(desk(m), i), VALUE);
-    if 0 < get(m, VALUE) {
-        say(m, texts::SHOWN_CELL);
-    }
-}
-
-// The cells that are not zero.
-fn show_cells(m: &mut Memory) {
-    for i in 0..1040usize {
-        show_cell(m, i);
-    }
+// The records that wait, and the cells that are not zero.
+fn show_contents(m: &mut Memory) -> &mut Memory {
+    let count = shown_records(m);
+    let cells = here(m, 0);
+    let m = say_each(m, texts::SHOWN_RECORD, on(cells, RECORDS), 6, count);
+    say_each(m, texts::SHOWN_CELL, cells, 1, CELL_COUNT)
 }
 
 // `show desk 0`.
-pub fn show_desk(m: &mut Memory) {
-    read_made_desk(m);
-    if scanner::is_understood(m) {
-        write_desk(m);
-        show_records(m);
-        show_cells(m);
-    }
+pub fn show(m: &mut Memory) -> &mut Memory {
+    let m = take_state(m);
+    let m = say(m, texts::STATE);
+    show_contents(m)
 }

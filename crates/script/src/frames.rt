@@ -1,188 +1,167 @@
 // Frames that were sent; the starting frame, and the frame reader.
+use crate::answers;
 use crate::calls;
 use crate::changes;
 use crate::forms;
-use crate::layout::CELL;
-use crate::layout::CHANGED;
 use crate::layout::HAND;
-use crate::layout::NAMED_DESK;
 use crate::layout::OTHER_WORDS;
 use crate::layout::OUTGOING;
 use crate::layout::PLAN;
 use crate::layout::SENT;
 use crate::layout::SENT_FRAME;
-use crate::layout::VALUE;
-use crate::layout::VISIT;
 use crate::layout::WORDS;
 use crate::layout::frame_place;
-use crate::layout::hand_end;
 use crate::layout::is_kept;
-use crate::layout::plan_end;
-use crate::refusals;
 use crate::texts;
+use crate::words;
 use terminal::Memory;
 use terminal::memory;
+use terminal::memory::ITEM;
+use terminal::memory::counted;
 use terminal::memory::get;
-use terminal::memory::narrow;
 use terminal::memory::on;
-use terminal::memory::part;
 use terminal::memory::put;
 use terminal::output::say;
+use terminal::output::say_each;
 use terminal::scanner;
 use token::VisitAnswer;
 
-// Keeps the first words of the outgoing buffer as the next frame.
-fn keep_frame(m: &mut Memory, words: usize) {
-    let place = frame_place(get(m, SENT));
-    put(m, place, narrow(words));
-    memory::copy(m, OUTGOING, on(place, 1), words);
-    memory::move_word(m, SENT, SENT_FRAME);
-    memory::count(m, SENT);
+// Keeps the outgoing words as the next frame.
+fn keep_frame(m: &mut Memory) -> &mut Memory {
+    let place = frame_place(m, SENT);
+    let m = memory::copy_counted(m, OUTGOING, place);
+    let m = memory::copy(m, SENT, SENT_FRAME, 1);
+    memory::add(m, SENT, 1)
 }
 
-// The same, which is then said.
-pub fn send(m: &mut Memory, words: usize) {
-    keep_frame(m, words);
-    say(m, texts::SENDS);
-    forms::write_words(m, OUTGOING, words);
+// The same, which is then said by a text.
+pub fn send(m: &mut Memory, text: u32) -> &mut Memory {
+    let m = keep_frame(m);
+    let m = say(m, text);
+    words::say_words(m, OUTGOING)
 }
 
 // The line of a starting frame that is written.
-fn started(m: &mut Memory) {
-    refusals::count_call(m, 0);
-    say(m, texts::COLON);
-    send(m, 4);
-    changes::note_touched(m, 4, 0);
-    changes::write_touched(m);
+fn accept_start(m: &mut Memory) -> &mut Memory {
+    let m = send(m, texts::START_SENDS);
+    say(m, texts::OTHER_WORDS)
 }
 
-// The line of a starting frame that is refused, and what changed, which must be nothing.
-fn not_started(m: &mut Memory, question: u32) {
-    refusals::refused(m, question);
-    changes::note_touched(m, 0, 0);
-    if 0 < get(m, OTHER_WORDS) {
-        memory::count(m, CHANGED);
-        say(m, texts::CHANGED);
-        changes::write_touched(m);
+// What changed with a starting frame that is refused, which must be nothing.
+fn refuse_start(m: &mut Memory) -> &mut Memory {
+    if get(m, OTHER_WORDS) == 0 {
+        return m;
     }
+    let m = changes::say_changed(m, texts::CHANGED);
+    say(m, texts::OTHER_WORDS)
 }
 
 // `start`.
-pub fn start_command(m: &mut Memory) {
-    if scanner::is_understood(m) {
-        let question = calls::start(m);
-        say(m, texts::START);
-        if question == 0 {
-            started(m)
-        } else {
-            not_started(m, question)
-        }
+pub fn start(m: &mut Memory) -> &mut Memory {
+    let m = calls::start(m);
+    let m = changes::note_behind_frame(m);
+    let m = say(m, texts::START);
+    let m = answers::answer(m);
+    if answers::is_accepted(m) {
+        accept_start(m)
+    } else {
+        refuse_start(m)
     }
 }
 
-// The line of a frame that is refused, and the part that came with it, which must be empty.
-fn refuse(m: &mut Memory, question: u32, words: usize) {
-    refusals::refused(m, question);
-    if 0 < words {
-        memory::count(m, CHANGED);
-        put(m, WORDS, narrow(words));
-        say(m, texts::CHANGED_PART);
-    }
+// The part that the frame reader gives back.
+fn accept_read(m: &mut Memory) -> &mut Memory {
+    let m = words::say_words(m, OUTGOING);
+    say(m, texts::LINE_END)
 }
 
-// The line of a frame that reads.
-fn accept(m: &mut Memory, visit: u32, words: usize) {
-    refusals::count_call(m, 0);
-    put(m, VISIT, visit);
-    say(m, texts::PART);
-    forms::write_words(m, OUTGOING, words);
-    say(m, texts::LINE_END);
+// The part that came with a frame that is refused, which must be empty.
+fn refuse_read(m: &mut Memory) -> &mut Memory {
+    if get(m, OUTGOING) == 0 {
+        return m;
+    }
+    let m = memory::copy(m, OUTGOING, WORDS, 1);
+    changes::say_changed(m, texts::CHANGED_PART)
 }
 
 // The frame reader's second call on the words of the line.
 fn frame_visit(m: &Memory) -> VisitAnswer {
-    token::frame_visit(part(m, PLAN, plan_end(m)), part(m, HAND, hand_end(m)))
+    token::frame_visit(counted(m, PLAN), counted(m, HAND))
 }
 
-// The frame reader's line.
-fn read_line(m: &mut Memory) {
-    say(m, texts::READ);
-    forms::write_source(m);
-    let words = calls::read_frame(m);
-    let answer = frame_visit(m);
+// Notes what the frame reader's second call answers.
+fn note_visit(m: &mut Memory, answer: VisitAnswer) -> &mut Memory {
     match answer {
-        VisitAnswer::Visit(visit) => accept(m, visit, words),
-        VisitAnswer::Refused(question) => refuse(m, question, words),
+        VisitAnswer::Visit(visit) => answers::accept(m, texts::PART, visit),
+        VisitAnswer::Refused(question) => answers::refuse(m, question),
     }
+}
+
+// Both calls of the frame reader, and their answer.
+fn read_both(m: &mut Memory) -> &mut Memory {
+    let m = calls::read_frame(m);
+    let answer = frame_visit(m);
+    let m = note_visit(m, answer);
+    answers::answer(m)
 }
 
 // `read`.
-pub fn read_command(m: &mut Memory) {
-    forms::read_frame(m);
-    if scanner::is_understood(m) {
-        read_line(m);
+pub fn read(m: &mut Memory) -> &mut Memory {
+    let m = say(m, texts::READ);
+    let m = words::say_source(m);
+    let m = read_both(m);
+    if answers::is_accepted(m) {
+        accept_read(m)
+    } else {
+        refuse_read(m)
     }
 }
 
-// Cell i of an update, whose words stand at a place.
-fn write_cell(m: &mut Memory, i: usize, place: usize) {
-    if 0 < i {
-        terminal::output::byte(m, 44);
-    }
-    put(m, CELL, get(m, place) % 1024);
-    memory::move_word(m, on(place, 1), VALUE);
-    say(m, texts::UPDATED_CELL);
+// How many cells the update at a place has.
+fn cell_count(m: &Memory, place: usize) -> u32 {
+    get(m, place) / 0x10_0000 % 16
 }
 
-// The cells of an update.
-fn write_cells(m: &mut Memory, place: usize, count: usize) {
-    if count == 0 {
-        return say(m, texts::NO_CELLS);
-    }
-    for i in 0..count {
-        write_cell(m, i, on(place, i % 16 * 2));
-    }
+// The update at a place.
+fn say_update(m: &mut Memory, place: usize) -> &mut Memory {
+    let count = cell_count(m, place);
+    let m = put(m, WORDS, count);
+    let m = memory::copy(m, place, ITEM, 1);
+    let m = say(m, texts::SHOWN_UPDATE);
+    let m = say_each(m, texts::UPDATED_CELL, on(place, 1), 2, count as usize);
+    say(m, texts::LINE_END)
 }
 
-// The update at a place; answers where the next one stands.
-fn write_update(m: &mut Memory, place: usize) -> usize {
-    let head = get(m, place);
-    let count = (head / 0x10_0000 % 16) as usize;
-    put(m, NAMED_DESK, head / 0x100_0000 % 16);
-    say(m, texts::SHOWN_UPDATE);
-    write_cells(m, on(place, 1), count);
-    say(m, texts::LINE_END);
-    on(place, count * 2 + 1)
+// Where the next update stands.
+fn next_update(m: &Memory, place: usize) -> usize {
+    on(place, cell_count(m, place) as usize * 2 + 1)
 }
 
 // The updates from one place to another.
-fn write_updates(m: &mut Memory, from: usize, to: usize) {
+fn say_updates(m: &mut Memory, from: usize, to: usize) -> &mut Memory {
     let mut place = from;
     for _turn in 0..6404usize {
         if to <= place {
-            return;
+            break;
         }
-        place = write_update(m, place);
+        say_update(m, place);
+        place = next_update(m, place);
     }
+    m
 }
 
-// A kept frame in words, whose length stands at a place.
-fn write_frame(m: &mut Memory, place: usize) {
-    memory::move_word(m, place, WORDS);
-    memory::move_word(m, on(place, 2), VISIT);
-    put(m, NAMED_DESK, get(m, on(place, 1)) / 0x100_0000 % 16);
-    say(m, texts::SHOWN_FRAME);
-    let end = on(place, get(m, WORDS) as usize);
-    write_updates(m, on(place, 3), std::num::wrapping_sub_usize(end, 1));
+// `show frame 3`, as a line writes it.
+pub fn read_show(m: &mut Memory) -> &mut Memory {
+    let m = scanner::number_to(m, SENT_FRAME, scanner::WORD);
+    let is_there = is_kept(m, SENT_FRAME);
+    scanner::demand(m, is_there, texts::NOT_KEPT)
 }
 
 // `show frame 3`.
-pub fn show_frame(m: &mut Memory) {
-    scanner::number_to(m, SENT_FRAME, 0xffff_ffff);
-    if !is_kept(m, get(m, SENT_FRAME)) {
-        scanner::fault(m, texts::NOT_KEPT);
-    }
-    if scanner::is_understood(m) {
-        write_frame(m, frame_place(get(m, SENT_FRAME)));
-    }
+pub fn show(m: &mut Memory) -> &mut Memory {
+    let place = frame_place(m, SENT_FRAME);
+    let end = on(place, get(m, place) as usize);
+    let m = memory::copy(m, place, ITEM, 3);
+    let m = say(m, texts::SHOWN_FRAME);
+    say_updates(m, on(place, 3), std::num::wrapping_sub_usize(end, 1))
 }

@@ -1,4 +1,4 @@
-// Where everything stands in memory behind the terminal's words.
+// Where everything stands in memory behind the terminal's words, and the registers that texts name.
 use terminal::Memory;
 use terminal::memory::get;
 use terminal::memory::on;
@@ -16,12 +16,6 @@ pub const REQUESTS: usize = 68;
 
 pub const DONE: usize = 69;
 
-pub const DECLINED: usize = 70;
-
-pub const WAITING: usize = 71;
-
-pub const ELSEWHERE: usize = 72;
-
 pub const VISITS: usize = 73;
 
 pub const VISIT_REPLIES: usize = 74;
@@ -34,97 +28,84 @@ pub const LONGEST_TAKEN: usize = 77;
 
 pub const LONGEST_SENT: usize = 78;
 
-// Refusals by number.
-pub const REFUSED: usize = 48;
+// Registers 1 to 4: whether the line writes a parameter. a to f: the operation at hand, as a record holds it: client, transaction and four
+// parameters. n: changed cells. o: other changed words. q: the question that refused a call, 0 for none. r: a number that a call
+// answers. s: the desk at hand. t and u: a frame taken and one sent. v: a visit. w: a number of words. x and y: two sums. z and {: the last
+// two of many words.
+pub const GIVEN: usize = 49;
 
-// Registers for what is said. a: client. b: a desk that an answer names, or the number of desks. c and i: a cell and its value. d: the
-// desk at hand. e: a record. f and g: a frame taken and one sent. h: a number of words. j: the number of a reply. k: replies. l and m: two
-// sums. n: changed cells. o: other changed words. p and r: a parameter and a fixed number. q: a question. t: a transaction, or their
-// number. x and y: a table and a column, or x a visit. z: the first word of a reply. y and z: the last two of many words.
+pub const OPERATION: usize = 97;
+
 pub const CLIENT: usize = 97;
 
-pub const NAMED_DESK: usize = 98;
+pub const TRANSACTION: usize = 98;
 
-pub const CELL: usize = 99;
-
-pub const DESK: usize = 100;
-
-pub const RECORD: usize = 101;
-
-pub const TAKEN_FRAME: usize = 102;
-
-pub const SENT_FRAME: usize = 103;
-
-pub const WORDS: usize = 104;
-
-pub const VALUE: usize = 105;
-
-pub const NUMBER: usize = 106;
-
-pub const REPLY_COUNT: usize = 107;
-
-pub const FIRST_SUM: usize = 108;
-
-pub const SECOND_SUM: usize = 109;
+pub const PARAMETERS: usize = 99;
 
 pub const CHANGED_CELLS: usize = 110;
 
 pub const OTHER_WORDS: usize = 111;
 
-pub const PARAMETER: usize = 112;
-
 pub const QUESTION: usize = 113;
 
-pub const FIXED: usize = 114;
+pub const VALUE: usize = 114;
 
-pub const TRANSACTION: usize = 116;
+pub const DESK: usize = 115;
 
-pub const TABLE: usize = 120;
+pub const TAKEN_FRAME: usize = 116;
 
-pub const VISIT: usize = 120;
+pub const SENT_FRAME: usize = 117;
 
-pub const COLUMN: usize = 121;
+pub const VISIT: usize = 118;
 
-pub const REPLY_WORD: usize = 122;
+pub const WORDS: usize = 119;
 
-pub const LAST_WORDS: usize = 121;
+pub const SUMS: usize = 120;
 
-// Registers for a state: s: desk. u: waiting. v and w: awaited, low and high.
-pub const STATE_DESK: usize = 115;
+pub const LAST_WORDS: usize = 122;
 
-pub const STATE_WAITING: usize = 117;
+// How many frames were sent.
+pub const SENT: usize = 16;
 
-pub const STATE_AWAITED: usize = 118;
+// Where the words of the line come from: 0 a kept frame, 1 one that is changed, 2 the line alone.
+pub const SOURCE: usize = 17;
 
-// The plan at hand.
+// The text of a call's answer.
+pub const ANSWER: usize = 18;
+
+// Two numbers of the line, and whether it says `seed`.
+pub const FROM: usize = 19;
+
+pub const TO: usize = 20;
+
+pub const SEED: usize = 21;
+
+// How many cells, records, outgoing words and reply words are lent, and the same as a line sets them.
+pub const LENT: usize = 24;
+
+pub const LENT_CELLS: usize = 24;
+
+pub const LENT_RECORDS: usize = 25;
+
+pub const LENT_OUTGOING: usize = 26;
+
+pub const LENT_REPLIES: usize = 27;
+
+pub const LENT_NEXT: usize = 28;
+
+// Calls by the question that refused them; in front, those that were not refused.
+pub const REFUSED: usize = 160;
+
+// The plan, the words of the line and the outgoing words of a call: a number of words, and these behind it.
 pub const PLAN: usize = 86272;
 
-pub const PLAN_LENGTH: usize = 16;
+pub const HAND: usize = 92704;
 
-// The words of the line at hand, and the most that there can be.
-pub const HAND: usize = 92696;
-
-pub const HAND_LENGTH: usize = 17;
+pub const OUTGOING: usize = 521792;
 
 pub const MOST_WORDS: usize = 6420;
 
-// Where those words come from: 0 a kept frame, 1 one that is changed, 2 the line alone.
-pub const SOURCE: usize = 18;
-
-// How many cells, records, outgoing words and reply words are lent, and the same before the line.
-pub const LENT_CELLS: usize = 20;
-
-pub const LENT_RECORDS: usize = 21;
-
-pub const LENT_OUTGOING: usize = 22;
-
-pub const LENT_REPLIES: usize = 23;
-
-pub const LENT_BEFORE: usize = 24;
-
-// How many frames were sent, and the latest of them: the length of each, and behind it its words.
-pub const SENT: usize = 19;
-
+// The latest frames, each a number of words and these behind it.
 pub const FRAMES: usize = 110656;
 
 pub const FRAME_SIZE: usize = 6424;
@@ -136,22 +117,16 @@ pub const DESKS: usize = 99136;
 
 pub const DESK_SIZE: usize = 1280;
 
-pub const AFTER: usize = 8;
+pub const AFTER: usize = 109376;
 
-// Of a desk: whether it is made, its state (desk, waiting, awaited low and high), its cells and its records.
-pub const STATE: usize = 1;
-
-pub const CELLS: usize = 8;
-
+// Of a desk: its cells, its records, and whether it is made with its state: desk, waiting, awaited low and high.
 pub const CELL_COUNT: usize = 1040;
 
-pub const RECORDS: usize = 1056;
+pub const RECORDS: usize = 1040;
 
-// The outgoing words and the reply words that a call left.
-pub const OUTGOING: usize = 521792;
+pub const STATE: usize = 1240;
 
-pub const OUTGOING_SIZE: usize = 6420;
-
+// The reply words that a call left.
 pub const REPLIES: usize = 528224;
 
 pub const REPLIES_SIZE: usize = 112;
@@ -159,50 +134,32 @@ pub const REPLIES_SIZE: usize = 112;
 // What word i of the lent buffers holds before a call, less i.
 pub const MARK: u32 = 0xf0f0_0000;
 
-// The desk at hand.
-pub fn desk(m: &Memory) -> usize {
-    get(m, DESK) as usize
+// So many words on in the desk at hand.
+pub fn here(m: &Memory, words: usize) -> usize {
+    on(on(DESKS, (get(m, DESK) % 8) as usize * DESK_SIZE), words)
 }
 
-// Where the words of desk d stand.
-pub fn desk_place(d: usize) -> usize {
-    on(DESKS, d % 16 * DESK_SIZE)
+// Whether the desk at hand is made.
+pub fn is_made(m: &Memory) -> bool {
+    0 < get(m, here(m, STATE))
 }
 
-// Where cell i of desk d stands.
-pub fn cell_place(d: usize, i: usize) -> usize {
-    on(on(desk_place(d), CELLS), i)
+// Where record i of the desk at hand stands.
+pub fn record_place(m: &Memory, i: usize) -> usize {
+    here(m, on(RECORDS, i % 64 * 6))
 }
 
-// Where record i of desk d stands.
-pub fn record_place(d: usize, i: usize) -> usize {
-    on(on(desk_place(d), RECORDS), i % 64 * 6)
+// Where the frame stands whose number is at a place.
+pub fn frame_place(m: &Memory, place: usize) -> usize {
+    on(FRAMES, (get(m, place) % FRAMES_KEPT) as usize * FRAME_SIZE)
 }
 
-// Whether desk d is made.
-pub fn is_made(m: &Memory, d: usize) -> bool {
-    0 < get(m, desk_place(d))
-}
-
-// Where frame k stands.
-pub fn frame_place(k: u32) -> usize {
-    on(FRAMES, (k % FRAMES_KEPT) as usize * FRAME_SIZE)
-}
-
-// Whether frame k was sent, and less than 64 after it.
-pub fn is_kept(m: &Memory, k: u32) -> bool {
+// Whether the frame whose number is at a place was sent, and less than 64 after it.
+pub fn is_kept(m: &Memory, place: usize) -> bool {
     let sent = get(m, SENT);
+    let k = get(m, place);
     if sent <= k {
         return false;
     }
     sent - k <= FRAMES_KEPT
-}
-
-// The end of the plan and of the words of the line.
-pub fn plan_end(m: &Memory) -> usize {
-    on(PLAN, get(m, PLAN_LENGTH) as usize)
-}
-
-pub fn hand_end(m: &Memory) -> usize {
-    on(HAND, get(m, HAND_LENGTH) as usize)
 }

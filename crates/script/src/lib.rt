@@ -2,17 +2,20 @@
 //
 //     layout        where everything stands in memory
 //     texts         all that is said, by number
+//     sums          the two sums of words
 //     forms         words of plans and frames, as a script writes them
-//     refusals      what is said and counted of a refusal
+//     words         words of frames, as answers write them
+//     answers       what a call answers: the question that refused it, or a text and a number
 //     plans         the plan reader and the classifier; a plan in words
+//     operations    operations, as a script writes them
 //     desks         what a desk holds, by the new desk call or by hand
 //     loans         how much is lent to a call
 //     changes       what a call changed of all that it was lent
 //     calls         the engine's request and visit, on what stands in memory
-//     requests      the line of a request
 //     frames        frames that were sent; the starting frame, the frame reader
-//     visits        the line of a visit
+//     visits        the lines of requests and visits
 //     interpreter   commands, faults, counts, and the run of a script
+mod answers;
 mod calls;
 mod changes;
 mod desks;
@@ -21,10 +24,11 @@ mod frames;
 mod interpreter;
 mod layout;
 mod loans;
+mod operations;
 mod plans;
-mod refusals;
-mod requests;
+mod sums;
 mod texts;
 mod visits;
+mod words;
 
 pub use interpreter::run;

@@ -1,54 +1,61 @@
 // How much is lent to a call.
-use crate::layout::LENT_BEFORE;
-use crate::layout::LENT_CELLS;
-use crate::layout::LENT_OUTGOING;
-use crate::layout::LENT_RECORDS;
-use crate::layout::LENT_REPLIES;
+use crate::layout::LENT;
+use crate::layout::LENT_NEXT;
 use crate::texts;
 use terminal::Memory;
 use terminal::memory;
+use terminal::memory::on;
 use terminal::memory::put;
 use terminal::scanner;
+use terminal::scanner::number_to;
 
-// Sizes as the paper asks for them.
-pub fn lend_all(m: &mut Memory) {
-    put(m, LENT_CELLS, 1024);
-    put(m, LENT_RECORDS, 32);
-    put(m, LENT_OUTGOING, 6404);
-    put(m, LENT_REPLIES, 96);
+// Sizes as the paper asks for them, from a place on.
+fn put_all(m: &mut Memory, place: usize) -> &mut Memory {
+    let m = put(m, place, 1024);
+    let m = put(m, on(place, 1), 32);
+    let m = put(m, on(place, 2), 6404);
+    put(m, on(place, 3), 96)
+}
+
+// All is lent that the paper asks for.
+pub fn lend_all(m: &mut Memory) -> &mut Memory {
+    put_all(m, LENT)
 }
 
 // A size by its name.
-fn read_named_size(m: &mut Memory) {
-    match scanner::next_name(m) {
+fn read_size(m: &mut Memory) -> &mut Memory {
+    let m = scanner::next_word(m);
+    match scanner::name(m) {
         // book
-        0x626f_6f6b => scanner::number_to(m, LENT_CELLS, 1040),
+        0x626f_6f6b => number_to(m, LENT_NEXT, 1040),
         // row
-        0x72_6f77 => scanner::number_to(m, LENT_RECORDS, 33),
+        0x72_6f77 => number_to(m, LENT_NEXT + 1, 33),
         // out
-        0x6f_7574 => scanner::number_to(m, LENT_OUTGOING, 6420),
+        0x6f_7574 => number_to(m, LENT_NEXT + 2, 6420),
         // replies
-        0x72_6570_6c69_6573 => scanner::number_to(m, LENT_REPLIES, 112),
+        0x72_6570_6c69_6573 => number_to(m, LENT_NEXT + 3, 112),
         _ => scanner::fault(m, texts::NOTHING_TO_LEND),
     }
 }
 
 // The sizes up to the end of the line.
-fn read_sizes(m: &mut Memory) {
+fn read_sizes(m: &mut Memory) -> &mut Memory {
     for _turn in 0..65536usize {
         if !scanner::has_more(m) {
-            return;
+            break;
         }
-        read_named_size(m);
+        read_size(m);
     }
+    m
 }
 
-// `lend`. A line that is not understood leaves the sizes as they were.
-pub fn lend_command(m: &mut Memory) {
-    memory::copy(m, LENT_CELLS, LENT_BEFORE, 4);
-    lend_all(m);
-    read_sizes(m);
-    if !scanner::is_understood(m) {
-        memory::copy(m, LENT_BEFORE, LENT_CELLS, 4);
-    }
+// `lend book 1023`, as a line writes it.
+pub fn read(m: &mut Memory) -> &mut Memory {
+    let m = put_all(m, LENT_NEXT);
+    read_sizes(m)
+}
+
+// `lend book 1023`.
+pub fn lend(m: &mut Memory) -> &mut Memory {
+    memory::copy(m, LENT_NEXT, LENT, 4)
 }

@@ -1,7 +1,6 @@
 // The bytes of a line as they come in, and as they stand in memory.
 use crate::memory;
 use crate::memory::LINE;
-use crate::memory::LINE_AT;
 use crate::memory::LINE_JOINED;
 use crate::memory::LINE_LENGTH;
 use crate::memory::LINE_NUMBER;
@@ -30,50 +29,57 @@ pub fn is_too_long(m: &Memory) -> bool {
     LINE_SIZE < length(m)
 }
 
-// One byte more. In a line that is too long it takes the place of the last one.
-fn append(m: &mut Memory, byte: u8) {
-    let end = length(m);
-    let at = if end < LINE_SIZE { end } else { LINE_SIZE };
-    put(m, memory::on(LINE, at), byte as u32);
-    put(m, LINE_LENGTH, memory::narrow(memory::on(at, 1)));
+// Where the next byte goes: in a line that is too long it takes the place of the last one.
+fn end(m: &Memory) -> usize {
+    let length = length(m);
+    if length < LINE_SIZE {
+        length
+    } else {
+        LINE_SIZE
+    }
 }
 
-// Whether the last byte says that the line goes on, which is then a space.
-fn goes_on(m: &mut Memory) -> bool {
-    let end = length(m);
-    let last = std::num::wrapping_sub_usize(end, 1);
-    if byte_at(m, last) != 92 {
-        return false;
-    }
-    put(m, memory::on(LINE, last), 32);
-    put(m, LINE_JOINED, memory::narrow(end));
-    true
+// One byte more.
+pub fn append(m: &mut Memory, byte: u32) -> &mut Memory {
+    let at = end(m);
+    let m = put(m, memory::on(LINE, at), byte);
+    put(m, LINE_LENGTH, memory::narrow(memory::on(at, 1)))
+}
+
+// The place of the last byte.
+fn last(m: &Memory) -> usize {
+    std::num::wrapping_sub_usize(length(m), 1)
+}
+
+// Whether the last byte says that the line goes on.
+pub fn goes_on(m: &Memory) -> bool {
+    byte_at(m, last(m)) == 92
+}
+
+// The line goes on; its last byte is a space then.
+pub fn join(m: &mut Memory) -> &mut Memory {
+    let at = last(m);
+    let m = put(m, memory::on(LINE, at), 32);
+    memory::copy(m, LINE_LENGTH, LINE_JOINED, 1)
 }
 
 // An empty line.
-pub fn clear(m: &mut Memory) {
-    put(m, LINE_LENGTH, 0);
-    put(m, LINE_AT, 0);
-    put(m, LINE_NUMBER, 0);
-    put(m, LINE_JOINED, 0);
+pub fn clear(m: &mut Memory) -> &mut Memory {
+    let m = memory::fill(m, LINE_LENGTH, 6, 0);
+    put(m, LINE_NUMBER, 0)
 }
 
-// Counts a line that begins, and notes the number of the line at hand where it is its first.
-pub fn begin(m: &mut Memory) {
-    memory::count(m, LINES);
-    if get(m, LINE_NUMBER) == 0 {
-        memory::move_word(m, LINES, LINE_NUMBER);
-    }
+// The number of the line at hand, or of the one that begins now where it is its first.
+fn first_number(m: &Memory) -> u32 {
+    let number = get(m, LINE_NUMBER);
+    if number == 0 { get(m, LINES) } else { number }
 }
 
-// Takes a byte of the input, and says whether the line at hand is whole.
-pub fn take_byte(m: &mut Memory, byte: u8) -> bool {
-    if byte == b'\n' {
-        begin(m);
-        return !goes_on(m);
-    }
-    append(m, byte);
-    false
+// Counts a line that begins, and notes the number of the line at hand.
+pub fn begin(m: &mut Memory) -> &mut Memory {
+    let m = memory::add(m, LINES, 1);
+    let number = first_number(m);
+    put(m, LINE_NUMBER, number)
 }
 
 // Whether there is a last line that no line feed ends.

@@ -1,5 +1,5 @@
 // The interpreter's memory: one array of words, lent to every function. Places past its end read as 0 and are not written. The words
-// at places 33 to 126 are registers: a text names one by the byte of its number.
+// at places 33 to 126 are registers: a text names one by the byte of its number. A function that writes hands the memory on.
 
 pub type Memory = [u32; 540672];
 
@@ -10,7 +10,7 @@ pub const OUTPUT_SIZE: usize = 16384;
 
 pub const OUTPUT_LENGTH: usize = 0;
 
-// Where this is not 0, text is dropped.
+// Where this is not 0, nothing is said.
 pub const QUIET: usize = 1;
 
 // The number that was written last.
@@ -21,26 +21,26 @@ pub const TEXTS: usize = 1024;
 
 pub const TEXT_PLACES: usize = 256;
 
-// The line at hand, one byte a word, its length, the place in it that is read next, and its length when it was last joined to the next.
+// The line at hand, one byte a word. From its length to its fault all is 0 where a line begins: its length, its length when it was last
+// joined to the next, where the word at hand begins and where it ends, its number, and the text of the line's first fault, 0 for none.
 pub const LINE: usize = 20480;
 
 pub const LINE_SIZE: usize = 65536;
 
 pub const LINE_LENGTH: usize = 3;
 
-pub const LINE_AT: usize = 4;
+pub const LINE_JOINED: usize = 4;
 
-pub const LINE_JOINED: usize = 5;
+pub const WORD_START: usize = 5;
 
-// The number of the word that was read last, and the text of the line's first fault, 0 for none.
-pub const WORD_NUMBER: usize = 6;
+pub const WORD_END: usize = 6;
 
-pub const FAULT: usize = 7;
+pub const WORD_NUMBER: usize = 7;
 
-// The parameters of the line, and how many it has.
-pub const PARAMETERS: usize = 8;
+pub const FAULT: usize = 8;
 
-pub const PARAMETERS_GIVEN: usize = 12;
+// The number that was read last, low and high.
+pub const NUMBER: usize = 9;
 
 // Registers O and P: how many lines were begun, and how many were bad. Q: the number of the first line of the line at hand. R: the word
 // at fault. S and T: the largest number that was expected there, low and high.
@@ -54,6 +54,11 @@ pub const FAULT_WORD: usize = 82;
 
 pub const MOST: usize = 83;
 
+// Registers h to m: the words of the item at hand. p: its index.
+pub const ITEM: usize = 104;
+
+pub const INDEX: usize = 112;
+
 // Words from this place on are free for others.
 pub const FREE: usize = 86272;
 
@@ -63,20 +68,34 @@ pub fn get(m: &Memory, place: usize) -> u32 {
 }
 
 // Stores a word.
-pub fn put(m: &mut Memory, place: usize, word: u32) {
+pub fn put(m: &mut Memory, place: usize, word: u32) -> &mut Memory {
     if place < 540672 {
         m[place] = word;
     }
+    m
 }
 
-// The sum of what stands at a place and one.
-fn raised(m: &Memory, place: usize) -> u32 {
-    std::num::wrapping_add_u32(get(m, place), 1)
+// The sum of what stands at a place and a number.
+fn sum(m: &Memory, place: usize, number: u32) -> u32 {
+    std::num::wrapping_add_u32(get(m, place), number)
 }
 
-// One more than there was.
-pub fn count(m: &mut Memory, place: usize) {
-    put(m, place, raised(m, place));
+// Adds a number to what stands at a place.
+pub fn add(m: &mut Memory, place: usize, number: u32) -> &mut Memory {
+    let word = sum(m, place, number);
+    put(m, place, word)
+}
+
+// The larger of what stands at a place and a number.
+fn larger(m: &Memory, place: usize, number: u32) -> u32 {
+    let word = get(m, place);
+    if word < number { number } else { word }
+}
+
+// Raises what stands at a place to a number, if it is less.
+pub fn raise(m: &mut Memory, place: usize, number: u32) -> &mut Memory {
+    let word = larger(m, place, number);
+    put(m, place, word)
 }
 
 // The place so many words on.
@@ -100,28 +119,48 @@ pub fn get_wide(m: &Memory, place: usize) -> u64 {
 }
 
 // Stores a number in two words.
-pub fn put_wide(m: &mut Memory, place: usize, n: u64) {
-    put(m, place, low(n));
-    put(m, on(place, 1), (n / 0x1_0000_0000) as u32);
+pub fn put_wide(m: &mut Memory, place: usize, n: u64) -> &mut Memory {
+    let m = put(m, place, low(n));
+    put(m, on(place, 1), (n / 0x1_0000_0000) as u32)
 }
 
 // So many words from a place on hold this word.
-pub fn fill(m: &mut Memory, place: usize, words: usize, word: u32) {
+pub fn fill(m: &mut Memory, place: usize, words: usize, word: u32) -> &mut Memory {
     for i in 0..words {
         put(m, on(place, i), word);
     }
+    m
 }
 
 // Copies one word.
-pub fn move_word(m: &mut Memory, from: usize, to: usize) {
-    put(m, to, get(m, from));
+fn copy_word(m: &mut Memory, from: usize, to: usize) -> &mut Memory {
+    let word = get(m, from);
+    put(m, to, word)
 }
 
 // Copies words.
-pub fn copy(m: &mut Memory, from: usize, to: usize, words: usize) {
+pub fn copy(m: &mut Memory, from: usize, to: usize, words: usize) -> &mut Memory {
     for i in 0..words {
-        move_word(m, on(from, i), on(to, i));
+        copy_word(m, on(from, i), on(to, i));
     }
+    m
+}
+
+// Copies a number of words and as many words behind it.
+pub fn copy_counted(m: &mut Memory, from: usize, to: usize) -> &mut Memory {
+    let words = get(m, from) as usize;
+    copy(m, from, to, on(words, 1))
+}
+
+// How many of so many words from one place on are not those from another on.
+pub fn differences(m: &Memory, a: usize, b: usize, words: usize) -> u32 {
+    let mut found: u32 = 0;
+    for i in 0..words {
+        if get(m, on(a, i)) != get(m, on(b, i)) {
+            found = std::num::wrapping_add_u32(found, 1);
+        }
+    }
+    found
 }
 
 // The words from one place to another; none where that is no part of the memory.
@@ -132,4 +171,9 @@ pub fn part(m: &[u32], from: usize, to: usize) -> &[u32] {
         }
     }
     &m[..0]
+}
+
+// The words whose number stands at a place, and they behind it.
+pub fn counted(m: &Memory, place: usize) -> &[u32] {
+    part(m, on(place, 1), on(on(place, 1), get(m, place) as usize))
 }

@@ -1,16 +1,27 @@
-// Text, kept until a block is full and then written. Texts have numbers, and name the registers whose words stand in them.
+// Text, kept until a block is full and then written. Texts have numbers, and name the registers whose words stand in them:
+//
+//     %r     the word of register r in decimal
+//     #r     the same in hexadecimal
+//     &r     the number of two registers, r the lower
+//     ^rbw   of the word of register r the field from bit b on, w bits wide; letters count from a, which is 0
+//     ~      an s, unless the number that was written last is 1
+//     ?r     what follows up to } is left out where register r is 0
+//     !r     the same where it is not
+//     =rs    the same where registers r and s are equal
+//     @      the end
 use crate::memory;
+use crate::memory::INDEX;
+use crate::memory::ITEM;
 use crate::memory::Memory;
 use crate::memory::OUTPUT;
 use crate::memory::OUTPUT_LENGTH;
 use crate::memory::OUTPUT_SIZE;
-use crate::memory::PARAMETERS;
-use crate::memory::PARAMETERS_GIVEN;
 use crate::memory::QUIET;
 use crate::memory::TEXT_PLACES;
 use crate::memory::TEXTS;
 use crate::memory::WRITTEN;
 use crate::memory::get;
+use crate::memory::narrow;
 use crate::memory::on;
 use crate::memory::put;
 
@@ -35,24 +46,20 @@ fn write_kept(m: &Memory) {
 }
 
 // Writes the text that is kept; none is kept then.
-pub fn flush(m: &mut Memory) {
+pub fn flush(m: &mut Memory) -> &mut Memory {
     write_kept(m);
-    put(m, OUTPUT_LENGTH, 0);
-}
-
-// Keeps one byte of text.
-fn keep(m: &mut Memory, byte: u32) {
-    put(m, on(OUTPUT, get(m, OUTPUT_LENGTH) as usize), byte);
-    memory::count(m, OUTPUT_LENGTH);
-    if OUTPUT_SIZE <= get(m, OUTPUT_LENGTH) as usize {
-        flush(m);
-    }
+    put(m, OUTPUT_LENGTH, 0)
 }
 
 // One byte of text.
-pub fn byte(m: &mut Memory, byte: u32) {
-    if get(m, QUIET) == 0 {
-        keep(m, byte);
+pub fn byte(m: &mut Memory, byte: u32) -> &mut Memory {
+    let end = get(m, OUTPUT_LENGTH) as usize;
+    let m = put(m, on(OUTPUT, end), byte);
+    let m = put(m, OUTPUT_LENGTH, narrow(on(end, 1)));
+    if OUTPUT_SIZE <= on(end, 1) {
+        flush(m)
+    } else {
+        m
     }
 }
 
@@ -62,126 +69,218 @@ fn wide(byte: u8) -> u32 {
 }
 
 // Bytes.
-fn bytes(m: &mut Memory, bytes: &[u8]) {
+fn bytes<'a>(m: &'a mut Memory, bytes: &[u8]) -> &'a mut Memory {
     for i in 0..bytes.len() {
         byte(m, wide(bytes[i]));
     }
+    m
 }
 
 // A number in decimal.
-fn decimal(m: &mut Memory, n: u64) {
+fn decimal(m: &mut Memory, n: u64) -> &mut Memory {
     let mut digits = [0u8; 20];
     let length = io::decimal(n, &mut digits);
-    bytes(m, &digits[..length]);
-    put(m, WRITTEN, memory::low(n));
+    let m = put(m, WRITTEN, memory::low(n));
+    bytes(m, &digits[..length])
 }
 
-// The digit of the lowest four bits.
+// The digit of four bits.
 fn digit(n: u32) -> u32 {
     let d = n % 16;
     if d < 10 { 48 + d } else { 55 + d }
 }
 
 // A word in eight hexadecimal digits.
-pub fn word(m: &mut Memory, w: u32) {
-    let mut rest: u64 = w as u64;
-    for _turn in 0..8usize {
-        byte(m, digit((rest / 0x1000_0000 % 16) as u32));
-        rest = rest % 0x1000_0000 * 16;
+fn hexadecimal(m: &mut Memory, word: u32) -> &mut Memory {
+    for i in 0..8u32 {
+        byte(m, digit(word >> (28 - i * 4)));
+    }
+    m
+}
+
+// The ending of a word after a count.
+fn ending(m: &mut Memory) -> &mut Memory {
+    if get(m, WRITTEN) == 1 {
+        m
+    } else {
+        byte(m, 115)
     }
 }
 
-// Parameter i of the line.
-fn parameter(m: &mut Memory, i: usize) {
-    if 0 < i {
-        byte(m, 44);
-        byte(m, 32);
-    }
-    decimal(m, get(m, on(PARAMETERS, i)) as u64);
+// A field of a word, by its letters.
+fn field(word: u32, from: u32, width: u32) -> u32 {
+    let low = std::num::wrapping_sub_u32(from, 97) % 32;
+    let size = std::num::wrapping_sub_u32(width, 97) % 32;
+    (word >> low) & std::num::wrapping_sub_u32(1 << size, 1)
 }
 
-// The parameters of the line.
-fn parameters(m: &mut Memory) {
-    for i in 0..(get(m, PARAMETERS_GIVEN) as usize) {
-        parameter(m, i);
+// The word of the register that a text names at a place.
+fn named(m: &Memory, place: usize) -> u32 {
+    get(m, get(m, place) as usize)
+}
+
+// The number that a text names at a place.
+fn number(m: &Memory, place: usize) -> u64 {
+    match get(m, place) {
+        38 => memory::get_wide(m, get(m, on(place, 1)) as usize),
+        94 => field(
+            named(m, on(place, 1)),
+            get(m, on(place, 2)),
+            get(m, on(place, 3)),
+        ) as u64,
+        _ => named(m, on(place, 1)) as u64,
     }
 }
 
-// The ending of a word after a count: an s, unless the number that was written last is 1.
-fn ending(m: &mut Memory) {
-    if get(m, WRITTEN) != 1 {
-        byte(m, 115);
-    }
-}
-
-// What a byte of a text that is no letter of it asks for, with the register behind it; answers the place of the next byte.
-fn field(m: &mut Memory, kind: u32, place: usize) -> usize {
-    let register = get(m, on(place, 1)) as usize;
-    match kind {
-        37 => decimal(m, get(m, register) as u64),
-        35 => word(m, get(m, register)),
-        _ => decimal(m, memory::get_wide(m, register)),
-    }
-    on(place, 2)
-}
-
-// Whether a byte of a text asks for a register's number: %, # or &.
-fn is_field(byte: u32) -> bool {
-    if byte == 37 {
-        return true;
-    }
-    if byte == 35 {
-        return true;
-    }
-    byte == 38
-}
-
-// One byte of a text; answers the place of the next one.
-fn next(m: &mut Memory, letter: u32, place: usize) -> usize {
-    if is_field(letter) {
-        return field(m, letter, place);
-    }
+// What stands at a place of a text: a letter, or what it names.
+fn write_item(m: &mut Memory, place: usize) -> &mut Memory {
+    let letter = get(m, place);
+    let number = number(m, place);
     match letter {
+        35 => hexadecimal(m, memory::low(number)),
+        37 | 38 | 94 => decimal(m, number),
         126 => ending(m),
-        36 => parameters(m),
+        33 | 61 | 63 | 125 => m,
         _ => byte(m, letter),
     }
-    on(place, 1)
 }
 
-// A text by its number. % is the word of a register in decimal, # in hexadecimal, & the number of two registers, each with the register's
-// byte behind it; ~ is an s unless the number before is 1; $ are the parameters of the line; @ is the end.
-pub fn say(m: &mut Memory, text: u32) {
-    let mut place = get(m, on(TEXT_PLACES, text as usize)) as usize;
-    for _turn in 0..4096usize {
-        let letter = get(m, place);
-        if letter == 64 {
-            return;
+// Where the next } stands.
+fn closing(m: &Memory, from: usize) -> usize {
+    for i in from..on(from, 256) {
+        if get(m, i) == 125 {
+            return i;
         }
-        place = next(m, letter, place);
+    }
+    TEXTS
+}
+
+// Whether what stands behind a place of a text is left out.
+fn is_left_out(m: &Memory, place: usize) -> bool {
+    let word = named(m, on(place, 1));
+    match get(m, place) {
+        33 => 0 < word,
+        61 => word == named(m, on(place, 2)),
+        63 => word == 0,
+        _ => false,
     }
 }
 
-// Puts a byte of the texts in its place; answers the number of the text that it belongs to.
-fn install_byte(m: &mut Memory, i: usize, byte: u32, text: usize) -> usize {
-    let place = on(TEXTS, i);
-    put(m, place, byte);
-    if byte != 64 {
-        return text;
+// How many bytes of a text belong to this one.
+fn item_size(letter: u32) -> usize {
+    match letter {
+        33 | 35 | 37 | 38 | 63 => 2,
+        61 => 3,
+        94 => 4,
+        _ => 1,
     }
-    put(
-        m,
-        on(TEXT_PLACES, on(text, 1)),
-        memory::narrow(on(place, 1)),
-    );
-    on(text, 1)
+}
+
+// Where the text goes on.
+fn next(m: &Memory, place: usize) -> usize {
+    if is_left_out(m, place) {
+        closing(m, place)
+    } else {
+        on(place, item_size(get(m, place)))
+    }
+}
+
+// Where a text begins. The first text is empty.
+fn beginning(m: &Memory, text: u32) -> usize {
+    if 0 < get(m, QUIET) {
+        TEXTS
+    } else {
+        get(m, on(TEXT_PLACES, text as usize)) as usize
+    }
+}
+
+// A text by its number.
+pub fn say(m: &mut Memory, text: u32) -> &mut Memory {
+    let mut place = beginning(m, text);
+    for _turn in 0..4096usize {
+        if get(m, place) == 64 {
+            break;
+        }
+        write_item(m, place);
+        place = next(m, place);
+    }
+    m
+}
+
+// A text of item i, whose words stand at a place.
+fn say_item(m: &mut Memory, text: u32, i: usize, place: usize, size: usize) -> &mut Memory {
+    let m = put(m, INDEX, narrow(i));
+    let m = memory::copy(m, place, ITEM, size);
+    say(m, text)
+}
+
+// A text of each of so many items from a place on.
+pub fn say_each(m: &mut Memory, text: u32, place: usize, size: usize, count: usize) -> &mut Memory {
+    let mut at = place;
+    for i in 0..count {
+        say_item(m, text, i, at, size);
+        at = on(at, size);
+    }
+    m
+}
+
+// A text of item i, where its words are not what they were at another place.
+fn say_change(
+    m: &mut Memory,
+    text: u32,
+    i: usize,
+    place: usize,
+    before: usize,
+    size: usize,
+) -> &mut Memory {
+    if 0 < memory::differences(m, place, before, size) {
+        say_item(m, text, i, place, size)
+    } else {
+        m
+    }
+}
+
+// A text of each item that is not what it was so many words before.
+pub fn say_changes(
+    m: &mut Memory,
+    text: u32,
+    place: usize,
+    before: usize,
+    size: usize,
+    count: usize,
+) -> &mut Memory {
+    let mut at = place;
+    let mut old = before;
+    for i in 0..count {
+        say_change(m, text, i, at, old, size);
+        at = on(at, size);
+        old = on(old, size);
+    }
+    m
+}
+
+// Puts a byte of the texts in its place.
+fn install_byte(m: &mut Memory, i: usize, byte: u32) -> &mut Memory {
+    put(m, on(TEXTS, i), byte)
+}
+
+// Notes that a text begins behind byte i, if that ends one; how many texts have begun.
+fn note_text(m: &mut Memory, i: usize, text: usize) -> usize {
+    if get(m, on(TEXTS, i)) == 64 {
+        put(m, on(TEXT_PLACES, on(text, 1)), narrow(on(on(TEXTS, i), 1)));
+        on(text, 1)
+    } else {
+        text
+    }
 }
 
 // Installs the texts, which are numbered from 0.
-pub fn install(m: &mut Memory, texts: &[u8]) {
-    put(m, TEXT_PLACES, memory::narrow(TEXTS));
+pub fn install<'a>(m: &'a mut Memory, texts: &[u8]) -> &'a mut Memory {
+    put(m, TEXT_PLACES, narrow(TEXTS));
     let mut text: usize = 0;
     for i in 0..texts.len() {
-        text = install_byte(m, i, wide(texts[i]), text);
+        install_byte(m, i, wide(texts[i]));
+        text = note_text(m, i, text);
     }
+    m
 }

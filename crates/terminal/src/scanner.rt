@@ -3,13 +3,15 @@ use crate::line;
 use crate::memory;
 use crate::memory::FAULT;
 use crate::memory::FAULT_WORD;
-use crate::memory::LINE_AT;
 use crate::memory::MOST;
 use crate::memory::Memory;
-use crate::memory::PARAMETERS;
-use crate::memory::PARAMETERS_GIVEN;
+use crate::memory::NUMBER;
+use crate::memory::WORD_END;
 use crate::memory::WORD_NUMBER;
+use crate::memory::WORD_START;
 use crate::memory::get;
+use crate::memory::narrow;
+use crate::memory::on;
 use crate::memory::put;
 
 // What can be wrong: the numbers of texts.
@@ -23,11 +25,8 @@ pub const NO_TRANSACTION: u32 = 4;
 
 pub const TOO_MUCH: u32 = 5;
 
-// Where a word of the line begins, and where it ends.
-pub struct Word {
-    pub start: usize,
-    pub end: usize,
-}
+// The largest word.
+pub const WORD: u64 = 0xffff_ffff;
 
 // A number, if it is good.
 pub struct Parsed {
@@ -35,19 +34,33 @@ pub struct Parsed {
     pub value: u64,
 }
 
-// Notes a fault at the word that was read last.
-pub fn fault(m: &mut Memory, text: u32) {
-    if get(m, FAULT) == 0 {
-        put(m, FAULT, text);
-        memory::move_word(m, WORD_NUMBER, FAULT_WORD);
+// Whether the line had no fault.
+pub fn is_good(m: &Memory) -> bool {
+    get(m, FAULT) == 0
+}
+
+// Notes a fault at the word at hand.
+pub fn fault(m: &mut Memory, text: u32) -> &mut Memory {
+    if is_good(m) {
+        let m = put(m, FAULT, text);
+        memory::copy(m, WORD_NUMBER, FAULT_WORD, 1)
+    } else {
+        m
     }
 }
 
+// Notes a fault, unless something holds.
+pub fn demand(m: &mut Memory, holds: bool, text: u32) -> &mut Memory {
+    if holds { m } else { fault(m, text) }
+}
+
 // Notes that a number up to a bound is missing.
-pub fn fault_number(m: &mut Memory, most: u64) {
-    if get(m, FAULT) == 0 {
-        memory::put_wide(m, MOST, most);
-        fault(m, NO_NUMBER);
+pub fn fault_number(m: &mut Memory, most: u64) -> &mut Memory {
+    if is_good(m) {
+        let m = memory::put_wide(m, MOST, most);
+        fault(m, NO_NUMBER)
+    } else {
+        m
     }
 }
 
@@ -71,9 +84,19 @@ fn word_end(m: &Memory, from: usize) -> usize {
     line::length(m)
 }
 
+// Where the word at hand begins.
+pub fn start(m: &Memory) -> usize {
+    get(m, WORD_START) as usize
+}
+
+// Where the word at hand ends.
+pub fn end(m: &Memory) -> usize {
+    get(m, WORD_END) as usize
+}
+
 // Where the next word begins; the end of the line where none does, or a comment.
 fn next_start(m: &Memory) -> usize {
-    let start = word_start(m, get(m, LINE_AT) as usize);
+    let start = word_start(m, end(m));
     if line::byte_at(m, start) == 35 {
         return line::length(m);
     }
@@ -85,16 +108,13 @@ pub fn has_more(m: &Memory) -> bool {
     next_start(m) < line::length(m)
 }
 
-// The next word, empty where there is none.
-pub fn next_word(m: &mut Memory) -> Word {
+// The next word is at hand, empty where there is none.
+pub fn next_word(m: &mut Memory) -> &mut Memory {
     let start = next_start(m);
     let end = word_end(m, start);
-    put(m, LINE_AT, memory::narrow(end));
-    memory::count(m, WORD_NUMBER);
-    Word {
-        start: start,
-        end: end,
-    }
+    let m = put(m, WORD_START, narrow(start));
+    let m = put(m, WORD_END, narrow(end));
+    memory::add(m, WORD_NUMBER, 1)
 }
 
 // A number that is none.
@@ -139,7 +159,7 @@ fn with_decimal(value: u64, digit: u64) -> Parsed {
 }
 
 // The decimal number of the bytes from one place to another.
-pub fn decimal(m: &Memory, from: usize, to: usize) -> Parsed {
+fn decimal(m: &Memory, from: usize, to: usize) -> Parsed {
     if to <= from {
         return bad();
     }
@@ -174,22 +194,18 @@ fn with_hexadecimal(value: u64, digit: u64) -> Parsed {
     good(value * 16 + digit)
 }
 
-// Whether a word has 1 to 8 bytes.
-fn is_short(word: Word) -> bool {
-    let end = word.end;
-    if end <= word.start {
+// Whether the word at hand has 1 to 8 bytes.
+fn is_short(m: &Memory) -> bool {
+    let end = end(m);
+    let start = start(m);
+    if end <= start {
         return false;
     }
-    end <= memory::on(word.start, 8)
+    end <= on(start, 8)
 }
 
-// The number of the digits of a word of the line.
-fn hexadecimal(m: &Memory, word: Word) -> Parsed {
-    if !is_short(word) {
-        return bad();
-    }
-    let from = word.start;
-    let to = word.end;
+// The number of the hexadecimal digits from one place to another.
+fn hexadecimal(m: &Memory, from: usize, to: usize) -> Parsed {
     let mut value: u64 = 0;
     for i in from..to {
         let more = with_hexadecimal(value, digit(line::byte_at(m, i)));
@@ -201,13 +217,16 @@ fn hexadecimal(m: &Memory, word: Word) -> Parsed {
     good(value)
 }
 
-// The bytes of a word as one number, the last lowest; 0 for more than eight bytes.
-pub fn name(m: &Memory, word: Word) -> u64 {
-    if !is_short(word) {
-        return 0;
+// The number of the hexadecimal digits of the word at hand.
+fn word_value(m: &Memory) -> Parsed {
+    if !is_short(m) {
+        return bad();
     }
-    let from = word.start;
-    let to = word.end;
+    hexadecimal(m, start(m), end(m))
+}
+
+// The bytes from one place to another as one number, the last lowest.
+fn joined(m: &Memory, from: usize, to: usize) -> u64 {
     let mut value: u64 = 0;
     for i in from..to {
         value = value % 0x100_0000_0000_0000 * 256 + (line::byte_at(m, i) % 256) as u64;
@@ -215,88 +234,72 @@ pub fn name(m: &Memory, word: Word) -> u64 {
     value
 }
 
-// The next word as a name.
-pub fn next_name(m: &mut Memory) -> u64 {
-    let word = next_word(m);
-    name(m, word)
+// The bytes of the word at hand as one number; 0 for more than eight bytes.
+pub fn name(m: &Memory) -> u64 {
+    if !is_short(m) {
+        return 0;
+    }
+    joined(m, start(m), end(m))
 }
 
-// A name is expected.
-pub fn expect(m: &mut Memory, expected: u64, otherwise: u32) {
-    if next_name(m) != expected {
-        fault(m, otherwise);
+// The next word is this name, or else the text is its fault.
+pub fn expect(m: &mut Memory, expected: u64, otherwise: u32) -> &mut Memory {
+    let m = next_word(m);
+    let is_there = name(m) == expected;
+    demand(m, is_there, otherwise)
+}
+
+// The word at hand is a number up to a bound, which is kept.
+pub fn keep_number(m: &mut Memory, most: u64) -> &mut Memory {
+    let parsed = decimal_up_to(m, start(m), end(m), most);
+    if parsed.good {
+        memory::put_wide(m, NUMBER, parsed.value)
+    } else {
+        fault_number(m, most)
     }
 }
 
-// A number up to a bound is expected.
-pub fn number(m: &mut Memory, most: u64) -> u64 {
-    let word = next_word(m);
-    let parsed = decimal_up_to(m, word.start, word.end, most);
-    if !parsed.good {
-        fault_number(m, most);
-    }
-    parsed.value
-}
-
-// A number that is a word is expected.
-pub fn full_word(m: &mut Memory) -> u32 {
-    memory::low(number(m, 0xffff_ffff))
+// The next word is a number up to a bound, which is kept.
+pub fn number(m: &mut Memory, most: u64) -> &mut Memory {
+    let m = next_word(m);
+    keep_number(m, most)
 }
 
 // The same goes to a place.
-pub fn number_to(m: &mut Memory, place: usize, most: u64) {
-    let value = memory::low(number(m, most));
-    put(m, place, value);
+pub fn number_to(m: &mut Memory, place: usize, most: u64) -> &mut Memory {
+    let m = number(m, most);
+    memory::copy(m, NUMBER, place, 1)
 }
 
-// A word in hexadecimal is expected, this one.
-pub fn hexadecimal_word(m: &mut Memory, word: Word) -> u32 {
-    let parsed = hexadecimal(m, word);
-    if !parsed.good {
-        fault(m, NO_WORD);
-    }
-    memory::low(parsed.value)
+// The word at hand is a word in hexadecimal, which is kept.
+pub fn keep_word(m: &mut Memory) -> &mut Memory {
+    let parsed = word_value(m);
+    let m = put(m, NUMBER, memory::low(parsed.value));
+    demand(m, parsed.good, NO_WORD)
 }
 
-// The number behind the T of a word.
-fn transaction_number(m: &Memory, word: Word) -> Parsed {
-    if line::byte_at(m, word.start) != 84 {
+// The number behind the T of the word at hand.
+fn transaction(m: &Memory) -> Parsed {
+    if line::byte_at(m, start(m)) != 84 {
         return bad();
     }
-    decimal_up_to(m, memory::on(word.start, 1), word.end, 0xffff_ffff)
+    decimal_up_to(m, on(start(m), 1), end(m), WORD)
 }
 
-// A transaction is expected: T and a number, which goes to a place.
-pub fn transaction_to(m: &mut Memory, place: usize) {
-    let word = next_word(m);
-    let parsed = transaction_number(m, word);
-    if !parsed.good {
-        fault(m, NO_TRANSACTION);
-    }
-    put(m, place, memory::low(parsed.value));
+// The next word is a transaction, T and a number, which goes to a place.
+pub fn transaction_to(m: &mut Memory, place: usize) -> &mut Memory {
+    let m = next_word(m);
+    let parsed = transaction(m);
+    let m = put(m, place, memory::low(parsed.value));
+    demand(m, parsed.good, NO_TRANSACTION)
 }
 
-// Parameter i, if the line has it.
-fn parameter(m: &mut Memory, i: usize) {
+// What stands behind the last word is a fault.
+pub fn close(m: &mut Memory) -> &mut Memory {
     if has_more(m) {
-        number_to(m, memory::on(PARAMETERS, i), 0xffff_ffff);
-        memory::count(m, PARAMETERS_GIVEN);
+        let m = next_word(m);
+        fault(m, TOO_MUCH)
+    } else {
+        m
     }
-}
-
-// The parameters of the line, up to four.
-pub fn parameters(m: &mut Memory) {
-    memory::fill(m, PARAMETERS, 5, 0);
-    for i in 0..4usize {
-        parameter(m, i);
-    }
-}
-
-// Whether the line had no fault; what stands behind its last word is one.
-pub fn is_understood(m: &mut Memory) -> bool {
-    if has_more(m) {
-        next_word(m);
-        fault(m, TOO_MUCH);
-    }
-    get(m, FAULT) == 0
 }

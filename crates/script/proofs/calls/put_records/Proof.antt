@@ -1,21 +1,20 @@
 -- `script::calls::put_records` is safe and ends.
 -- Assumes nothing.
 use Prim.Native.Nat.{_-_, _≤_}
+use mathlib.Core.Path.{_≡_}
+use lib.ListN.{length}
 use borrow.Author.Needs.{needs}
 use Rattle.script.proofs.calls.put_records.Statement.{statement}
 use Rattle.script.proofs.calls.put_records.Tie as tie
 
 abbrev Inv-loop : tie.InvT-loop
-Inv-loop m₀ row i₀ m i = i ≤ 33
+Inv-loop desk₀ row i₀ desk i = (i ≤ 33) × (length desk ≡ length desk₀)
 
 abbrev μ-loop : tie.MeasureT-loop
-μ-loop m₀ row i₀ m i = 33 - i
+μ-loop desk₀ row i₀ desk i = 33 - i
 
 loop-holds : tie.Need-loop-holds Inv-loop μ-loop
 loop-holds c = search needs
-
-record-place-requires : tie.Need-record-place-requires Inv-loop μ-loop
-record-place-requires c κs = search needs
 
 mul-put-record : tie.Need-mul-put-record Inv-loop μ-loop
 mul-put-record c = search needs
@@ -35,6 +34,9 @@ loop-less c = search needs
 loop-again : tie.Need-loop-again Inv-loop μ-loop
 loop-again c = search needs
 
+same-length : tie.Need-same-length Inv-loop μ-loop
+same-length c = search needs
+
 returns : tie.Need-returns Inv-loop μ-loop
 returns c = search needs
 
@@ -45,11 +47,11 @@ put-records-spec =
     Inv-loop
     μ-loop
     loop-holds
-    record-place-requires
     mul-put-record
     array-copy-out-put-record
     put-record-requires
     add-i
     loop-less
     loop-again
+    same-length
     returns)

@@ -17,9 +17,6 @@ blank-requires c κs = search needs
 loop-holds : tie.Need-loop-holds Inv-loop μ-loop
 loop-holds c = search needs
 
-desk-requires : tie.Need-desk-requires Inv-loop μ-loop
-desk-requires c κs = search needs
-
 record-place-requires : tie.Need-record-place-requires Inv-loop μ-loop
 record-place-requires c κs = search needs
 
@@ -52,7 +49,6 @@ records-spec =
     μ-loop
     blank-requires
     loop-holds
-    desk-requires
     record-place-requires
     record-requires
     mul-row

@@ -17,9 +17,6 @@ loop-holds c = search needs
 has-more-requires : tie.Need-has-more-requires Inv-loop μ-loop
 has-more-requires c κs = search needs
 
-returns : tie.Need-returns Inv-loop μ-loop
-returns c = search needs
-
 form-requires : tie.Need-form-requires Inv-loop μ-loop
 form-requires c κs = search needs
 
@@ -32,6 +29,9 @@ loop-less c = search needs
 loop-again : tie.Need-loop-again Inv-loop μ-loop
 loop-again c = search needs
 
+returns : tie.Need-returns Inv-loop μ-loop
+returns c = search needs
+
 returns-2 : tie.Need-returns-2 Inv-loop μ-loop
 returns-2 c = search needs
 
@@ -43,9 +43,9 @@ forms-spec =
     μ-loop
     loop-holds
     has-more-requires
-    returns
     form-requires
     add--turn
     loop-less
     loop-again
+    returns
     returns-2)

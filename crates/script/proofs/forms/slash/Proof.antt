@@ -6,10 +6,16 @@ use Rattle.script.proofs.forms.slash.Statement.{statement}
 use Rattle.script.proofs.forms.slash.Tie as tie
 
 abbrev Inv-loop : tie.InvT-loop
-Inv-loop m from to i₀ i = 0 ≤ i
+Inv-loop m i₀ i-end i = 0 ≤ i
 
 abbrev μ-loop : tie.MeasureT-loop
-μ-loop m from to i₀ i = to - i
+μ-loop m i₀ i-end i = i-end - i
+
+start-requires : tie.Need-start-requires Inv-loop μ-loop
+start-requires c κs = search needs
+
+end-requires : tie.Need-end-requires Inv-loop μ-loop
+end-requires c κs = search needs
 
 loop-holds : tie.Need-loop-holds Inv-loop μ-loop
 loop-holds c = search needs
@@ -29,6 +35,9 @@ loop-less c = search needs
 loop-again : tie.Need-loop-again Inv-loop μ-loop
 loop-again c = search needs
 
+end-requires-2 : tie.Need-end-requires-2 Inv-loop μ-loop
+end-requires-2 c κs = search needs
+
 returns-2 : tie.Need-returns-2 Inv-loop μ-loop
 returns-2 c = search needs
 
@@ -38,10 +47,13 @@ slash-spec =
     (tie.spec
     Inv-loop
     μ-loop
+    start-requires
+    end-requires
     loop-holds
     byte-at-requires
     returns
     add-i
     loop-less
     loop-again
+    end-requires-2
     returns-2)

@@ -11,11 +11,8 @@ Inv-loop m₀ -turn₀ m -turn = -turn ≤ 281474976710655
 abbrev μ-loop : tie.MeasureT-loop
 μ-loop m₀ -turn₀ m -turn = 281474976710655 - -turn
 
-install-requires : tie.Need-install-requires Inv-loop μ-loop
-install-requires c κs = search needs
-
-reset-requires : tie.Need-reset-requires Inv-loop μ-loop
-reset-requires c κs = search needs
+begin-requires : tie.Need-begin-requires Inv-loop μ-loop
+begin-requires c κs = search needs
 
 loop-holds : tie.Need-loop-holds Inv-loop μ-loop
 loop-holds c = search needs
@@ -44,8 +41,7 @@ run-spec =
     (tie.spec
     Inv-loop
     μ-loop
-    install-requires
-    reset-requires
+    begin-requires
     loop-holds
     run-block-requires
     add--turn

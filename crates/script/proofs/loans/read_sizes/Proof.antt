@@ -17,11 +17,8 @@ loop-holds c = search needs
 has-more-requires : tie.Need-has-more-requires Inv-loop μ-loop
 has-more-requires c κs = search needs
 
-returns : tie.Need-returns Inv-loop μ-loop
-returns c = search needs
-
-read-named-size-requires : tie.Need-read-named-size-requires Inv-loop μ-loop
-read-named-size-requires c κs = search needs
+read-size-requires : tie.Need-read-size-requires Inv-loop μ-loop
+read-size-requires c κs = search needs
 
 add--turn : tie.Need-add--turn Inv-loop μ-loop
 add--turn c = search needs
@@ -31,6 +28,9 @@ loop-less c = search needs
 
 loop-again : tie.Need-loop-again Inv-loop μ-loop
 loop-again c = search needs
+
+returns : tie.Need-returns Inv-loop μ-loop
+returns c = search needs
 
 returns-2 : tie.Need-returns-2 Inv-loop μ-loop
 returns-2 c = search needs
@@ -43,9 +43,9 @@ read-sizes-spec =
     μ-loop
     loop-holds
     has-more-requires
-    returns
-    read-named-size-requires
+    read-size-requires
     add--turn
     loop-less
     loop-again
+    returns
     returns-2)

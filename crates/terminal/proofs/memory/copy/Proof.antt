@@ -20,8 +20,8 @@ on-requires c κs = search needs
 on-requires-2 : tie.Need-on-requires-2 Inv-loop μ-loop
 on-requires-2 c κs = search needs
 
-move-word-requires : tie.Need-move-word-requires Inv-loop μ-loop
-move-word-requires c κs = search needs
+copy-word-requires : tie.Need-copy-word-requires Inv-loop μ-loop
+copy-word-requires c κs = search needs
 
 add-i : tie.Need-add-i Inv-loop μ-loop
 add-i c = search needs
@@ -44,7 +44,7 @@ copy-spec =
     loop-holds
     on-requires
     on-requires-2
-    move-word-requires
+    copy-word-requires
     add-i
     loop-less
     loop-again

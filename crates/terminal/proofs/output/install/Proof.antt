@@ -29,6 +29,9 @@ wide-requires c κs = search needs
 install-byte-requires : tie.Need-install-byte-requires Inv-loop μ-loop
 install-byte-requires c κs = search needs
 
+note-text-requires : tie.Need-note-text-requires Inv-loop μ-loop
+note-text-requires c κs = search needs
+
 add-i : tie.Need-add-i Inv-loop μ-loop
 add-i c = search needs
 
@@ -53,6 +56,7 @@ install-spec =
     shared-slice-read-wide
     wide-requires
     install-byte-requires
+    note-text-requires
     add-i
     loop-less
     loop-again

@@ -1,14 +1,12 @@
 -- `terminal::output::kept` is safe and ends.
 -- Assumes nothing.
 use Prim.Native.Nat.{_-_, _≤_}
-use mathlib.Core.Path.{_≡_}
-use lib.ListN.{length}
 use borrow.Author.Needs.{needs}
 use Rattle.terminal.proofs.output.kept.Statement.{statement}
 use Rattle.terminal.proofs.output.kept.Tie as tie
 
 abbrev Inv-loop : tie.InvT-loop
-Inv-loop m block₀ i₀ block i = (i ≤ 16384) × (length block ≡ length block₀)
+Inv-loop m block₀ i₀ block i = i ≤ 16384
 
 abbrev μ-loop : tie.MeasureT-loop
 μ-loop m block₀ i₀ block i = 16384 - i

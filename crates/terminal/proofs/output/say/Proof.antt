@@ -11,23 +11,17 @@ Inv-loop m₀ text place₀ -turn₀ m place -turn = -turn ≤ 4096
 abbrev μ-loop : tie.MeasureT-loop
 μ-loop m₀ text place₀ -turn₀ m place -turn = 4096 - -turn
 
-on-requires : tie.Need-on-requires Inv-loop μ-loop
-on-requires c κs = search needs
-
-get-requires : tie.Need-get-requires Inv-loop μ-loop
-get-requires c κs = search needs
-
-cast-place : tie.Need-cast-place Inv-loop μ-loop
-cast-place c = search needs
+beginning-requires : tie.Need-beginning-requires Inv-loop μ-loop
+beginning-requires c κs = search needs
 
 loop-holds : tie.Need-loop-holds Inv-loop μ-loop
 loop-holds c = search needs
 
-get-requires-2 : tie.Need-get-requires-2 Inv-loop μ-loop
-get-requires-2 c κs = search needs
+get-requires : tie.Need-get-requires Inv-loop μ-loop
+get-requires c κs = search needs
 
-returns : tie.Need-returns Inv-loop μ-loop
-returns c = search needs
+write-item-requires : tie.Need-write-item-requires Inv-loop μ-loop
+write-item-requires c κs = search needs
 
 next-requires : tie.Need-next-requires Inv-loop μ-loop
 next-requires c κs = search needs
@@ -41,6 +35,9 @@ loop-less c = search needs
 loop-again : tie.Need-loop-again Inv-loop μ-loop
 loop-again c = search needs
 
+returns : tie.Need-returns Inv-loop μ-loop
+returns c = search needs
+
 returns-2 : tie.Need-returns-2 Inv-loop μ-loop
 returns-2 c = search needs
 
@@ -50,14 +47,13 @@ say-spec =
     (tie.spec
     Inv-loop
     μ-loop
-    on-requires
-    get-requires
-    cast-place
+    beginning-requires
     loop-holds
-    get-requires-2
-    returns
+    get-requires
+    write-item-requires
     next-requires
     add--turn
     loop-less
     loop-again
+    returns
     returns-2)

@@ -11,15 +11,6 @@ Inv-loop m from to value₀ i₀ value i = 0 ≤ i
 abbrev μ-loop : tie.MeasureT-loop
 μ-loop m from to value₀ i₀ value i = to - i
 
-is-short-requires : tie.Need-is-short-requires Inv-loop μ-loop
-is-short-requires c κs = search needs
-
-bad-requires : tie.Need-bad-requires Inv-loop μ-loop
-bad-requires c κs = search needs
-
-returns : tie.Need-returns Inv-loop μ-loop
-returns c = search needs
-
 loop-holds : tie.Need-loop-holds Inv-loop μ-loop
 loop-holds c = search needs
 
@@ -32,11 +23,11 @@ digit-requires c κs = search needs
 with-hexadecimal-requires : tie.Need-with-hexadecimal-requires Inv-loop μ-loop
 with-hexadecimal-requires c κs = search needs
 
-bad-requires-2 : tie.Need-bad-requires-2 Inv-loop μ-loop
-bad-requires-2 c κs = search needs
+bad-requires : tie.Need-bad-requires Inv-loop μ-loop
+bad-requires c κs = search needs
 
-returns-2 : tie.Need-returns-2 Inv-loop μ-loop
-returns-2 c = search needs
+returns : tie.Need-returns Inv-loop μ-loop
+returns c = search needs
 
 add-i : tie.Need-add-i Inv-loop μ-loop
 add-i c = search needs
@@ -50,8 +41,8 @@ loop-again c = search needs
 good-requires : tie.Need-good-requires Inv-loop μ-loop
 good-requires c κs = search needs
 
-returns-3 : tie.Need-returns-3 Inv-loop μ-loop
-returns-3 c = search needs
+returns-2 : tie.Need-returns-2 Inv-loop μ-loop
+returns-2 c = search needs
 
 pub hexadecimal-spec : {M : Type 1} → statement M
 hexadecimal-spec =
@@ -59,17 +50,14 @@ hexadecimal-spec =
     (tie.spec
     Inv-loop
     μ-loop
-    is-short-requires
-    bad-requires
-    returns
     loop-holds
     byte-at-requires
     digit-requires
     with-hexadecimal-requires
-    bad-requires-2
-    returns-2
+    bad-requires
+    returns
     add-i
     loop-less
     loop-again
     good-requires
-    returns-3)
+    returns-2)

@@ -1,0 +1,59 @@
+-- `script::desks::set_records` is safe and ends.
+-- Assumes nothing.
+use Prim.Native.Nat.{_-_, _≤_}
+use borrow.Author.Needs.{needs}
+use Rattle.script.proofs.desks.set_records.Statement.{statement}
+use Rattle.script.proofs.desks.set_records.Tie as tie
+
+abbrev Inv-loop : tie.InvT-loop
+Inv-loop m₀ i₀ i-end m i = 0 ≤ i
+
+abbrev μ-loop : tie.MeasureT-loop
+μ-loop m₀ i₀ i-end m i = i-end - i
+
+get-requires : tie.Need-get-requires Inv-loop μ-loop
+get-requires c κs = search needs
+
+cast-i : tie.Need-cast-i Inv-loop μ-loop
+cast-i c = search needs
+
+get-requires-2 : tie.Need-get-requires-2 Inv-loop μ-loop
+get-requires-2 c κs = search needs
+
+cast-i-end : tie.Need-cast-i-end Inv-loop μ-loop
+cast-i-end c = search needs
+
+loop-holds : tie.Need-loop-holds Inv-loop μ-loop
+loop-holds c = search needs
+
+set-record-requires : tie.Need-set-record-requires Inv-loop μ-loop
+set-record-requires c κs = search needs
+
+add-i : tie.Need-add-i Inv-loop μ-loop
+add-i c = search needs
+
+loop-less : tie.Need-loop-less Inv-loop μ-loop
+loop-less c = search needs
+
+loop-again : tie.Need-loop-again Inv-loop μ-loop
+loop-again c = search needs
+
+returns : tie.Need-returns Inv-loop μ-loop
+returns c = search needs
+
+pub set-records-spec : {M : Type 1} → statement M
+set-records-spec =
+    tie.close
+    (tie.spec
+    Inv-loop
+    μ-loop
+    get-requires
+    cast-i
+    get-requires-2
+    cast-i-end
+    loop-holds
+    set-record-requires
+    add-i
+    loop-less
+    loop-again
+    returns)

@@ -1,0 +1,51 @@
+-- `terminal::output::say_changes` is safe and ends.
+-- Assumes nothing.
+use Prim.Native.Nat.{_-_, _≤_}
+use borrow.Author.Needs.{needs}
+use Rattle.terminal.proofs.output.say_changes.Statement.{statement}
+use Rattle.terminal.proofs.output.say_changes.Tie as tie
+
+abbrev Inv-loop : tie.InvT-loop
+Inv-loop m₀ text place before size count at₀ old₀ i₀ m at old i = i ≤ count
+
+abbrev μ-loop : tie.MeasureT-loop
+μ-loop m₀ text place before size count at₀ old₀ i₀ m at old i = count - i
+
+loop-holds : tie.Need-loop-holds Inv-loop μ-loop
+loop-holds c = search needs
+
+say-change-requires : tie.Need-say-change-requires Inv-loop μ-loop
+say-change-requires c κs = search needs
+
+on-requires : tie.Need-on-requires Inv-loop μ-loop
+on-requires c κs = search needs
+
+on-requires-2 : tie.Need-on-requires-2 Inv-loop μ-loop
+on-requires-2 c κs = search needs
+
+add-i : tie.Need-add-i Inv-loop μ-loop
+add-i c = search needs
+
+loop-less : tie.Need-loop-less Inv-loop μ-loop
+loop-less c = search needs
+
+loop-again : tie.Need-loop-again Inv-loop μ-loop
+loop-again c = search needs
+
+returns : tie.Need-returns Inv-loop μ-loop
+returns c = search needs
+
+pub say-changes-spec : {M : Type 1} → statement M
+say-changes-spec =
+    tie.close
+    (tie.spec
+    Inv-loop
+    μ-loop
+    loop-holds
+    say-change-requires
+    on-requires
+    on-requires-2
+    add-i
+    loop-less
+    loop-again
+    returns)
