@@ -1,5 +1,6 @@
 // The engine: new desk, request and visit.
 mod engine;
+mod words;
 
 pub use desk::Desk;
 pub use desk::DeskAnswer;
@@ -10,3 +11,5 @@ pub use passing::VisitAnswer;
 pub use passing::VisitResult;
 pub use routing::RequestAnswer;
 pub use routing::RequestResult;
+pub use words::request_on_words;
+pub use words::visit_on_words;

@@ -4,4 +4,5 @@ pub mod Copying
 pub mod LocalArray
 pub mod Parts
 pub mod Records
+pub mod Rows
 pub mod SharedSlice

@@ -1,6 +1,7 @@
 // The queue of waiting requests: a lent slice of records. These functions alone touch the slice; all else is reckoned on plain data.
 mod lent;
 mod record;
+mod words;
 
 pub use lent::copied;
 pub use lent::len;
@@ -10,3 +11,6 @@ pub use record::Request;
 pub use record::blank;
 pub use record::blanks;
 pub use record::params;
+pub use words::records_in;
+pub use words::size_in;
+pub use words::store_in;

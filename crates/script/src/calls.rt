@@ -1,6 +1,5 @@
 // The engine's request and visit, on what stands in memory. What a call leaves of the desk goes behind the desks, and the buffers behind
 // the frames, so that all of it can be held against what was there before.
-ghost use Prim.Native.Nat.{_≤_};
 use crate::answers;
 use crate::desks;
 use crate::layout::AFTER;
@@ -21,20 +20,22 @@ use crate::layout::REQUESTS;
 use crate::layout::STATE;
 use crate::layout::TRANSACTION;
 use crate::layout::here;
-use crate::layout::record_place;
 use crate::texts;
 use conveyor::RequestAnswer;
 use conveyor::RequestResult;
 use conveyor::VisitAnswer;
 use conveyor::VisitResult;
-use queue::Request;
 use terminal::Memory;
-use terminal::memory;
+use terminal::memory::add;
+use terminal::memory::copy;
 use terminal::memory::counted;
 use terminal::memory::get;
+use terminal::memory::high;
 use terminal::memory::narrow;
 use terminal::memory::on;
+use terminal::memory::part;
 use terminal::memory::put;
+use terminal::memory::wide;
 
 // Copies words from memory.
 fn load(m: &Memory, place: usize, into: &mut [u32]) {
@@ -65,10 +66,10 @@ fn put_word(into: &mut [u32], i: usize, word: u32) {
     }
 }
 
-// Copies words to others from a place on.
-fn transfer(words: &[u32], into: &mut [u32], place: usize) {
+// Copies words to the front of others.
+fn transfer(words: &[u32], into: &mut [u32]) {
     for i in 0..words.len() {
-        put_word(into, on(place, i), words[i]);
+        put_word(into, i, words[i]);
     }
 }
 
@@ -91,156 +92,142 @@ pub fn parameters(m: &Memory) -> [u32; 4] {
     ]
 }
 
-// The record at a place.
-fn record(m: &Memory, place: usize) -> Request {
-    Request {
-        client: get(m, place),
-        transaction: get(m, on(place, 1)),
-        p0: get(m, on(place, 2)),
-        p1: get(m, on(place, 3)),
-        p2: get(m, on(place, 4)),
-        p3: get(m, on(place, 5)),
-    }
+// The row of the desk at hand, as much of it as is lent: a number of words.
+fn lent_row(m: &Memory) -> usize {
+    (get(m, LENT_RECORDS) % 64) as usize * 6
 }
 
-// The records of the desk at hand.
-fn records(m: &Memory) -> [Request; 33] {
-    let mut row = [queue::blank(); 33];
-    for i in 0..33usize {
-        row[i] = record(m, record_place(m, i));
-    }
-    row
-}
-
-// Stores a record among the words of a desk.
-fn put_record(desk: &mut [u32], i: usize, request: Request) {
-    let words = [
-        request.client,
-        request.transaction,
-        request.p0,
-        request.p1,
-        request.p2,
-        request.p3,
-    ];
-    transfer(&words, desk, on(RECORDS, i % 64 * 6));
-}
-
-// Stores the records that a call left.
-fn put_records(desk: &mut [u32], row: [Request; 33]) {
-    for i in 0..33usize {
-        put_record(desk, i, row[i]);
-    }
-}
-
-// How many records are lent.
-fn lent_records(m: &Memory) -> usize
-    ensures { λ r. ⌜ r ≤ 33 ⌝ }
-{
-    (get(m, LENT_RECORDS) % 34) as usize
-}
-
-// The request itself on the words of the desk, with as much lent as is set.
-fn ask(m: &Memory, desk: &mut [u32]) -> RequestResult {
-    let size = get(m, LENT_CELLS) as usize;
-    let requested = harness::request_of(
+// The request itself on these cells and this row, with as much lent as is set.
+fn ask(m: &Memory, cells: &mut [u32], row: &mut [u32]) -> RequestResult {
+    let lent_cells = get(m, LENT_CELLS) as usize;
+    let lent_words = lent_row(m);
+    conveyor::request_on_words(
         counted(m, PLAN),
         desks::state(m),
-        front(desk, size),
-        records(m),
-        lent_records(m),
+        front(cells, lent_cells),
+        front(row, lent_words),
         get(m, CLIENT),
         get(m, TRANSACTION),
         parameters(m),
-    );
-    let row = requested.queue;
-    put_records(desk, row);
-    requested.result
+    )
 }
 
-// Notes and counts a request that was accepted, by what became of it.
-fn accept_request(m: &mut Memory, kind: u32, value: u32) -> &mut Memory {
-    let m = answers::accept(m, texts::DONE + kind % 4, value);
-    let m = memory::add(m, REQUESTS, 1);
-    memory::add(m, on(DONE, kind as usize), 1)
+// The same on copies.
+fn ask_on_copies(m: &Memory, cells: &mut [u32], row: &mut [u32]) -> RequestResult {
+    load(m, here(m, 0), cells);
+    load(m, here(m, RECORDS), row);
+    ask(m, cells, row)
 }
 
-// Notes a request that was replied to.
-fn reply(m: &mut Memory, done: bool, number: u32) -> &mut Memory {
-    accept_request(m, if done { 0 } else { 1 }, number)
-}
-
-// Notes what a request answers.
-fn note_request(m: &mut Memory, answer: RequestAnswer) -> &mut Memory {
+// What a request answers. The texts of what became of it stand in the order of its counts.
+fn request_answer(answer: RequestAnswer) -> u64 {
     match answer {
-        RequestAnswer::Replied(said) => reply(m, said.done, said.number),
-        RequestAnswer::Waits => accept_request(m, 2, 0),
-        RequestAnswer::Elsewhere(desk) => accept_request(m, 3, desk),
-        RequestAnswer::Refused(question) => answers::refuse(m, question),
+        RequestAnswer::Replied(said) => {
+            wide(
+                said.number,
+                if said.done {
+                    texts::DONE
+                } else {
+                    texts::DECLINED
+                },
+            )
+        }
+        RequestAnswer::Waits => wide(0, texts::WAITS),
+        RequestAnswer::Elsewhere(desk) => wide(desk, texts::ELSEWHERE),
+        RequestAnswer::Refused(question) => answers::refused(question),
+    }
+}
+
+// Counts a request by the text of its answer, if it was accepted.
+fn count_request(m: &mut Memory, text: u32) -> &mut Memory {
+    if text < texts::DONE {
+        m
+    } else {
+        add(
+            add(m, REQUESTS, 1),
+            on(DONE, (text - texts::DONE) as usize),
+            1,
+        )
     }
 }
 
 // A request at the desk at hand of the operation at hand.
 pub fn request(m: &mut Memory) -> &mut Memory {
-    let mut desk = [0u32; 1280];
-    load(m, here(m, 0), &mut desk);
-    let result = ask(m, &mut desk);
-    let answer = result.answer;
-    let m = store(m, AFTER, &desk);
-    let m = desks::put_state(m, AFTER + STATE, result.state);
-    note_request(m, answer)
+    let mut cells = [0u32; 1040];
+    let mut row = [0u32; 198];
+    let result = ask_on_copies(m, &mut cells, &mut row);
+    let given = result.answer;
+    let answer = request_answer(given);
+    let m = store(store(m, AFTER, &cells), AFTER + RECORDS, &row);
+    let m = answers::note(desks::put_state(m, AFTER + STATE, result.state), answer);
+    count_request(m, high(answer))
 }
 
-// The visit itself on the words of the desk, with as much lent as is set, by the words of the line.
-fn pass(m: &Memory, desk: &mut [u32], out: &mut [u32], replies: &mut [u32]) -> VisitResult {
+// The visit itself on these cells and buffers, with as much lent as is set, by the words of the line.
+fn pass(m: &Memory, cells: &mut [u32], out: &mut [u32], replies: &mut [u32]) -> VisitResult {
     let lent_cells = get(m, LENT_CELLS) as usize;
     let lent_out = get(m, LENT_OUTGOING) as usize;
     let lent_replies = get(m, LENT_REPLIES) as usize;
-    harness::visit_of(
+    let row = here(m, RECORDS);
+    conveyor::visit_on_words(
         counted(m, PLAN),
         desks::state(m),
-        front(desk, lent_cells),
-        records(m),
-        lent_records(m),
+        front(cells, lent_cells),
+        part(m, row, on(row, lent_row(m))),
         counted(m, HAND),
         front(out, lent_out),
         front(replies, lent_replies),
     )
 }
 
-// The same, on buffers that are loaded and marked first.
-fn pass_on(m: &Memory, desk: &mut [u32], out: &mut [u32], replies: &mut [u32]) -> VisitResult {
-    load(m, here(m, 0), desk);
+// The same on a copy of the cells and on marked buffers.
+fn pass_on_copies(
+    m: &Memory,
+    cells: &mut [u32],
+    out: &mut [u32],
+    replies: &mut [u32],
+) -> VisitResult {
+    load(m, here(m, 0), cells);
     mark(out);
     mark(replies);
-    pass(m, desk, out, replies)
+    pass(m, cells, out, replies)
 }
 
-// Notes what a visit answers: the words of its frame and its replies.
-fn note_visit(m: &mut Memory, answer: VisitAnswer) -> &mut Memory {
+// How many words a visit sends.
+fn sent_words(answer: VisitAnswer) -> u32 {
     match answer {
-        VisitAnswer::Passed(words, replies) => {
-            let m = put(m, OUTGOING, narrow(words % 8192));
-            answers::accept(m, 0, narrow(replies % 64))
-        }
-        VisitAnswer::Refused(question) => {
-            let m = put(m, OUTGOING, 0);
-            answers::refuse(m, question)
-        }
+        VisitAnswer::Passed(words, _) => narrow(words % 8192),
+        VisitAnswer::Refused(_) => 0,
     }
 }
 
-// A visit at the desk at hand by the words of the line.
+// What a visit answers: its replies, with no text.
+fn visit_answer(answer: VisitAnswer) -> u64 {
+    match answer {
+        VisitAnswer::Passed(_, replies) => narrow(replies % 64) as u64,
+        VisitAnswer::Refused(question) => answers::refused(question),
+    }
+}
+
+// A visit at the desk at hand by the words of the line. It leaves the row as it is.
 pub fn visit(m: &mut Memory) -> &mut Memory {
-    let mut desk = [0u32; 1280];
+    let mut cells = [0u32; 1040];
     let mut out = [0u32; 6420];
     let mut replies = [0u32; 112];
-    let result = pass_on(m, &mut desk, &mut out, &mut replies);
-    let answer = result.answer;
-    let m = store(m, AFTER, &desk);
-    let m = store(m, OUTGOING + 1, &out);
-    let m = store(m, REPLIES, &replies);
-    let m = desks::put_state(m, AFTER + STATE, result.state);
-    note_visit(m, answer)
+    let result = pass_on_copies(m, &mut cells, &mut out, &mut replies);
+    let given = result.answer;
+    let row = here(m, RECORDS);
+    let m = store(
+        store(store(m, AFTER, &cells), OUTGOING + 1, &out),
+        REPLIES,
+        &replies,
+    );
+    let m = desks::put_state(
+        copy(m, row, AFTER + RECORDS, 198),
+        AFTER + STATE,
+        result.state,
+    );
+    answers::note(put(m, OUTGOING, sent_words(given)), visit_answer(given))
 }
 
 // The starting frame in an outgoing buffer of the size that is set: 0, or the question.
@@ -258,14 +245,16 @@ pub fn start(m: &mut Memory) -> &mut Memory {
     let mut out = [0u32; 6420];
     let question = begin_frame(m, &mut out);
     let m = store(m, OUTGOING + 1, &out);
-    let m = put(m, OUTGOING, if question == 0 { 4 } else { 0 });
-    answers::refuse(m, question)
+    answers::refuse(
+        put(m, OUTGOING, if question == 0 { 4 } else { 0 }),
+        question,
+    )
 }
 
 // The words that the frame reader gives back for the words of the line, and how many.
 fn read_into(m: &Memory, into: &mut [u32]) -> usize {
     let words = token::read_frame(counted(m, PLAN), counted(m, HAND));
-    transfer(words, into, 0);
+    transfer(words, into);
     words.len()
 }
 
@@ -273,6 +262,5 @@ fn read_into(m: &Memory, into: &mut [u32]) -> usize {
 pub fn read_frame(m: &mut Memory) -> &mut Memory {
     let mut out = [0u32; 6420];
     let words = read_into(m, &mut out);
-    let m = store(m, OUTGOING + 1, &out);
-    put(m, OUTGOING, narrow(words))
+    put(store(m, OUTGOING + 1, &out), OUTGOING, narrow(words))
 }

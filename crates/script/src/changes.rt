@@ -1,5 +1,6 @@
 // What a call changed of all that it was lent. What it left of a desk stands behind the desks, and the lent buffers behind the frames;
 // the desk at hand still holds what was there before the call.
+use crate::answers;
 use crate::layout::AFTER;
 use crate::layout::CELL_COUNT;
 use crate::layout::CHANGED;
@@ -9,12 +10,14 @@ use crate::layout::MARK;
 use crate::layout::MOST_WORDS;
 use crate::layout::OTHER_WORDS;
 use crate::layout::OUTGOING;
+use crate::layout::QUESTION;
 use crate::layout::RECORDS;
 use crate::layout::REPLIES;
 use crate::layout::REPLIES_SIZE;
 use crate::layout::STATE;
 use crate::layout::VALUE;
 use crate::layout::here;
+use crate::layout::to_desk;
 use crate::sums;
 use crate::texts;
 use terminal::Memory;
@@ -38,18 +41,31 @@ fn say_cells(m: &mut Memory) -> &mut Memory {
     if changed <= 24 {
         return say_changes(m, texts::CHANGED_CELL, AFTER, before, 1, CELL_COUNT);
     }
-    let m = put(m, CHANGED_CELLS, changed);
-    let m = sums::take(m, AFTER, CELL_COUNT);
-    say(m, texts::CHANGED_CELLS)
+    say(
+        sums::take(put(m, CHANGED_CELLS, changed), AFTER, CELL_COUNT),
+        texts::CHANGED_CELLS,
+    )
 }
 
 // All that changed at the desk at hand.
 fn say_desk(m: &mut Memory) -> &mut Memory {
-    let records = here(m, RECORDS);
-    let state = here(m, STATE);
-    let m = say_cells(m);
-    let m = say_changes(m, texts::CHANGED_RECORD, AFTER + RECORDS, records, 6, 33);
-    say_changes(m, texts::CHANGED_STATE, AFTER + STATE, state, 5, 1)
+    let before = here(m, 0);
+    let m = say_changes(
+        say_cells(m),
+        texts::CHANGED_RECORD,
+        AFTER + RECORDS,
+        on(before, RECORDS),
+        6,
+        33,
+    );
+    say_changes(
+        m,
+        texts::CHANGED_STATE,
+        AFTER + STATE,
+        on(before, STATE),
+        5,
+        1,
+    )
 }
 
 // How many words of a buffer are not the marks from one of them on.
@@ -63,48 +79,31 @@ fn unmarked(m: &Memory, place: usize, from: usize, words: usize) -> u32 {
     found
 }
 
-// How many words changed behind the outgoing ones.
-fn behind_frame(m: &Memory) -> u32 {
-    unmarked(m, OUTGOING + 1, get(m, OUTGOING) as usize, MOST_WORDS)
-}
-
-// How many words changed behind the replies.
-fn behind_replies(m: &Memory) -> u32 {
-    unmarked(m, REPLIES, (get(m, VALUE) % 64) as usize * 3, REPLIES_SIZE)
-}
-
 // Notes how many words changed behind the outgoing ones.
 pub fn note_behind_frame(m: &mut Memory) -> &mut Memory {
-    let words = behind_frame(m);
+    let words = unmarked(m, OUTGOING + 1, get(m, OUTGOING) as usize, MOST_WORDS);
     put(m, OTHER_WORDS, words)
 }
 
 // Notes how many words changed behind the outgoing ones and the replies.
 pub fn note_behind(m: &mut Memory) -> &mut Memory {
-    let replies = behind_replies(m);
-    let m = note_behind_frame(m);
-    memory::add(m, OTHER_WORDS, replies)
+    let words = unmarked(m, REPLIES, (get(m, VALUE) % 64) as usize * 3, REPLIES_SIZE);
+    memory::add(note_behind_frame(m), OTHER_WORDS, words)
 }
 
-// What changed after an accepted call: at the desk, and behind the words that it wrote. The desk then holds it.
-pub fn accept(m: &mut Memory) -> &mut Memory {
-    let place = here(m, 0);
-    let m = say_desk(m);
-    let m = say(m, texts::OTHER_WORDS);
-    memory::copy(m, AFTER, place, DESK_SIZE)
+// Whether the call was refused and changed nothing, as it must be.
+fn is_idle(m: &Memory) -> bool {
+    if answers::is_accepted(m) {
+        return false;
+    }
+    std::num::wrapping_add_u32(differences(m, DESK_SIZE), get(m, OTHER_WORDS)) == 0
 }
 
-// Counts a refusal that changed something.
-pub fn say_changed(m: &mut Memory, text: u32) -> &mut Memory {
-    let m = memory::add(m, CHANGED, 1);
-    say(m, text)
-}
-
-// What changed after a refused call, which must be nothing.
-pub fn refuse(m: &mut Memory) -> &mut Memory {
-    if std::num::wrapping_add_u32(differences(m, DESK_SIZE), get(m, OTHER_WORDS)) == 0 {
+// What changed, after the answer to a request or a visit: at the desk, and behind the words that it wrote. The desk then holds it.
+pub fn say_all(m: &mut Memory) -> &mut Memory {
+    if is_idle(m) {
         return m;
     }
-    let m = say_changed(m, texts::CHANGED);
-    accept(m)
+    let m = say_desk(say(memory::count_above(m, CHANGED, QUESTION, 0), texts::CHANGED));
+    to_desk(say(m, texts::OTHER_WORDS), AFTER, 0, DESK_SIZE)
 }

@@ -13,7 +13,7 @@ use crate::layout::STATE;
 use crate::layout::TO;
 use crate::layout::here;
 use crate::layout::is_made;
-use crate::layout::record_place;
+use crate::layout::to_desk;
 use crate::operations;
 use crate::texts;
 use conveyor::Desk;
@@ -29,6 +29,8 @@ use terminal::memory::put;
 use terminal::output::say;
 use terminal::output::say_each;
 use terminal::scanner;
+use terminal::scanner::WORD;
+use terminal::scanner::number_to;
 
 // The state of the desk at hand.
 pub fn state(m: &Memory) -> Desk {
@@ -41,9 +43,11 @@ pub fn state(m: &Memory) -> Desk {
 
 // Stores a state at a place, and that the desk is made.
 pub fn put_state(m: &mut Memory, place: usize, state: Desk) -> &mut Memory {
-    let m = put(m, place, 1);
-    let m = put(m, on(place, 1), state.desk);
-    let m = put(m, on(place, 2), state.waiting);
+    let m = put(
+        put(put(m, place, 1), on(place, 1), state.desk),
+        on(place, 2),
+        state.waiting,
+    );
     memory::put_wide(m, on(place, 3), state.awaited)
 }
 
@@ -56,16 +60,12 @@ fn take_state(m: &mut Memory) -> &mut Memory {
 // A new desk: its words are zeros but for the state.
 fn open(m: &mut Memory, state: Desk) -> &mut Memory {
     let place = here(m, 0);
-    let m = memory::fill(m, place, DESK_SIZE, 0);
-    let m = put_state(m, on(place, STATE), state);
-    let m = take_state(m);
-    answers::accept(m, texts::STATE, 0)
-}
-
-// A new desk that is refused.
-fn refuse(m: &mut Memory, question: u32) -> &mut Memory {
-    let m = say(m, texts::DESK);
-    answers::refuse(m, question)
+    let m = put_state(
+        memory::fill(m, place, DESK_SIZE - 1, 0),
+        on(place, STATE),
+        state,
+    );
+    answers::accept(take_state(m), texts::STATE, 0)
 }
 
 // Asks for a new desk.
@@ -73,14 +73,18 @@ fn ask(m: &Memory) -> DeskAnswer {
     conveyor::new_desk(counted(m, PLAN), get(m, DESK))
 }
 
+// Notes what a new desk answers.
+fn note(m: &mut Memory, answer: DeskAnswer) -> &mut Memory {
+    match answer {
+        DeskAnswer::Opened(state) => open(m, state),
+        DeskAnswer::Refused(question) => answers::refuse(say(m, texts::DESK), question),
+    }
+}
+
 // `desk 0`.
 pub fn new_desk(m: &mut Memory) -> &mut Memory {
-    let asked = ask(m);
-    let m = match asked {
-        DeskAnswer::Opened(state) => open(m, state),
-        DeskAnswer::Refused(question) => refuse(m, question),
-    };
-    answers::answer(m)
+    let answer = ask(m);
+    answers::answer(note(m, answer))
 }
 
 // The number of a desk that is made, which is then at hand.
@@ -90,59 +94,37 @@ pub fn read_made(m: &mut Memory) -> &mut Memory {
     scanner::demand(m, is_there, texts::NOT_MADE)
 }
 
-// A state as a line writes it, `desk 0 waiting 31 awaits 64`, goes to the item at hand.
-fn read_fields(m: &mut Memory) -> &mut Memory {
+// `state 0 desk 0 waiting 31 awaits 64`, as a line writes it: the state goes to the item at hand.
+pub fn read_state(m: &mut Memory) -> &mut Memory {
+    let m = number_to(put(m, ITEM, 1), DESK, 7);
     // desk
-    let m = scanner::expect(m, 0x6465_736b, texts::NO_DESK);
-    let m = scanner::number_to(m, ITEM + 1, scanner::WORD);
+    let m = number_to(
+        scanner::expect(m, 0x6465_736b, texts::NO_DESK),
+        ITEM + 1,
+        WORD,
+    );
     // waiting
     let m = scanner::expect(m, 0x77_6169_7469_6e67, texts::NO_WAITING);
-    let m = scanner::number_to(m, ITEM + 2, scanner::WORD);
+    let m = number_to(m, ITEM + 2, WORD);
     // awaits
-    let m = scanner::expect(m, 0x6177_6169_7473, texts::NO_AWAITS);
-    let m = scanner::number(m, 0xffff_ffff_ffff_ffff);
-    memory::copy(m, NUMBER, ITEM + 3, 2)
-}
-
-// `state 0 desk 0 waiting 31 awaits 64`, as a line writes it.
-pub fn read_state(m: &mut Memory) -> &mut Memory {
-    let m = scanner::number_to(m, DESK, 7);
-    let m = put(m, ITEM, 1);
-    read_fields(m)
-}
-
-// `state 0 desk 0 waiting 31 awaits 64`.
-pub fn set_state(m: &mut Memory) -> &mut Memory {
-    let place = here(m, STATE);
-    memory::copy(m, ITEM, place, 5)
+    let m = scanner::next_word(scanner::expect(m, 0x6177_6169_7473, texts::NO_AWAITS));
+    memory::copy(
+        scanner::keep_number(m, 0xffff_ffff_ffff_ffff),
+        NUMBER,
+        ITEM + 3,
+        2,
+    )
 }
 
 // `cell 0 128 7`, as a line writes it.
 pub fn read_cell(m: &mut Memory) -> &mut Memory {
-    let m = read_made(m);
-    let m = scanner::number_to(m, FROM, 1039);
-    scanner::number(m, scanner::WORD)
+    number_to(number_to(read_made(m), FROM, 1039), TO, WORD)
 }
 
 // `cell 0 128 7`.
 pub fn set_cell(m: &mut Memory) -> &mut Memory {
-    let place = here(m, get(m, FROM) as usize);
-    memory::copy(m, NUMBER, place, 1)
-}
-
-// The word that is drawn after another.
-fn drawn(x: u32) -> u32 {
-    ((x as u64 * 1664525 + 1013904223) % 0x1_0000_0000) as u32
-}
-
-// Cells that are drawn from a seed.
-fn draw_cells(m: &mut Memory, place: usize, seed: u32) -> &mut Memory {
-    let mut x = seed;
-    for i in 0..1040usize {
-        x = drawn(x);
-        put(m, on(place, i), x);
-    }
-    m
+    let cell = get(m, FROM) as usize;
+    to_desk(m, TO, cell, 1)
 }
 
 // The next word is at hand, behind `seed` if it is that.
@@ -150,8 +132,7 @@ fn read_seed(m: &mut Memory) -> &mut Memory {
     let m = scanner::next_word(m);
     // seed
     if scanner::name(m) == 0x7365_6564 {
-        let m = put(m, SEED, 1);
-        scanner::next_word(m)
+        scanner::next_word(put(m, SEED, 1))
     } else {
         put(m, SEED, 0)
     }
@@ -159,35 +140,37 @@ fn read_seed(m: &mut Memory) -> &mut Memory {
 
 // `cells 0 7` and `cells 0 seed 7`, as a line writes them.
 pub fn read_cells(m: &mut Memory) -> &mut Memory {
-    let m = read_made(m);
-    let m = read_seed(m);
-    scanner::keep_number(m, scanner::WORD)
+    scanner::keep_number(read_seed(read_made(m)), WORD)
+}
+
+// The word of the next cell: the same, or the one that is drawn after it.
+fn next_cell(x: u32, is_drawn: bool) -> u32 {
+    if is_drawn {
+        ((x as u64 * 1664525 + 1013904223) % 0x1_0000_0000) as u32
+    } else {
+        x
+    }
 }
 
 // `cells 0 7` and `cells 0 seed 7`.
 pub fn set_cells(m: &mut Memory) -> &mut Memory {
-    let place = here(m, 0);
-    let value = get(m, NUMBER);
-    if get(m, SEED) == 1 {
-        draw_cells(m, place, value)
-    } else {
-        memory::fill(m, place, CELL_COUNT, value)
+    let mut x = get(m, NUMBER);
+    for i in 0..1040usize {
+        x = next_cell(x, get(m, SEED) == 1);
+        put(m, here(m, i), x);
     }
+    m
 }
 
 // `records 0 5 31 client 100 T1 0 3`, as a line writes it.
 pub fn read_records(m: &mut Memory) -> &mut Memory {
-    let m = read_made(m);
-    let m = scanner::number_to(m, FROM, 33);
-    let m = scanner::number_to(m, TO, 33);
+    let m = number_to(number_to(read_made(m), FROM, 33), TO, 33);
     operations::read_of_client(m)
 }
 
 // Record i of the desk at hand is the operation at hand; the next client is the next number.
 fn set_record(m: &mut Memory, i: usize) -> &mut Memory {
-    let place = record_place(m, i);
-    let m = memory::copy(m, OPERATION, place, 6);
-    memory::add(m, CLIENT, 1)
+    memory::add(to_desk(m, OPERATION, on(RECORDS, i % 64 * 6), 6), CLIENT, 1)
 }
 
 // `records 0 5 31 client 100 T1 0 3`.
@@ -204,17 +187,11 @@ fn shown_records(m: &Memory) -> usize {
     if waiting < 33 { waiting } else { 33 }
 }
 
-// The records that wait, and the cells that are not zero.
-fn show_contents(m: &mut Memory) -> &mut Memory {
-    let count = shown_records(m);
-    let cells = here(m, 0);
-    let m = say_each(m, texts::SHOWN_RECORD, on(cells, RECORDS), 6, count);
-    say_each(m, texts::SHOWN_CELL, cells, 1, CELL_COUNT)
-}
-
-// `show desk 0`.
+// `show desk 0`: its state, the records that wait, and the cells that are not zero.
 pub fn show(m: &mut Memory) -> &mut Memory {
-    let m = take_state(m);
-    let m = say(m, texts::STATE);
-    show_contents(m)
+    let records = shown_records(m);
+    let place = here(m, 0);
+    let m = say(take_state(m), texts::STATE);
+    let m = say_each(m, texts::SHOWN_RECORD, on(place, RECORDS), 6, records);
+    say_each(m, texts::SHOWN_CELL, place, 1, CELL_COUNT)
 }

@@ -1,21 +1,26 @@
 // Words of plans and frames, as a script writes them. They are gathered behind each other in memory, apart from everything else. On a bad
 // line they may be anything.
+use crate::frames;
+use crate::layout::CHANGES;
 use crate::layout::FROM;
 use crate::layout::HAND;
 use crate::layout::MOST_WORDS;
+use crate::layout::OWN_WORDS;
 use crate::layout::PLAN;
 use crate::layout::SENT;
-use crate::layout::SOURCE;
 use crate::layout::SUMS;
 use crate::layout::TAKEN_FRAME;
+use crate::layout::TO;
 use crate::layout::frame_place;
-use crate::layout::is_kept;
 use crate::sums;
 use crate::texts;
 use terminal::Memory;
 use terminal::line;
 use terminal::memory;
 use terminal::memory::NUMBER;
+use terminal::memory::WORD_END;
+use terminal::memory::WORD_START;
+use terminal::memory::copy;
 use terminal::memory::get;
 use terminal::memory::narrow;
 use terminal::memory::on;
@@ -23,67 +28,19 @@ use terminal::memory::put;
 use terminal::scanner;
 use terminal::scanner::demand;
 use terminal::scanner::fault;
+use terminal::scanner::keep_number;
 
-// `frame`, the one form that changes nothing.
-const FRAME: u64 = 0x66_7261_6d65;
-
-// How many words the line has so far.
-fn length(m: &Memory) -> usize {
-    get(m, HAND) as usize
-}
-
-// Where the next word goes.
-fn end(m: &Memory) -> usize {
-    on(HAND + 1, length(m))
-}
-
-// One word more, which stands at a place.
-fn append(m: &mut Memory, place: usize) -> &mut Memory {
-    if MOST_WORDS <= length(m) {
+// So many words more, which stand from a place on, or a fault where they are too many.
+fn extend(m: &mut Memory, from: usize, words: usize) -> &mut Memory {
+    let length = get(m, HAND) as usize;
+    if MOST_WORDS < on(length, words) {
         return fault(m, texts::TOO_MANY_WORDS);
     }
-    let end = end(m);
-    let m = memory::copy(m, place, end, 1);
-    memory::add(m, HAND, 1)
-}
-
-// So many words more, each the same as a period before it.
-fn extend(m: &mut Memory, words: usize, period: usize) -> &mut Memory {
-    let end = end(m);
-    let m = memory::copy(m, std::num::wrapping_sub_usize(end, period), end, words);
-    memory::add(m, HAND, narrow(words))
-}
-
-// Whether words can be repeated after a period.
-fn has_period(m: &Memory, words: usize, period: usize) -> bool {
-    if words == 0 {
-        return true;
-    }
-    if period == 0 {
-        return false;
-    }
-    period <= length(m)
-}
-
-// What is wrong with so many words more after a period: the number of a text, 0 for nothing.
-fn repetition_fault(m: &Memory, words: usize, period: usize) -> u32 {
-    if !has_period(m, words, period) {
-        return texts::NO_SUCH_WORDS;
-    }
-    if MOST_WORDS < on(length(m), words) {
-        return texts::TOO_MANY_WORDS;
-    }
-    0
-}
-
-// So many words more after a period, or a fault.
-fn repeat(m: &mut Memory, words: usize, period: usize) -> &mut Memory {
-    let wrong = repetition_fault(m, words, period);
-    if wrong == 0 {
-        extend(m, words, period)
-    } else {
-        fault(m, wrong)
-    }
+    memory::add(
+        copy(m, from, on(HAND + 1, length), words),
+        HAND,
+        narrow(words),
+    )
 }
 
 // Where a slash stands in the word at hand, or its end.
@@ -96,42 +53,46 @@ fn slash(m: &Memory) -> usize {
     scanner::end(m)
 }
 
-// The number between two places; above 6420 for none that is so small.
-fn number(m: &Memory, from: usize, to: usize) -> usize {
-    let parsed = scanner::decimal_up_to(m, from, to, 6420);
-    if parsed.good {
-        parsed.value as usize
-    } else {
-        6421
-    }
-}
-
-// The words that the word at hand repeats.
-fn repeated_words(m: &Memory) -> usize {
-    number(m, on(scanner::start(m), 1), slash(m))
-}
-
-// The number behind a slash; 1 where there is no slash.
-fn period(m: &Memory) -> usize {
+// The two numbers of `*403/13`; the second is 1 in `*11`.
+fn read_repetition(m: &mut Memory) -> &mut Memory {
     let middle = slash(m);
     let end = scanner::end(m);
+    let m = memory::add(put(m, WORD_END, narrow(middle)), WORD_START, 1);
+    let m = copy(keep_number(m, 6420), NUMBER, FROM, 1);
     if middle == end {
-        return 1;
+        return put(m, TO, 1);
     }
-    number(m, on(middle, 1), end)
+    let m = put(
+        put(m, WORD_START, narrow(on(middle, 1))),
+        WORD_END,
+        narrow(end),
+    );
+    copy(keep_number(m, 6420), NUMBER, TO, 1)
 }
 
-// `*11` or `*403/13`.
+// Whether words can be repeated after a period.
+fn has_period(m: &Memory) -> bool {
+    if get(m, FROM) == 0 {
+        return true;
+    }
+    if get(m, TO) == 0 {
+        return false;
+    }
+    get(m, TO) <= get(m, HAND)
+}
+
+// Where the last period begins.
+fn last_period(m: &Memory) -> usize {
+    std::num::wrapping_sub_usize(on(HAND + 1, get(m, HAND) as usize), get(m, TO) as usize)
+}
+
+// `*11` or `*403/13`: words more, each the same as a period before it.
 fn repeated(m: &mut Memory) -> &mut Memory {
-    let words = repeated_words(m);
-    let after = period(m);
-    if 6420 < words {
-        return scanner::fault_number(m, 6420);
-    }
-    if 6420 < after {
-        return scanner::fault_number(m, 6420);
-    }
-    repeat(m, words, after)
+    let m = read_repetition(m);
+    let is_there = has_period(m);
+    let from = last_period(m);
+    let words = get(m, FROM) as usize;
+    extend(demand(m, is_there, texts::NO_SUCH_WORDS), from, words)
 }
 
 // Whether the line has more words than a number that it names.
@@ -144,46 +105,30 @@ fn replaced(m: &mut Memory) -> &mut Memory {
     let m = scanner::number_to(m, FROM, 6420);
     let is_there = has_word(m);
     let place = on(HAND + 1, get(m, FROM) as usize);
-    let m = demand(m, is_there, texts::NO_SUCH_WORDS);
-    let m = scanner::next_word(m);
-    let m = scanner::keep_word(m);
-    memory::copy(m, NUMBER, place, 1)
-}
-
-// How many words are left without the last ones, or the number of a text above all numbers of words.
-fn words_without(m: &Memory, last: u32) -> u32 {
-    let all = get(m, HAND);
-    if all < last { 0xffff_ffff } else { all - last }
+    let m = scanner::next_word(demand(m, is_there, texts::NO_SUCH_WORDS));
+    copy(scanner::keep_word(m), NUMBER, place, 1)
 }
 
 // Cuts off the last words.
 fn shorten(m: &mut Memory, last: u32) -> &mut Memory {
-    let words = words_without(m, last);
-    if words == 0xffff_ffff {
+    let words = get(m, HAND);
+    if words < last {
         return fault(m, texts::NO_SUCH_WORDS);
     }
-    put(m, HAND, words)
+    put(m, HAND, words - last)
 }
 
 // `cut 3`.
 fn cut(m: &mut Memory) -> &mut Memory {
-    let m = scanner::number(m, 6420);
-    let last = get(m, NUMBER);
+    let m = scanner::number_to(m, FROM, 6420);
+    let last = get(m, FROM);
     shorten(m, last)
 }
 
 // `seal`.
 fn sealed(m: &mut Memory) -> &mut Memory {
-    let words = length(m);
-    let m = sums::take(m, HAND + 1, words);
-    let m = append(m, SUMS);
-    append(m, SUMS + 1)
-}
-
-// `sums`.
-fn resealed(m: &mut Memory) -> &mut Memory {
-    let m = shorten(m, 2);
-    sealed(m)
+    let words = get(m, HAND) as usize;
+    extend(sums::take(m, HAND + 1, words), SUMS, 2)
 }
 
 // The words of the frame that is taken.
@@ -192,33 +137,23 @@ fn take_frame(m: &mut Memory) -> &mut Memory {
     memory::copy_counted(m, place, HAND)
 }
 
-// `frame 3`.
-fn kept_frame(m: &mut Memory) -> &mut Memory {
-    let m = scanner::number_to(m, TAKEN_FRAME, scanner::WORD);
-    let is_there = is_kept(m, TAKEN_FRAME);
-    let m = demand(m, is_there, texts::NOT_KEPT);
-    take_frame(m)
-}
-
 // `words`.
 fn no_words(m: &mut Memory) -> &mut Memory {
-    let m = put(m, HAND, 0);
-    put(m, SOURCE, 2)
+    put(put(m, HAND, 0), OWN_WORDS, 1)
 }
 
 // A form that has no name: words that are repeated, or one word.
 fn plain_form(m: &mut Memory) -> &mut Memory {
-    if line::byte_at(m, scanner::start(m)) == 42 {
+    // *
+    if scanner::first(m) == 42 {
         return repeated(m);
     }
-    let m = scanner::keep_word(m);
-    append(m, NUMBER)
+    extend(scanner::keep_word(m), NUMBER, 1)
 }
 
-// A form by its name.
-fn named_form(m: &mut Memory, name: u64) -> &mut Memory {
+// A form that changes words, by its name.
+fn change(m: &mut Memory, name: u64) -> &mut Memory {
     match name {
-        FRAME => kept_frame(m),
         // words
         0x77_6f72_6473 => no_words(m),
         // word
@@ -226,7 +161,7 @@ fn named_form(m: &mut Memory, name: u64) -> &mut Memory {
         // cut
         0x63_7574 => cut(m),
         // sums
-        0x7375_6d73 => resealed(m),
+        0x7375_6d73 => sealed(shorten(m, 2)),
         // seal
         0x7365_616c => sealed(m),
         // same
@@ -239,12 +174,15 @@ fn named_form(m: &mut Memory, name: u64) -> &mut Memory {
 fn form(m: &mut Memory) -> &mut Memory {
     let m = scanner::next_word(m);
     let name = scanner::name(m);
-    let m = memory::raise(m, SOURCE, if name == FRAME { 0 } else { 1 });
-    named_form(m, name)
+    // frame
+    if name == 0x66_7261_6d65 {
+        return take_frame(frames::read_kept(m, TAKEN_FRAME));
+    }
+    change(memory::add(m, CHANGES, 1), name)
 }
 
 // The forms up to the end of the line.
-fn forms(m: &mut Memory) -> &mut Memory {
+pub fn read(m: &mut Memory) -> &mut Memory {
     for _turn in 0..65536usize {
         if !scanner::has_more(m) {
             break;
@@ -254,25 +192,12 @@ fn forms(m: &mut Memory) -> &mut Memory {
     m
 }
 
-// The words that a line writes from nothing.
-pub fn read_words(m: &mut Memory) -> &mut Memory {
-    let m = put(m, HAND, 0);
-    forms(m)
-}
-
 // Takes the latest frame, or no words where none was sent.
 pub fn take_latest(m: &mut Memory) -> &mut Memory {
     let sent = get(m, SENT);
+    let m = put(put(m, CHANGES, 0), OWN_WORDS, 0);
     if sent == 0 {
         return no_words(m);
     }
-    let m = put(m, SOURCE, 0);
-    let m = put(m, TAKEN_FRAME, sent - 1);
-    take_frame(m)
-}
-
-// The frame that a line writes: the latest with its changes.
-pub fn read_frame(m: &mut Memory) -> &mut Memory {
-    let m = take_latest(m);
-    forms(m)
+    take_frame(put(m, TAKEN_FRAME, sent - 1))
 }

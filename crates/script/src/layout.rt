@@ -1,5 +1,6 @@
 // Where everything stands in memory behind the terminal's words, and the registers that texts name.
 use terminal::Memory;
+use terminal::memory;
 use terminal::memory::get;
 use terminal::memory::on;
 
@@ -28,11 +29,15 @@ pub const LONGEST_TAKEN: usize = 77;
 
 pub const LONGEST_SENT: usize = 78;
 
-// Registers 1 to 4: whether the line writes a parameter. a to f: the operation at hand, as a record holds it: client, transaction and four
-// parameters. n: changed cells. o: other changed words. q: the question that refused a call, 0 for none. r: a number that a call
-// answers. s: the desk at hand. t and u: a frame taken and one sent. v: a visit. w: a number of words. x and y: two sums. z and {: the last
-// two of many words.
+// Registers 1 to 4: whether the line writes a parameter. U: how many forms changed the words of the line. V: whether these come from no
+// kept frame. a to f: the operation at hand, as a record holds it: client, transaction and four parameters. n: changed cells. o: other
+// changed words. q: the question that refused a call, 0 for none. r: a number that a call answers. s: the desk at hand. t and u: a frame
+// taken and one sent. v: a visit. w: a number of words. x and y: two sums. z and {: the last two of many words.
 pub const GIVEN: usize = 49;
+
+pub const CHANGES: usize = 85;
+
+pub const OWN_WORDS: usize = 86;
 
 pub const OPERATION: usize = 97;
 
@@ -67,18 +72,17 @@ pub const LAST_WORDS: usize = 122;
 // How many frames were sent.
 pub const SENT: usize = 16;
 
-// Where the words of the line come from: 0 a kept frame, 1 one that is changed, 2 the line alone.
-pub const SOURCE: usize = 17;
-
 // The text of a call's answer.
 pub const ANSWER: usize = 18;
 
-// Two numbers of the line, and whether it says `seed`.
+// Two numbers of the line, whether it says `seed`, and what it shows: 0 the plan, 1 a desk, 2 a frame.
 pub const FROM: usize = 19;
 
 pub const TO: usize = 20;
 
 pub const SEED: usize = 21;
+
+pub const SHOWN: usize = 22;
 
 // How many cells, records, outgoing words and reply words are lent, and the same as a line sets them.
 pub const LENT: usize = 24;
@@ -139,6 +143,12 @@ pub fn here(m: &Memory, words: usize) -> usize {
     on(on(DESKS, (get(m, DESK) % 8) as usize * DESK_SIZE), words)
 }
 
+// Copies words to the desk at hand, so many words on in it.
+pub fn to_desk(m: &mut Memory, from: usize, on: usize, words: usize) -> &mut Memory {
+    let place = here(m, on);
+    memory::copy(m, from, place, words)
+}
+
 // Whether the desk at hand is made.
 pub fn is_made(m: &Memory) -> bool {
     0 < get(m, here(m, STATE))
@@ -162,4 +172,9 @@ pub fn is_kept(m: &Memory, place: usize) -> bool {
         return false;
     }
     sent - k <= FRAMES_KEPT
+}
+
+// How many parts follow a word of a plan or a frame, which stands at a place: the steps of a transaction, the cells of an update.
+pub fn parts(m: &Memory, place: usize) -> u32 {
+    get(m, place) / 0x10_0000 % 16
 }

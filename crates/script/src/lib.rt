@@ -5,7 +5,7 @@
 //     sums          the two sums of words
 //     forms         words of plans and frames, as a script writes them
 //     words         words of frames, as answers write them
-//     answers       what a call answers: the question that refused it, or a text and a number
+//     answers       what a call answers: a text and a number; the text of a refusal is that of the question
 //     plans         the plan reader and the classifier; a plan in words
 //     operations    operations, as a script writes them
 //     desks         what a desk holds, by the new desk call or by hand
@@ -13,7 +13,7 @@
 //     changes       what a call changed of all that it was lent
 //     calls         the engine's request and visit, on what stands in memory
 //     frames        frames that were sent; the starting frame, the frame reader
-//     visits        the lines of requests and visits
+//     visits        the lines of requests and visits, and the token that goes on
 //     interpreter   commands, faults, counts, and the run of a script
 mod answers;
 mod calls;

@@ -1,25 +1,16 @@
 // How much is lent to a call.
-use crate::layout::LENT;
 use crate::layout::LENT_NEXT;
 use crate::texts;
 use terminal::Memory;
-use terminal::memory;
 use terminal::memory::on;
 use terminal::memory::put;
 use terminal::scanner;
 use terminal::scanner::number_to;
 
 // Sizes as the paper asks for them, from a place on.
-fn put_all(m: &mut Memory, place: usize) -> &mut Memory {
-    let m = put(m, place, 1024);
-    let m = put(m, on(place, 1), 32);
-    let m = put(m, on(place, 2), 6404);
-    put(m, on(place, 3), 96)
-}
-
-// All is lent that the paper asks for.
-pub fn lend_all(m: &mut Memory) -> &mut Memory {
-    put_all(m, LENT)
+pub fn put_all(m: &mut Memory, place: usize) -> &mut Memory {
+    let m = put(put(m, place, 1024), on(place, 1), 32);
+    put(put(m, on(place, 2), 6404), on(place, 3), 96)
 }
 
 // A size by its name.
@@ -39,7 +30,7 @@ fn read_size(m: &mut Memory) -> &mut Memory {
 }
 
 // The sizes up to the end of the line.
-fn read_sizes(m: &mut Memory) -> &mut Memory {
+pub fn read_sizes(m: &mut Memory) -> &mut Memory {
     for _turn in 0..65536usize {
         if !scanner::has_more(m) {
             break;
@@ -47,15 +38,4 @@ fn read_sizes(m: &mut Memory) -> &mut Memory {
         read_size(m);
     }
     m
-}
-
-// `lend book 1023`, as a line writes it.
-pub fn read(m: &mut Memory) -> &mut Memory {
-    let m = put_all(m, LENT_NEXT);
-    read_sizes(m)
-}
-
-// `lend book 1023`.
-pub fn lend(m: &mut Memory) -> &mut Memory {
-    memory::copy(m, LENT_NEXT, LENT, 4)
 }

@@ -5,7 +5,7 @@ use crate::layout::PARAMETERS;
 use crate::layout::TRANSACTION;
 use crate::texts;
 use terminal::Memory;
-use terminal::memory;
+use terminal::memory::fill;
 use terminal::memory::on;
 use terminal::memory::put;
 use terminal::scanner;
@@ -13,33 +13,26 @@ use terminal::scanner;
 // Parameter i, if the line has it.
 fn read_parameter(m: &mut Memory, i: usize) -> &mut Memory {
     if scanner::has_more(m) {
-        let m = scanner::number_to(m, on(PARAMETERS, i), scanner::WORD);
-        put(m, on(GIVEN, i), 1)
+        put(
+            scanner::number_to(m, on(PARAMETERS, i), scanner::WORD),
+            on(GIVEN, i),
+            1,
+        )
     } else {
         m
     }
 }
 
-// The parameters of the line, up to four.
-fn read_parameters(m: &mut Memory) -> &mut Memory {
-    let m = memory::fill(m, GIVEN, 4, 0);
-    let m = memory::fill(m, PARAMETERS, 4, 0);
-    let m = read_parameter(m, 0);
-    let m = read_parameter(m, 1);
-    let m = read_parameter(m, 2);
-    read_parameter(m, 3)
-}
-
-// An operation goes to its registers.
+// An operation goes to its registers, with up to four parameters.
 pub fn read(m: &mut Memory) -> &mut Memory {
-    let m = scanner::transaction_to(m, TRANSACTION);
-    read_parameters(m)
+    let m = fill(fill(m, GIVEN, 3, 0), PARAMETERS, 3, 0);
+    let m = read_parameter(scanner::transaction_to(m, TRANSACTION), 0);
+    read_parameter(read_parameter(read_parameter(m, 1), 2), 3)
 }
 
 // An operation of a client goes to its registers.
 pub fn read_of_client(m: &mut Memory) -> &mut Memory {
     // client
     let m = scanner::expect(m, 0x636c_6965_6e74, texts::NO_CLIENT);
-    let m = scanner::number_to(m, CLIENT, scanner::WORD);
-    read(m)
+    read(scanner::number_to(m, CLIENT, scanner::WORD))
 }

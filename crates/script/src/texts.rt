@@ -1,7 +1,6 @@
-// All that the interpreter says, by number. `terminal::output` tells how a text names registers, and layout which those are. The
-// texts of faults come first, as terminal::scanner numbers them. A question's text stands as many places behind QUESTIONS as its number,
-// a list of parameters as many behind PARAMETER_LISTS as they are, a source's behind SOURCES, and what became of a request behind DONE. Of
-// a step of kind k the text with a fixed row or number stands 2 k places behind STEPS, and that with a parameter one further.
+// All that the interpreter says, by number. `terminal::output` tells how a text names registers, and layout which those are. The texts of
+// faults come first, as terminal::scanner numbers them. A question's text stands as many places behind QUESTIONS as its number, and what
+// became of a request behind DONE.
 use terminal::Memory;
 use terminal::output;
 
@@ -39,99 +38,85 @@ pub const ANSWER_COUNTS: u32 = 36;
 
 pub const LINE_END: u32 = 37;
 
-pub const ACCEPTED: u32 = 38;
+pub const VERDICT: u32 = 38;
 
-pub const PLAN_OF: u32 = 39;
+pub const OPERATION: u32 = 39;
 
-pub const OPERATION: u32 = 40;
+pub const FREE: u32 = 40;
 
-pub const FREE: u32 = 41;
+pub const LOCAL: u32 = 41;
 
-pub const LOCAL: u32 = 42;
+pub const GLOBAL: u32 = 42;
 
-pub const GLOBAL: u32 = 43;
+pub const TRANSACTION: u32 = 43;
 
-pub const TRANSACTION: u32 = 44;
+pub const STEP: u32 = 44;
 
-pub const PARAMETER_LISTS: u32 = 45;
+pub const DESK: u32 = 45;
 
-pub const NO_PARTITION: u32 = 50;
+pub const STATE: u32 = 46;
 
-pub const PARTITION: u32 = 51;
+pub const SHOWN_RECORD: u32 = 47;
 
-pub const FIRST_STEP: u32 = 52;
+pub const SHOWN_CELL: u32 = 48;
 
-pub const NEXT_STEP: u32 = 53;
+pub const REQUEST: u32 = 49;
 
-pub const STEPS: u32 = 48;
+pub const DONE: u32 = 50;
 
-pub const DESK: u32 = 66;
+pub const DECLINED: u32 = 51;
 
-pub const STATE: u32 = 67;
+pub const WAITS: u32 = 52;
 
-pub const SHOWN_RECORD: u32 = 68;
+pub const ELSEWHERE: u32 = 53;
 
-pub const SHOWN_CELL: u32 = 69;
+pub const CHANGED_CELL: u32 = 54;
 
-pub const REQUEST: u32 = 70;
+pub const CHANGED_CELLS: u32 = 55;
 
-pub const DONE: u32 = 71;
+pub const CHANGED_RECORD: u32 = 56;
 
-pub const CHANGED_CELL: u32 = 75;
+pub const CHANGED_STATE: u32 = 57;
 
-pub const CHANGED_CELLS: u32 = 76;
+pub const OTHER_WORDS: u32 = 58;
 
-pub const CHANGED_RECORD: u32 = 77;
+pub const CHANGED: u32 = 59;
 
-pub const CHANGED_STATE: u32 = 78;
+pub const CHANGED_START: u32 = 60;
 
-pub const OTHER_WORDS: u32 = 79;
+pub const CHANGED_PART: u32 = 61;
 
-pub const CHANGED: u32 = 80;
+pub const WORDS: u32 = 62;
 
-pub const CHANGED_PART: u32 = 81;
+pub const SUMS: u32 = 63;
 
-pub const SOURCES: u32 = 82;
+pub const WORD: u32 = 64;
 
-pub const WORDS: u32 = 85;
+pub const START: u32 = 65;
 
-pub const SUMS: u32 = 86;
+pub const START_SENDS: u32 = 66;
 
-pub const COLON: u32 = 87;
+pub const VISIT_SENDS: u32 = 67;
 
-pub const WORD: u32 = 88;
+pub const READ: u32 = 68;
 
-pub const START: u32 = 89;
+pub const PART: u32 = 69;
 
-pub const START_SENDS: u32 = 90;
+pub const VISIT: u32 = 70;
 
-pub const VISIT_SENDS: u32 = 91;
+pub const REPLIES: u32 = 71;
 
-pub const READ: u32 = 92;
+pub const REPLY: u32 = 72;
 
-pub const PART: u32 = 93;
+pub const SHOWN_FRAME: u32 = 73;
 
-pub const VISIT: u32 = 94;
+pub const SHOWN_UPDATE: u32 = 74;
 
-pub const VISIT_REFUSED: u32 = 95;
+pub const UPDATED_CELL: u32 = 75;
 
-pub const REPLIES: u32 = 96;
+pub const REFUSED: u32 = 76;
 
-pub const ONE_REPLY: u32 = 97;
-
-pub const REPLY_DONE: u32 = 98;
-
-pub const REPLY_DECLINED: u32 = 99;
-
-pub const REPLY_OTHER: u32 = 100;
-
-pub const SHOWN_FRAME: u32 = 101;
-
-pub const SHOWN_UPDATE: u32 = 102;
-
-pub const UPDATED_CELL: u32 = 103;
-
-const TEXTS: [u8; 2789] = *b"\
+const TEXTS: [u8; 2681] = *b"\
 @\
 no such command\n@\
 a number from 0 to &S is expected\n@\
@@ -149,58 +134,38 @@ more than 6420 words\n@\
 plan, desk or frame is expected\n@\
 book, row, out or replies is expected\n@\
 @\
-: refused 1: no head of kind 1 with the count of the words, 1 to 417\n@\
-: refused 2: desks or transactions out of range\n@\
-: refused 3: a word out of place or range, or a bit that must be zero\n@\
-: refused 4: a parameter that the transaction does not have\n@\
-: refused 5: a buffer of the wrong size\n@\
-: refused 6: a state or a waiting record that does not fit this desk\n@\
-: refused 7: no such transaction\n@\
-: refused 8: a row above 31 or an unused parameter that is not zero\n@\
-: refused 9: 32 wait already\n@\
-: refused 10: no frame of 4 to 6404 words with its head and its count\n@\
-: refused 11: a sum is wrong\n@\
-: refused 12: a wrong desk addressed, or updates that are not well formed\n@\
-: refused 13: addressed to another desk\n@\
-: refused 14: not the visit that this desk awaits\n@\
-: refused 15: the last visit number\n@\
+no head of kind 1 with the count of the words, 1 to 417\n@\
+desks or transactions out of range\n@\
+a word out of place or range, or a bit that must be zero\n@\
+a parameter that the transaction does not have\n@\
+a buffer of the wrong size\n@\
+a state or a waiting record that does not fit this desk\n@\
+no such transaction\n@\
+a row above 31 or an unused parameter that is not zero\n@\
+32 wait already\n@\
+no frame of 4 to 6404 words with its head and its count\n@\
+a sum is wrong\n@\
+a wrong desk addressed, or updates that are not well formed\n@\
+addressed to another desk\n@\
+not the visit that this desk awaits\n@\
+the last visit number\n@\
 line %Q, word %R: @\
 line %Q: longer than 65536 bytes\n@\
 lines %O, bad %P\ncalls %A, refused %B, changed by a refusal %C\n@\
-?p?hrefused %p: %h\n}}@\
+?p?hrefused %p: %h\n}@\
 requests %D: done %E, declined %F, waiting %G, elsewhere %H\n\
 visits %I: replies %J, several replies %K, changed frames %L, longest frame taken %M, longest frame sent %N\n@\
 \n@\
-plan: accepted, ^hye desk~, ^hqi transaction~, %w word~\n@\
-plan of %w word~@\
+{qplan: accepted, $hYE desk~s}{q, $hQI transaction~s}{q, %w word~s}{q\n}?qplan of %w word~s}@\
 T%b(?1%c}?2, %d}?3, %e}?4, %f})@\
 : free\n@\
 : local at desk %r\n@\
 : global at desk %r\n@\
-\x20\x20T%p(@\
-@\
-p0@\
-p0, p1@\
-p0, p1, p2@\
-p0, p1, p2, p3@\
-)@\
-) by p^hqe@\
-: @\
-; @\
-read table ^hzd column ^hxc row ^haf@\
-read table ^hzd column ^hxc row p^hud@\
-write table ^hzd column ^hxc row ^haf@\
-write table ^hzd column ^hxc row p^hud@\
-set ^haz@\
-set p^hzd@\
-add ^haz@\
-add p^hzd@\
-need ^haz@\
-need p^hzd@\
-take ^haz@\
-take p^hzd@\
+\x20\x20T%p(>hYEBp0}>hYEC, p1}>hYED, p2}>hYEE, p3})<hQEP by p$hQE}@\
+{p: }?p; }<h]EEread}>h]EE<h]EFwrite}>h]EF<h]EGset}>h]EG<h]EHadd}>h]EH<h]EIneed}>h]EItake}\
+<h]EF table $hZD column $hXC row }>h]EF }<h]EF>hUDE$hAF}<h]EF<hUDEp$hUD}>h]EF>hZDE$hAZ}>h]EF<hZDEp$hZD}@\
 desk %s@\
-desk %s: %j waiting, awaits visit &k=is, as desk %i}\n@\
+desk %s: %j waiting, awaits visit &k|is, as desk %i}\n@\
 \x20\x20record %p: client %h T%i(%j, %k, %l, %m)\n@\
 ?h\x20\x20cell %p is %h\n}@\
 desk %s: T%b(?1%c}?2, %d}?3, %e}?4, %f}) of client %a@\
@@ -211,32 +176,26 @@ desk %s: T%b(?1%c}?2, %d}?3, %e}?4, %f}) of client %a@\
 ; cell %p is now %h@\
 ; %n cells changed, sums #x #y@\
 ; record %p is now client %h T%i(%j, %k, %l, %m)@\
-; %j waiting, awaits visit &k=is, as desk %i}@\
-?o; %o other word~ changed}\n@\
-CHANGED@\
-CHANGED: part of %w word~\n@\
-frame %t@\
-frame %t, changed@\
-words@\
-\x20of %w word~@\
+; %j waiting, awaits visit &k|is, as desk %i}@\
+?o; %o other word~s}?o changed}\n@\
+?qCHANGED}@\
+?oCHANGED; %o other word~s}?o changed\n}@\
+?wCHANGED: part of %w word~s}?w\n}@\
+\x20of %w word~s}?w<wAQR:}@\
 , sums #x #y, then #z #{@\
-?w:}@\
 \x20#h@\
 start@\
 : sends frame %u@\
 ; sends frame %u@\
-read @\
+read {Vframe %t}{V?U, changed}?Vwords}@\
 : visit %r, part@\
-desk %s: visit %v by @\
-desk %s: visit by @\
-: %r replies@\
-: 1 reply@\
-, client %i done, %j@\
-, client %i declined, %j@\
-, client %i word #h, %j@\
-frame %u: %h word~, visit %j to desk ^iye\n@\
-\x20\x20update of desk ^hye:!w no cells}@\
-?p,} cell ^hak is %i@";
+desk %s: visit {q%v }by {Vframe %t}{V?U, changed}?Vwords}@\
+: %r repl=y}~ies}@\
+, client %i >h_CD<hB^B>hABBdone}>h_CD<hB^B<hABBdeclined}<h_CDword #h}>h_CD>hB^Bword #h}, %j@\
+frame %u: %h word~s}, visit %j to desk $iYE\n@\
+\x20\x20update of desk $hYE:<hUEB no cells}@\
+?p,} cell $hAK is %i@\
+?q: refused %q: }@";
 
 // Installs the texts.
 pub fn install(m: &mut Memory) -> &mut Memory {

@@ -8,12 +8,14 @@ use crate::memory::LINE_SIZE;
 use crate::memory::LINES;
 use crate::memory::Memory;
 use crate::memory::get;
+use crate::memory::narrow;
+use crate::memory::on;
 use crate::memory::put;
 
 // Byte i of the line, 0 past its end.
 pub fn byte_at(m: &Memory, i: usize) -> u32 {
     if i < length(m) {
-        get(m, memory::on(LINE, i))
+        get(m, on(LINE, i))
     } else {
         0
     }
@@ -24,65 +26,44 @@ pub fn length(m: &Memory) -> usize {
     get(m, LINE_LENGTH) as usize
 }
 
-// Whether the line has more bytes than there is room for.
-pub fn is_too_long(m: &Memory) -> bool {
-    LINE_SIZE < length(m)
-}
-
-// Where the next byte goes: in a line that is too long it takes the place of the last one.
-fn end(m: &Memory) -> usize {
+// One byte more; in a line that is too long it takes the place of the last one.
+pub fn append(m: &mut Memory, byte: u32) -> &mut Memory {
     let length = length(m);
-    if length < LINE_SIZE {
+    let at = if length < LINE_SIZE {
         length
     } else {
         LINE_SIZE
-    }
+    };
+    put(put(m, on(LINE, at), byte), LINE_LENGTH, narrow(on(at, 1)))
 }
 
-// One byte more.
-pub fn append(m: &mut Memory, byte: u32) -> &mut Memory {
-    let at = end(m);
-    let m = put(m, memory::on(LINE, at), byte);
-    put(m, LINE_LENGTH, memory::narrow(memory::on(at, 1)))
-}
-
-// The place of the last byte.
+// The place of the last byte, or of the 0 before the line.
 fn last(m: &Memory) -> usize {
-    std::num::wrapping_sub_usize(length(m), 1)
+    on(LINE - 1, length(m))
 }
 
 // Whether the last byte says that the line goes on.
 pub fn goes_on(m: &Memory) -> bool {
-    byte_at(m, last(m)) == 92
+    get(m, last(m)) == 92
 }
 
 // The line goes on; its last byte is a space then.
 pub fn join(m: &mut Memory) -> &mut Memory {
     let at = last(m);
-    let m = put(m, memory::on(LINE, at), 32);
-    memory::copy(m, LINE_LENGTH, LINE_JOINED, 1)
+    memory::copy(put(m, at, 32), LINE_LENGTH, LINE_JOINED, 1)
 }
 
-// An empty line.
+// An empty line, whose number is the next one.
 pub fn clear(m: &mut Memory) -> &mut Memory {
-    let m = memory::fill(m, LINE_LENGTH, 6, 0);
-    put(m, LINE_NUMBER, 0)
+    let m = memory::fill(m, LINE_LENGTH, 5, 0);
+    memory::add(memory::copy(m, LINES, LINE_NUMBER, 1), LINE_NUMBER, 1)
 }
 
-// The number of the line at hand, or of the one that begins now where it is its first.
-fn first_number(m: &Memory) -> u32 {
-    let number = get(m, LINE_NUMBER);
-    if number == 0 { get(m, LINES) } else { number }
-}
-
-// Counts a line that begins, and notes the number of the line at hand.
-pub fn begin(m: &mut Memory) -> &mut Memory {
-    let m = memory::add(m, LINES, 1);
-    let number = first_number(m);
-    put(m, LINE_NUMBER, number)
-}
-
-// Whether there is a last line that no line feed ends.
-pub fn is_open(m: &Memory) -> bool {
-    (get(m, LINE_JOINED) as usize) < length(m)
+// 1 where there is a last line that no line feed ends, else 0.
+pub fn open_lines(m: &Memory) -> u32 {
+    if (get(m, LINE_JOINED) as usize) < length(m) {
+        1
+    } else {
+        0
+    }
 }

@@ -21,9 +21,13 @@ pub const TEXTS: usize = 1024;
 
 pub const TEXT_PLACES: usize = 256;
 
-// The line at hand, one byte a word. From its length to its fault all is 0 where a line begins: its length, its length when it was last
-// joined to the next, where the word at hand begins and where it ends, its number, and the text of the line's first fault, 0 for none.
-pub const LINE: usize = 20480;
+// How many texts were begun behind the first.
+pub const TEXTS_BEGUN: usize = 13;
+
+// The line at hand, one byte a word, behind a word that is 0. From its length to its fault all is 0 where a line begins: its length, its
+// length when it was last joined to the next, where the word at hand begins and where it ends, its number, and the text of the line's first
+// fault, 0 for none.
+pub const LINE: usize = 20481;
 
 pub const LINE_SIZE: usize = 65536;
 
@@ -41,6 +45,9 @@ pub const FAULT: usize = 8;
 
 // The number that was read last, low and high.
 pub const NUMBER: usize = 9;
+
+// The largest number that is expected, low and high.
+pub const BOUND: usize = 11;
 
 // Registers O and P: how many lines were begun, and how many were bad. Q: the number of the first line of the line at hand. R: the word
 // at fault. S and T: the largest number that was expected there, low and high.
@@ -75,27 +82,28 @@ pub fn put(m: &mut Memory, place: usize, word: u32) -> &mut Memory {
     m
 }
 
-// The sum of what stands at a place and a number.
-fn sum(m: &Memory, place: usize, number: u32) -> u32 {
-    std::num::wrapping_add_u32(get(m, place), number)
-}
-
 // Adds a number to what stands at a place.
 pub fn add(m: &mut Memory, place: usize, number: u32) -> &mut Memory {
-    let word = sum(m, place, number);
+    let word = std::num::wrapping_add_u32(get(m, place), number);
     put(m, place, word)
 }
 
-// The larger of what stands at a place and a number.
-fn larger(m: &Memory, place: usize, number: u32) -> u32 {
-    let word = get(m, place);
-    if word < number { number } else { word }
+// Raises what stands at a place to what stands at another, if it is less.
+pub fn raise(m: &mut Memory, place: usize, from: usize) -> &mut Memory {
+    if get(m, place) < get(m, from) {
+        copy(m, from, place, 1)
+    } else {
+        m
+    }
 }
 
-// Raises what stands at a place to a number, if it is less.
-pub fn raise(m: &mut Memory, place: usize, number: u32) -> &mut Memory {
-    let word = larger(m, place, number);
-    put(m, place, word)
+// Adds 1 to what stands at a place, if what stands at another is above a word.
+pub fn count_above(m: &mut Memory, place: usize, other: usize, word: u32) -> &mut Memory {
+    if word < get(m, other) {
+        add(m, place, 1)
+    } else {
+        m
+    }
 }
 
 // The place so many words on.
@@ -113,43 +121,43 @@ pub fn low(n: u64) -> u32 {
     (n % 0x1_0000_0000) as u32
 }
 
+// The high word of a number.
+pub fn high(n: u64) -> u32 {
+    (n / 0x1_0000_0000) as u32
+}
+
+// The number of a low and a high word.
+pub fn wide(low: u32, high: u32) -> u64 {
+    high as u64 * 0x1_0000_0000 + low as u64
+}
+
 // The number whose low word stands at a place and whose high word behind it.
 pub fn get_wide(m: &Memory, place: usize) -> u64 {
-    get(m, on(place, 1)) as u64 * 0x1_0000_0000 + get(m, place) as u64
+    wide(get(m, place), get(m, on(place, 1)))
 }
 
 // Stores a number in two words.
 pub fn put_wide(m: &mut Memory, place: usize, n: u64) -> &mut Memory {
-    let m = put(m, place, low(n));
-    put(m, on(place, 1), (n / 0x1_0000_0000) as u32)
+    put(put(m, place, low(n)), on(place, 1), high(n))
 }
 
-// So many words from a place on hold this word.
-pub fn fill(m: &mut Memory, place: usize, words: usize, word: u32) -> &mut Memory {
-    for i in 0..words {
-        put(m, on(place, i), word);
-    }
-    m
-}
-
-// Copies one word.
-fn copy_word(m: &mut Memory, from: usize, to: usize) -> &mut Memory {
-    let word = get(m, from);
-    put(m, to, word)
-}
-
-// Copies words.
+// Copies words, the first first.
 pub fn copy(m: &mut Memory, from: usize, to: usize, words: usize) -> &mut Memory {
     for i in 0..words {
-        copy_word(m, on(from, i), on(to, i));
+        put(m, on(to, i), get(m, on(from, i)));
     }
     m
+}
+
+// A place and so many more behind it hold this word.
+pub fn fill(m: &mut Memory, place: usize, more: usize, word: u32) -> &mut Memory {
+    copy(put(m, place, word), place, on(place, 1), more)
 }
 
 // Copies a number of words and as many words behind it.
 pub fn copy_counted(m: &mut Memory, from: usize, to: usize) -> &mut Memory {
-    let words = get(m, from) as usize;
-    copy(m, from, to, on(words, 1))
+    let words = on(get(m, from) as usize, 1);
+    copy(m, from, to, words)
 }
 
 // How many of so many words from one place on are not those from another on.
@@ -175,5 +183,6 @@ pub fn part(m: &[u32], from: usize, to: usize) -> &[u32] {
 
 // The words whose number stands at a place, and they behind it.
 pub fn counted(m: &Memory, place: usize) -> &[u32] {
-    part(m, on(place, 1), on(on(place, 1), get(m, place) as usize))
+    let from = on(place, 1);
+    part(m, from, on(from, get(m, place) as usize))
 }

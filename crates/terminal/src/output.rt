@@ -3,12 +3,18 @@
 //     %r     the word of register r in decimal
 //     #r     the same in hexadecimal
 //     &r     the number of two registers, r the lower
-//     ^rbw   of the word of register r the field from bit b on, w bits wide; letters count from a, which is 0
-//     ~      an s, unless the number that was written last is 1
-//     ?r     what follows up to } is left out where register r is 0
-//     !r     the same where it is not
-//     =rs    the same where registers r and s are equal
+//     $rbw   of the word of register r the field from bit b on, w bits wide; letters count from A, which is 0
 //     @      the end
+//
+// What follows one of these up to } is said on a condition:
+//
+//     ?r     the word of register r is not 0
+//     {r     it is 0
+//     |rs    the words of registers r and s are not the same
+//     <rbwn  the field $rbw is below n, a letter too
+//     >rbwn  it is not
+//     =      the number that was written last is 1
+//     ~      it is not
 use crate::memory;
 use crate::memory::INDEX;
 use crate::memory::ITEM;
@@ -19,16 +25,12 @@ use crate::memory::OUTPUT_SIZE;
 use crate::memory::QUIET;
 use crate::memory::TEXT_PLACES;
 use crate::memory::TEXTS;
+use crate::memory::TEXTS_BEGUN;
 use crate::memory::WRITTEN;
 use crate::memory::get;
 use crate::memory::narrow;
 use crate::memory::on;
 use crate::memory::put;
-
-// The first so many bytes, or all where there are less.
-fn front(bytes: &[u8], n: usize) -> &[u8] {
-    if n <= bytes.len() { &bytes[..n] } else { bytes }
-}
 
 // The text that is kept, as bytes.
 fn kept(m: &Memory) -> [u8; 16384] {
@@ -42,7 +44,8 @@ fn kept(m: &Memory) -> [u8; 16384] {
 // Writes the text that is kept.
 fn write_kept(m: &Memory) {
     let block = kept(m);
-    io::write_all(1, front(&block, get(m, OUTPUT_LENGTH) as usize));
+    let length = (get(m, OUTPUT_LENGTH) % 16385) as usize;
+    io::write_all(1, &block[..length]);
 }
 
 // Writes the text that is kept; none is kept then.
@@ -54,8 +57,7 @@ pub fn flush(m: &mut Memory) -> &mut Memory {
 // One byte of text.
 pub fn byte(m: &mut Memory, byte: u32) -> &mut Memory {
     let end = get(m, OUTPUT_LENGTH) as usize;
-    let m = put(m, on(OUTPUT, end), byte);
-    let m = put(m, OUTPUT_LENGTH, narrow(on(end, 1)));
+    let m = memory::add(put(m, on(OUTPUT, end), byte), OUTPUT_LENGTH, 1);
     if OUTPUT_SIZE <= on(end, 1) {
         flush(m)
     } else {
@@ -64,14 +66,14 @@ pub fn byte(m: &mut Memory, byte: u32) -> &mut Memory {
 }
 
 // A byte as a word.
-fn wide(byte: u8) -> u32 {
+fn word_of(byte: u8) -> u32 {
     byte as u32
 }
 
 // Bytes.
 fn bytes<'a>(m: &'a mut Memory, bytes: &[u8]) -> &'a mut Memory {
     for i in 0..bytes.len() {
-        byte(m, wide(bytes[i]));
+        byte(m, word_of(bytes[i]));
     }
     m
 }
@@ -80,8 +82,7 @@ fn bytes<'a>(m: &'a mut Memory, bytes: &[u8]) -> &'a mut Memory {
 fn decimal(m: &mut Memory, n: u64) -> &mut Memory {
     let mut digits = [0u8; 20];
     let length = io::decimal(n, &mut digits);
-    let m = put(m, WRITTEN, memory::low(n));
-    bytes(m, &digits[..length])
+    bytes(put(m, WRITTEN, memory::low(n)), &digits[..length])
 }
 
 // The digit of four bits.
@@ -98,36 +99,28 @@ fn hexadecimal(m: &mut Memory, word: u32) -> &mut Memory {
     m
 }
 
-// The ending of a word after a count.
-fn ending(m: &mut Memory) -> &mut Memory {
-    if get(m, WRITTEN) == 1 {
-        m
-    } else {
-        byte(m, 115)
-    }
-}
-
-// A field of a word, by its letters.
-fn field(word: u32, from: u32, width: u32) -> u32 {
-    let low = std::num::wrapping_sub_u32(from, 97) % 32;
-    let size = std::num::wrapping_sub_u32(width, 97) % 32;
-    (word >> low) & std::num::wrapping_sub_u32(1 << size, 1)
-}
-
 // The word of the register that a text names at a place.
 fn named(m: &Memory, place: usize) -> u32 {
     get(m, get(m, place) as usize)
+}
+
+// What a letter at a place of a text counts.
+fn letter(m: &Memory, place: usize) -> u32 {
+    std::num::wrapping_sub_u32(get(m, place), 65)
+}
+
+// The field of a word that a text names from a place on.
+fn field(m: &Memory, place: usize) -> u32 {
+    let low = letter(m, on(place, 1)) % 32;
+    let width = letter(m, on(place, 2)) % 32;
+    (named(m, place) >> low) & std::num::wrapping_sub_u32(1 << width, 1)
 }
 
 // The number that a text names at a place.
 fn number(m: &Memory, place: usize) -> u64 {
     match get(m, place) {
         38 => memory::get_wide(m, get(m, on(place, 1)) as usize),
-        94 => field(
-            named(m, on(place, 1)),
-            get(m, on(place, 2)),
-            get(m, on(place, 3)),
-        ) as u64,
+        36 => field(m, on(place, 1)) as u64,
         _ => named(m, on(place, 1)) as u64,
     }
 }
@@ -138,10 +131,38 @@ fn write_item(m: &mut Memory, place: usize) -> &mut Memory {
     let number = number(m, place);
     match letter {
         35 => hexadecimal(m, memory::low(number)),
-        37 | 38 | 94 => decimal(m, number),
-        126 => ending(m),
-        33 | 61 | 63 | 125 => m,
+        36..=38 => decimal(m, number),
+        60..=64 | 123..=126 => m,
         _ => byte(m, letter),
+    }
+}
+
+// Whether what stands behind a place of a text is said.
+fn is_said(m: &Memory, place: usize) -> bool {
+    let word = named(m, on(place, 1));
+    let field = field(m, on(place, 1));
+    let bound = letter(m, on(place, 4));
+    let written = get(m, WRITTEN);
+    match get(m, place) {
+        60 => field < bound,
+        61 => written == 1,
+        62 => bound <= field,
+        63 => 0 < word,
+        123 => word == 0,
+        124 => word != named(m, on(place, 2)),
+        126 => written != 1,
+        _ => true,
+    }
+}
+
+// How many bytes of a text belong to this one.
+fn item_size(letter: u32) -> usize {
+    match letter {
+        35 | 37 | 38 | 63 | 123 => 2,
+        124 => 3,
+        36 => 4,
+        60 | 62 => 5,
+        _ => 1,
     }
 }
 
@@ -155,40 +176,22 @@ fn closing(m: &Memory, from: usize) -> usize {
     TEXTS
 }
 
-// Whether what stands behind a place of a text is left out.
-fn is_left_out(m: &Memory, place: usize) -> bool {
-    let word = named(m, on(place, 1));
-    match get(m, place) {
-        33 => 0 < word,
-        61 => word == named(m, on(place, 2)),
-        63 => word == 0,
-        _ => false,
-    }
-}
-
-// How many bytes of a text belong to this one.
-fn item_size(letter: u32) -> usize {
-    match letter {
-        33 | 35 | 37 | 38 | 63 => 2,
-        61 => 3,
-        94 => 4,
-        _ => 1,
-    }
-}
-
-// Where the text goes on.
+// Where a text goes on; 0 behind its end.
 fn next(m: &Memory, place: usize) -> usize {
-    if is_left_out(m, place) {
-        closing(m, place)
-    } else {
+    if get(m, place) == 64 {
+        return 0;
+    }
+    if is_said(m, place) {
         on(place, item_size(get(m, place)))
+    } else {
+        closing(m, place)
     }
 }
 
-// Where a text begins. The first text is empty.
+// Where a text begins; 0 for one that is not said, as the first one, which is empty.
 fn beginning(m: &Memory, text: u32) -> usize {
     if 0 < get(m, QUIET) {
-        TEXTS
+        0
     } else {
         get(m, on(TEXT_PLACES, text as usize)) as usize
     }
@@ -198,7 +201,7 @@ fn beginning(m: &Memory, text: u32) -> usize {
 pub fn say(m: &mut Memory, text: u32) -> &mut Memory {
     let mut place = beginning(m, text);
     for _turn in 0..4096usize {
-        if get(m, place) == 64 {
+        if place == 0 {
             break;
         }
         write_item(m, place);
@@ -209,9 +212,10 @@ pub fn say(m: &mut Memory, text: u32) -> &mut Memory {
 
 // A text of item i, whose words stand at a place.
 fn say_item(m: &mut Memory, text: u32, i: usize, place: usize, size: usize) -> &mut Memory {
-    let m = put(m, INDEX, narrow(i));
-    let m = memory::copy(m, place, ITEM, size);
-    say(m, text)
+    say(
+        memory::copy(put(m, INDEX, narrow(i)), place, ITEM, size),
+        text,
+    )
 }
 
 // A text of each of so many items from a place on.
@@ -259,28 +263,21 @@ pub fn say_changes(
     m
 }
 
-// Puts a byte of the texts in its place.
-fn install_byte(m: &mut Memory, i: usize, byte: u32) -> &mut Memory {
-    put(m, on(TEXTS, i), byte)
-}
-
-// Notes that a text begins behind byte i, if that ends one; how many texts have begun.
-fn note_text(m: &mut Memory, i: usize, text: usize) -> usize {
-    if get(m, on(TEXTS, i)) == 64 {
-        put(m, on(TEXT_PLACES, on(text, 1)), narrow(on(on(TEXTS, i), 1)));
-        on(text, 1)
-    } else {
-        text
+// Puts a byte of the texts in its place; behind the end of one the next begins.
+fn install_byte(m: &mut Memory, place: usize, byte: u32) -> &mut Memory {
+    let m = put(m, place, byte);
+    if byte != 64 {
+        return m;
     }
+    let m = memory::add(m, TEXTS_BEGUN, 1);
+    let entry = on(TEXT_PLACES, get(m, TEXTS_BEGUN) as usize);
+    put(m, entry, narrow(on(place, 1)))
 }
 
-// Installs the texts, which are numbered from 0.
+// Installs the texts, which are numbered from 0; the first is empty.
 pub fn install<'a>(m: &'a mut Memory, texts: &[u8]) -> &'a mut Memory {
-    put(m, TEXT_PLACES, narrow(TEXTS));
-    let mut text: usize = 0;
     for i in 0..texts.len() {
-        install_byte(m, i, wide(texts[i]));
-        text = note_text(m, i, text);
+        install_byte(m, on(TEXTS, i), word_of(texts[i]));
     }
     m
 }

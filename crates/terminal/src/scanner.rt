@@ -1,6 +1,8 @@
 // The words of a line, from left to right. Each function that expects something notes a fault if it is not there; the first is kept.
-use crate::line;
+use crate::line::byte_at;
+use crate::line::length;
 use crate::memory;
+use crate::memory::BOUND;
 use crate::memory::FAULT;
 use crate::memory::FAULT_WORD;
 use crate::memory::MOST;
@@ -9,10 +11,12 @@ use crate::memory::NUMBER;
 use crate::memory::WORD_END;
 use crate::memory::WORD_NUMBER;
 use crate::memory::WORD_START;
+use crate::memory::copy;
 use crate::memory::get;
 use crate::memory::narrow;
 use crate::memory::on;
 use crate::memory::put;
+use crate::memory::put_wide;
 
 // What can be wrong: the numbers of texts.
 pub const NO_COMMAND: u32 = 1;
@@ -28,22 +32,20 @@ pub const TOO_MUCH: u32 = 5;
 // The largest word.
 pub const WORD: u64 = 0xffff_ffff;
 
-// A number, if it is good.
-pub struct Parsed {
-    pub good: bool,
-    pub value: u64,
-}
-
 // Whether the line had no fault.
 pub fn is_good(m: &Memory) -> bool {
     get(m, FAULT) == 0
 }
 
-// Notes a fault at the word at hand.
+// Notes a fault at the word at hand, and the largest number that is expected there.
 pub fn fault(m: &mut Memory, text: u32) -> &mut Memory {
     if is_good(m) {
-        let m = put(m, FAULT, text);
-        memory::copy(m, WORD_NUMBER, FAULT_WORD, 1)
+        copy(
+            copy(put(m, FAULT, text), WORD_NUMBER, FAULT_WORD, 1),
+            BOUND,
+            MOST,
+            2,
+        )
     } else {
         m
     }
@@ -54,34 +56,14 @@ pub fn demand(m: &mut Memory, holds: bool, text: u32) -> &mut Memory {
     if holds { m } else { fault(m, text) }
 }
 
-// Notes that a number up to a bound is missing.
-pub fn fault_number(m: &mut Memory, most: u64) -> &mut Memory {
-    if is_good(m) {
-        let m = memory::put_wide(m, MOST, most);
-        fault(m, NO_NUMBER)
-    } else {
-        m
-    }
-}
-
-// The first place from here on with a byte of a word, or the end of the line.
-fn word_start(m: &Memory, from: usize) -> usize {
-    for i in from..line::length(m) {
-        if line::byte_at(m, i) > 32 {
+// The first place from here on with a byte of a word, or with none, or the end of the line.
+fn find(m: &Memory, from: usize, is_in_word: bool) -> usize {
+    for i in from..length(m) {
+        if (32 < byte_at(m, i)) == is_in_word {
             return i;
         }
     }
-    line::length(m)
-}
-
-// The first place from here on with no byte of a word, or the end of the line.
-fn word_end(m: &Memory, from: usize) -> usize {
-    for i in from..line::length(m) {
-        if line::byte_at(m, i) <= 32 {
-            return i;
-        }
-    }
-    line::length(m)
+    length(m)
 }
 
 // Where the word at hand begins.
@@ -94,47 +76,38 @@ pub fn end(m: &Memory) -> usize {
     get(m, WORD_END) as usize
 }
 
+// The first byte of the word at hand, 0 of an empty one.
+pub fn first(m: &Memory) -> u32 {
+    byte_at(m, start(m))
+}
+
 // Where the next word begins; the end of the line where none does, or a comment.
 fn next_start(m: &Memory) -> usize {
-    let start = word_start(m, end(m));
-    if line::byte_at(m, start) == 35 {
-        return line::length(m);
+    let start = find(m, end(m), true);
+    if byte_at(m, start) == 35 {
+        return length(m);
     }
     start
 }
 
 // Whether there is another word.
 pub fn has_more(m: &Memory) -> bool {
-    next_start(m) < line::length(m)
+    next_start(m) < length(m)
 }
 
 // The next word is at hand, empty where there is none.
 pub fn next_word(m: &mut Memory) -> &mut Memory {
     let start = next_start(m);
-    let end = word_end(m, start);
-    let m = put(m, WORD_START, narrow(start));
-    let m = put(m, WORD_END, narrow(end));
+    let end = find(m, start, false);
+    let m = put(put(m, WORD_START, narrow(start)), WORD_END, narrow(end));
     memory::add(m, WORD_NUMBER, 1)
 }
 
-// A number that is none.
-fn bad() -> Parsed {
-    Parsed {
-        good: false,
-        value: 0,
+// The value of a digit in a base, 16 if it is none. In base 256 each byte is a digit.
+fn digit(byte: u32, base: u64) -> u64 {
+    if base == 256 {
+        return byte as u64;
     }
-}
-
-// A number that is good.
-fn good(value: u64) -> Parsed {
-    Parsed {
-        good: true,
-        value: value,
-    }
-}
-
-// The value of a digit, 16 if it is none.
-fn digit(byte: u32) -> u64 {
     match byte {
         48..=57 => (byte - 48) as u64,
         65..=70 => (byte - 55) as u64,
@@ -143,55 +116,47 @@ fn digit(byte: u32) -> u64 {
     }
 }
 
-// A number with one decimal digit more.
-fn with_decimal(value: u64, digit: u64) -> Parsed {
-    if digit > 9 {
-        return bad();
+// Whether a number with one digit more is up to a bound.
+fn fits(value: u64, digit: u64, base: u64, most: u64) -> bool {
+    if base <= digit {
+        return false;
     }
-    if value > 1844674407370955161 {
-        return bad();
+    if most < digit {
+        return false;
     }
-    let tens = value * 10;
-    if digit > 0xffff_ffff_ffff_ffff - tens {
-        return bad();
-    }
-    good(tens + digit)
+    value <= (most - digit) / base
 }
 
-// The decimal number of the bytes from one place to another.
-fn decimal(m: &Memory, from: usize, to: usize) -> Parsed {
-    if to <= from {
-        return bad();
-    }
+// A number with one digit more.
+fn extended(value: u64, digit: u64, base: u64) -> u64 {
+    let shifted = match base {
+        10 => value % 1844674407370955162 * 10,
+        16 => value % 0x1000_0000_0000_0000 * 16,
+        _ => value % 0x100_0000_0000_0000 * 256,
+    };
+    std::num::wrapping_add_u64(shifted, digit)
+}
+
+// Whether the word at hand is a number up to the bound.
+fn is_number(m: &Memory, base: u64) -> bool {
     let mut value: u64 = 0;
-    for i in from..to {
-        let more = with_decimal(value, digit(line::byte_at(m, i)));
-        if !more.good {
-            return bad();
+    for i in start(m)..end(m) {
+        let digit = digit(byte_at(m, i), base);
+        if !fits(value, digit, base, memory::get_wide(m, BOUND)) {
+            return false;
         }
-        value = more.value;
+        value = extended(value, digit, base);
     }
-    good(value)
+    start(m) < end(m)
 }
 
-// The same, up to a bound.
-pub fn decimal_up_to(m: &Memory, from: usize, to: usize, most: u64) -> Parsed {
-    let parsed = decimal(m, from, to);
-    if parsed.value <= most {
-        return parsed;
+// The number that the word at hand is.
+fn value(m: &Memory, base: u64) -> u64 {
+    let mut value: u64 = 0;
+    for i in start(m)..end(m) {
+        value = extended(value, digit(byte_at(m, i), base), base);
     }
-    bad()
-}
-
-// A number with one hexadecimal digit more.
-fn with_hexadecimal(value: u64, digit: u64) -> Parsed {
-    if digit > 15 {
-        return bad();
-    }
-    if value >= 0x1000_0000 {
-        return bad();
-    }
-    good(value * 16 + digit)
+    value
 }
 
 // Whether the word at hand has 1 to 8 bytes.
@@ -204,42 +169,12 @@ fn is_short(m: &Memory) -> bool {
     end <= on(start, 8)
 }
 
-// The number of the hexadecimal digits from one place to another.
-fn hexadecimal(m: &Memory, from: usize, to: usize) -> Parsed {
-    let mut value: u64 = 0;
-    for i in from..to {
-        let more = with_hexadecimal(value, digit(line::byte_at(m, i)));
-        if !more.good {
-            return bad();
-        }
-        value = more.value;
-    }
-    good(value)
-}
-
-// The number of the hexadecimal digits of the word at hand.
-fn word_value(m: &Memory) -> Parsed {
-    if !is_short(m) {
-        return bad();
-    }
-    hexadecimal(m, start(m), end(m))
-}
-
-// The bytes from one place to another as one number, the last lowest.
-fn joined(m: &Memory, from: usize, to: usize) -> u64 {
-    let mut value: u64 = 0;
-    for i in from..to {
-        value = value % 0x100_0000_0000_0000 * 256 + (line::byte_at(m, i) % 256) as u64;
-    }
-    value
-}
-
-// The bytes of the word at hand as one number; 0 for more than eight bytes.
+// The bytes of the word at hand as one number, the last lowest; 0 for more than eight bytes.
 pub fn name(m: &Memory) -> u64 {
     if !is_short(m) {
         return 0;
     }
-    joined(m, start(m), end(m))
+    value(m, 256)
 }
 
 // The next word is this name, or else the text is its fault.
@@ -249,56 +184,53 @@ pub fn expect(m: &mut Memory, expected: u64, otherwise: u32) -> &mut Memory {
     demand(m, is_there, otherwise)
 }
 
+// The word at hand is a number up to the bound, which is kept, or else the text is its fault and 0 is kept.
+fn keep(m: &mut Memory, base: u64, otherwise: u32) -> &mut Memory {
+    if is_number(m, base) {
+        let number = value(m, base);
+        put_wide(m, NUMBER, number)
+    } else {
+        fault(put_wide(m, NUMBER, 0), otherwise)
+    }
+}
+
 // The word at hand is a number up to a bound, which is kept.
 pub fn keep_number(m: &mut Memory, most: u64) -> &mut Memory {
-    let parsed = decimal_up_to(m, start(m), end(m), most);
-    if parsed.good {
-        memory::put_wide(m, NUMBER, parsed.value)
-    } else {
-        fault_number(m, most)
-    }
+    keep(put_wide(m, BOUND, most), 10, NO_NUMBER)
 }
 
-// The next word is a number up to a bound, which is kept.
-pub fn number(m: &mut Memory, most: u64) -> &mut Memory {
-    let m = next_word(m);
-    keep_number(m, most)
-}
-
-// The same goes to a place.
+// The next word is a number up to a bound, which goes to a place.
 pub fn number_to(m: &mut Memory, place: usize, most: u64) -> &mut Memory {
-    let m = number(m, most);
-    memory::copy(m, NUMBER, place, 1)
+    copy(keep_number(next_word(m), most), NUMBER, place, 1)
 }
 
-// The word at hand is a word in hexadecimal, which is kept.
+// The word at hand is a word of 1 to 8 hexadecimal digits, which is kept.
 pub fn keep_word(m: &mut Memory) -> &mut Memory {
-    let parsed = word_value(m);
-    let m = put(m, NUMBER, memory::low(parsed.value));
-    demand(m, parsed.good, NO_WORD)
-}
-
-// The number behind the T of the word at hand.
-fn transaction(m: &Memory) -> Parsed {
-    if line::byte_at(m, start(m)) != 84 {
-        return bad();
-    }
-    decimal_up_to(m, on(start(m), 1), end(m), WORD)
+    let is_short = is_short(m);
+    keep(
+        demand(put_wide(m, BOUND, WORD), is_short, NO_WORD),
+        16,
+        NO_WORD,
+    )
 }
 
 // The next word is a transaction, T and a number, which goes to a place.
 pub fn transaction_to(m: &mut Memory, place: usize) -> &mut Memory {
     let m = next_word(m);
-    let parsed = transaction(m);
-    let m = put(m, place, memory::low(parsed.value));
-    demand(m, parsed.good, NO_TRANSACTION)
+    let has_t = first(m) == 84;
+    let m = memory::add(put_wide(m, BOUND, WORD), WORD_START, 1);
+    copy(
+        keep(demand(m, has_t, NO_TRANSACTION), 10, NO_TRANSACTION),
+        NUMBER,
+        place,
+        1,
+    )
 }
 
 // What stands behind the last word is a fault.
 pub fn close(m: &mut Memory) -> &mut Memory {
     if has_more(m) {
-        let m = next_word(m);
-        fault(m, TOO_MUCH)
+        fault(next_word(m), TOO_MUCH)
     } else {
         m
     }

@@ -8,16 +8,13 @@ use Rattle.script.proofs.calls.transfer.Statement.{statement}
 use Rattle.script.proofs.calls.transfer.Tie as tie
 
 abbrev Inv-loop : tie.InvT-loop
-Inv-loop words into₀ place i₀ i-end into i = (i ≤ i-end) × (length into ≡ length into₀)
+Inv-loop words into₀ i₀ i-end into i = (i ≤ i-end) × (length into ≡ length into₀)
 
 abbrev μ-loop : tie.MeasureT-loop
-μ-loop words into₀ place i₀ i-end into i = i-end - i
+μ-loop words into₀ i₀ i-end into i = i-end - i
 
 loop-holds : tie.Need-loop-holds Inv-loop μ-loop
 loop-holds c = search needs
-
-on-requires : tie.Need-on-requires Inv-loop μ-loop
-on-requires c κs = search needs
 
 mul-put-word : tie.Need-mul-put-word Inv-loop μ-loop
 mul-put-word c = search needs
@@ -50,7 +47,6 @@ transfer-spec =
     Inv-loop
     μ-loop
     loop-holds
-    on-requires
     mul-put-word
     shared-slice-read-put-word
     put-word-requires

@@ -17,8 +17,20 @@ loop-holds c = search needs
 say-update-requires : tie.Need-say-update-requires Inv-loop μ-loop
 say-update-requires c κs = search needs
 
-next-update-requires : tie.Need-next-update-requires Inv-loop μ-loop
-next-update-requires c κs = search needs
+parts-requires : tie.Need-parts-requires Inv-loop μ-loop
+parts-requires c κs = search needs
+
+cast-on : tie.Need-cast-on Inv-loop μ-loop
+cast-on c = search needs
+
+mul-on : tie.Need-mul-on Inv-loop μ-loop
+mul-on c = search needs
+
+add-on : tie.Need-add-on Inv-loop μ-loop
+add-on c = search needs
+
+on-requires : tie.Need-on-requires Inv-loop μ-loop
+on-requires c κs = search needs
 
 add--turn : tie.Need-add--turn Inv-loop μ-loop
 add--turn c = search needs
@@ -43,7 +55,11 @@ say-updates-spec =
     μ-loop
     loop-holds
     say-update-requires
-    next-update-requires
+    parts-requires
+    cast-on
+    mul-on
+    add-on
+    on-requires
     add--turn
     loop-less
     loop-again

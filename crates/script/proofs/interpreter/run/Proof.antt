@@ -11,8 +11,14 @@ Inv-loop m₀ -turn₀ m -turn = -turn ≤ 281474976710655
 abbrev μ-loop : tie.MeasureT-loop
 μ-loop m₀ -turn₀ m -turn = 281474976710655 - -turn
 
-begin-requires : tie.Need-begin-requires Inv-loop μ-loop
-begin-requires c κs = search needs
+install-requires : tie.Need-install-requires Inv-loop μ-loop
+install-requires c κs = search needs
+
+reset-requires : tie.Need-reset-requires Inv-loop μ-loop
+reset-requires c κs = search needs
+
+clear-requires : tie.Need-clear-requires Inv-loop μ-loop
+clear-requires c κs = search needs
 
 loop-holds : tie.Need-loop-holds Inv-loop μ-loop
 loop-holds c = search needs
@@ -29,8 +35,14 @@ loop-less c = search needs
 loop-again : tie.Need-loop-again Inv-loop μ-loop
 loop-again c = search needs
 
-end-requires : tie.Need-end-requires Inv-loop μ-loop
-end-requires c κs = search needs
+run-last-requires : tie.Need-run-last-requires Inv-loop μ-loop
+run-last-requires c κs = search needs
+
+say-counts-requires : tie.Need-say-counts-requires Inv-loop μ-loop
+say-counts-requires c κs = search needs
+
+flush-requires : tie.Need-flush-requires Inv-loop μ-loop
+flush-requires c κs = search needs
 
 returns : tie.Need-returns Inv-loop μ-loop
 returns c = search needs
@@ -41,11 +53,15 @@ run-spec =
     (tie.spec
     Inv-loop
     μ-loop
-    begin-requires
+    install-requires
+    reset-requires
+    clear-requires
     loop-holds
     run-block-requires
     add--turn
     loop-less
     loop-again
-    end-requires
+    run-last-requires
+    say-counts-requires
+    flush-requires
     returns)

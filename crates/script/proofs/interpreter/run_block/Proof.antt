@@ -25,6 +25,9 @@ slice-aggregate-take-block c = search needs
 take-block-requires : tie.Need-take-block-requires
 take-block-requires c κs = search needs
 
+flush-requires : tie.Need-flush-requires
+flush-requires c κs = search needs
+
 returns : tie.Need-returns
 returns c = search needs
 
@@ -39,4 +42,5 @@ run-block-spec =
     array-share-prefix-block
     slice-aggregate-take-block
     take-block-requires
+    flush-requires
     returns)

@@ -26,8 +26,17 @@ loop-holds c = search needs
 say-transaction-requires : tie.Need-say-transaction-requires Inv-loop μ-loop
 say-transaction-requires c κs = search needs
 
-next-transaction-requires : tie.Need-next-transaction-requires Inv-loop μ-loop
-next-transaction-requires c κs = search needs
+parts-requires : tie.Need-parts-requires Inv-loop μ-loop
+parts-requires c κs = search needs
+
+cast-on : tie.Need-cast-on Inv-loop μ-loop
+cast-on c = search needs
+
+add-on : tie.Need-add-on Inv-loop μ-loop
+add-on c = search needs
+
+on-requires : tie.Need-on-requires Inv-loop μ-loop
+on-requires c κs = search needs
 
 add-t : tie.Need-add-t Inv-loop μ-loop
 add-t c = search needs
@@ -52,7 +61,10 @@ say-transactions-spec =
     get-requires
     loop-holds
     say-transaction-requires
-    next-transaction-requires
+    parts-requires
+    cast-on
+    add-on
+    on-requires
     add-t
     loop-less
     loop-again

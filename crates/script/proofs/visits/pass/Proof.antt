@@ -6,19 +6,16 @@ use Rattle.script.proofs.visits.pass.Statement.{statement}
 use Rattle.script.proofs.visits.pass.Tie as tie
 
 abbrev Inv-loop : tie.InvT-loop
-Inv-loop m₀ i₀ i-end m i = i ≤ i-end
+Inv-loop m₀ visits i₀ m i = i ≤ visits
 
 abbrev μ-loop : tie.MeasureT-loop
-μ-loop m₀ i₀ i-end m i = i-end - i
+μ-loop m₀ visits i₀ m i = visits - i
 
 get-requires : tie.Need-get-requires Inv-loop μ-loop
 get-requires c κs = search needs
 
 loop-holds : tie.Need-loop-holds Inv-loop μ-loop
 loop-holds c = search needs
-
-get-requires-2 : tie.Need-get-requires-2 Inv-loop μ-loop
-get-requires-2 c κs = search needs
 
 wrapping-add-u32-requires : tie.Need-wrapping-add-u32-requires Inv-loop μ-loop
 wrapping-add-u32-requires c κs = search needs
@@ -49,7 +46,6 @@ pass-spec =
     μ-loop
     get-requires
     loop-holds
-    get-requires-2
     wrapping-add-u32-requires
     is-above-requires
     pass-once-requires

@@ -20,8 +20,11 @@ on-requires c κs = search needs
 on-requires-2 : tie.Need-on-requires-2 Inv-loop μ-loop
 on-requires-2 c κs = search needs
 
-copy-word-requires : tie.Need-copy-word-requires Inv-loop μ-loop
-copy-word-requires c κs = search needs
+get-requires : tie.Need-get-requires Inv-loop μ-loop
+get-requires c κs = search needs
+
+put-requires : tie.Need-put-requires Inv-loop μ-loop
+put-requires c κs = search needs
 
 add-i : tie.Need-add-i Inv-loop μ-loop
 add-i c = search needs
@@ -44,7 +47,8 @@ copy-spec =
     loop-holds
     on-requires
     on-requires-2
-    copy-word-requires
+    get-requires
+    put-requires
     add-i
     loop-less
     loop-again

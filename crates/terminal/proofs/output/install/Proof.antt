@@ -6,31 +6,25 @@ use Rattle.terminal.proofs.output.install.Statement.{statement}
 use Rattle.terminal.proofs.output.install.Tie as tie
 
 abbrev Inv-loop : tie.InvT-loop
-Inv-loop m₀ texts text₀ i₀ i-end m text i = i ≤ i-end
+Inv-loop m₀ texts i₀ i-end m i = i ≤ i-end
 
 abbrev μ-loop : tie.MeasureT-loop
-μ-loop m₀ texts text₀ i₀ i-end m text i = i-end - i
-
-narrow-requires : tie.Need-narrow-requires Inv-loop μ-loop
-narrow-requires c κs = search needs
-
-put-requires : tie.Need-put-requires Inv-loop μ-loop
-put-requires c κs = search needs
+μ-loop m₀ texts i₀ i-end m i = i-end - i
 
 loop-holds : tie.Need-loop-holds Inv-loop μ-loop
 loop-holds c = search needs
 
-shared-slice-read-wide : tie.Need-shared-slice-read-wide Inv-loop μ-loop
-shared-slice-read-wide c = search needs
+on-requires : tie.Need-on-requires Inv-loop μ-loop
+on-requires c κs = search needs
 
-wide-requires : tie.Need-wide-requires Inv-loop μ-loop
-wide-requires c κs = search needs
+shared-slice-read-word-of : tie.Need-shared-slice-read-word-of Inv-loop μ-loop
+shared-slice-read-word-of c = search needs
+
+word-of-requires : tie.Need-word-of-requires Inv-loop μ-loop
+word-of-requires c κs = search needs
 
 install-byte-requires : tie.Need-install-byte-requires Inv-loop μ-loop
 install-byte-requires c κs = search needs
-
-note-text-requires : tie.Need-note-text-requires Inv-loop μ-loop
-note-text-requires c κs = search needs
 
 add-i : tie.Need-add-i Inv-loop μ-loop
 add-i c = search needs
@@ -50,13 +44,11 @@ install-spec =
     (tie.spec
     Inv-loop
     μ-loop
-    narrow-requires
-    put-requires
     loop-holds
-    shared-slice-read-wide
-    wide-requires
+    on-requires
+    shared-slice-read-word-of
+    word-of-requires
     install-byte-requires
-    note-text-requires
     add-i
     loop-less
     loop-again

@@ -17,9 +17,6 @@ beginning-requires c κs = search needs
 loop-holds : tie.Need-loop-holds Inv-loop μ-loop
 loop-holds c = search needs
 
-get-requires : tie.Need-get-requires Inv-loop μ-loop
-get-requires c κs = search needs
-
 write-item-requires : tie.Need-write-item-requires Inv-loop μ-loop
 write-item-requires c κs = search needs
 
@@ -49,7 +46,6 @@ say-spec =
     μ-loop
     beginning-requires
     loop-holds
-    get-requires
     write-item-requires
     next-requires
     add--turn

@@ -1,2 +1,0 @@
-pub mod PartLent
-pub mod Queued

@@ -1,0 +1,233 @@
+-- Laws of a queue as plain words.
+--     length-recordsIn, getD-recordsIn     the first n records: there are n, each the words' at its place
+--     queueIn-row, queueIn-none            192 words are a row of 32 records; others are none
+--     length-queueIn                       so a row has 32 records
+--     queueIn-storedIn                     a record stored among the words is stored in the queue
+--     storedIn-kept                        what is no row is as before
+-- Assumes nothing.
+use mathlib.Core.Path.{_≡_, refl, sym, _∙_, ap}
+use mathlib.Core.Logic.{_⊎_, inl, inr, ⊎-elim}
+use Prim.Native.Nat.{ℕ, zero, suc, _+_, _*_, _<_, _≤_}
+use native.Mathlib.Nat.{le-of-suc-le-suc, not-suc-le-zero, eq-or-lt-of-le}
+use native.Mathlib.Omega.{arith}
+use mathlib.Core.Bool.{Bool, true, false, false≢true, cond, _&&_}
+use mathlib.Core.List.{List, [], _∷_, _++_}
+use lib.Dec.{eqb, ltb}
+use lib.ListN.{length, getD, set, length-append, length-set, List·getD-append}
+use lib.Seq.{ext-getD, getD-append-seam, getD-set-same, getD-set-other, set-out}
+use borrow.Author.Tests.{eqb-true, ltb-true, ltb-false, eq-eqb, ne-eqb, lt-ltb, le-ltb}
+use Rattle.queue.specs.declared.record.Request.{Request}
+use Rattle.queue.specs.Queue.{noRequest}
+use Rattle.queue.specs.Words.{recordIn, recordsIn, queueIn, overRecord, storedIn, KeptUnlessRow}
+
+pub length-recordsIn : (n : ℕ) (ws : List ℕ) → length (recordsIn n ws) ≡ n
+unfolding recordsIn
+length-recordsIn zero ws = refl
+length-recordsIn (suc n) ws = length-append (recordsIn n ws) (recordIn ws n ∷ []) ∙ omega (arith, length-recordsIn n ws)
+
+pub getD-recordsIn : (n : ℕ) (ws : List ℕ) (i : ℕ) → i < n → getD (recordsIn n ws) i noRequest ≡ recordIn ws i
+unfolding recordsIn
+getD-recordsIn zero ws i h = absurd (not-suc-le-zero h)
+getD-recordsIn (suc n) ws i h =
+    ⊎-elim
+    (λ (e : i ≡ n). ap (λ (j : ℕ). getD (recordsIn n ws ++ (recordIn ws n ∷ [])) j noRequest) (e ∙ sym (length-recordsIn n ws))
+    ∙ getD-append-seam (recordsIn n ws) (recordIn ws n) [] noRequest ∙ ap (recordIn ws) (sym e))
+    (λ (l : i < n). List·getD-append (recordsIn n ws) (recordIn ws n ∷ []) noRequest i (omega (arith, length-recordsIn n ws))
+    ∙ getD-recordsIn n ws i l)
+    (eq-or-lt-of-le (le-of-suc-le-suc h))
+
+pub queueIn-row : (ws : List ℕ) → length ws ≡ 192 → queueIn ws ≡ recordsIn 32 ws
+unfolding queueIn
+queueIn-row ws e = ap (λ (b : Bool). cond b (recordsIn 32 ws) []) (eq-eqb (length ws) 192 e)
+
+pub queueIn-none : (ws : List ℕ) → eqb (length ws) 192 ≡ false → queueIn ws ≡ []
+unfolding queueIn
+queueIn-none ws e = ap (λ (b : Bool). cond b (recordsIn 32 ws) []) e
+
+pub length-queueIn : (ws : List ℕ) → length ws ≡ 192 → length (queueIn ws) ≡ 32
+length-queueIn ws e = ap length (queueIn-row ws e) ∙ length-recordsIn 32 ws
+
+-- the words with the first fields of a record stored from word i on
+module _ (ws : List ℕ) (i : ℕ) (r : Request) where
+  abbrev pub over₁ : List ℕ
+  over₁ = set ws i (r .client)
+
+  abbrev pub over₂ : List ℕ
+  over₂ = set over₁ (i + 1) (r .transaction)
+
+  abbrev pub over₃ : List ℕ
+  over₃ = set over₂ (i + 2) (r .p0)
+
+  abbrev pub over₄ : List ℕ
+  over₄ = set over₃ (i + 3) (r .p1)
+
+  abbrev pub over₅ : List ℕ
+  over₅ = set over₄ (i + 4) (r .p2)
+
+  pub over₁-length : length over₁ ≡ length ws
+  over₁-length = length-set ws i (r .client)
+
+  pub over₂-length : length over₂ ≡ length ws
+  over₂-length = length-set over₁ (i + 1) (r .transaction) ∙ over₁-length
+
+  pub over₃-length : length over₃ ≡ length ws
+  over₃-length = length-set over₂ (i + 2) (r .p0) ∙ over₂-length
+
+  pub over₄-length : length over₄ ≡ length ws
+  over₄-length = length-set over₃ (i + 3) (r .p1) ∙ over₃-length
+
+  pub over₅-length : length over₅ ≡ length ws
+  over₅-length = length-set over₄ (i + 4) (r .p2) ∙ over₄-length
+
+  pub over-length : length (overRecord ws i r) ≡ length ws
+  over-length = length-set over₅ (i + 5) (r .p3) ∙ over₅-length
+
+  -- a word that is none of the record's
+  over-other : (j : ℕ) → (j ≡ i → ⊥) → (j ≡ i + 1 → ⊥) → (j ≡ i + 2 → ⊥) → (j ≡ i + 3 → ⊥) → (j ≡ i + 4 → ⊥) → (j ≡ i + 5 → ⊥)
+      → getD (overRecord ws i r) j 0 ≡ getD ws j 0
+  over-other j n₀ n₁ n₂ n₃ n₄ n₅ =
+      getD-set-other over₅ (i + 5) j (r .p3) 0 n₅ ∙ getD-set-other over₄ (i + 4) j (r .p2) 0 n₄ ∙ getD-set-other over₃ (i + 3) j (r .p1) 0 n₃
+      ∙ getD-set-other over₂ (i + 2) j (r .p0) 0 n₂ ∙ getD-set-other over₁ (i + 1) j (r .transaction) 0 n₁
+      ∙ getD-set-other ws i j (r .client) 0 n₀
+
+  -- a word before the record or behind it
+  over-away : (j : ℕ) → (j < i) ⊎ (i + 6 ≤ j) → getD (overRecord ws i r) j 0 ≡ getD ws j 0
+  over-away j (inl h) =
+      over-other j (λ e. omega arith) (λ e. omega arith) (λ e. omega arith) (λ e. omega arith) (λ e. omega arith) (λ e. omega arith)
+  over-away j (inr h) =
+      over-other j (λ e. omega arith) (λ e. omega arith) (λ e. omega arith) (λ e. omega arith) (λ e. omega arith) (λ e. omega arith)
+
+  -- the words of the record
+  over-client : i < length ws → getD (overRecord ws i r) i 0 ≡ r .client
+  over-client h =
+      getD-set-other over₅ (i + 5) i (r .p3) 0 (λ e. omega arith) ∙ getD-set-other over₄ (i + 4) i (r .p2) 0 (λ e. omega arith)
+      ∙ getD-set-other over₃ (i + 3) i (r .p1) 0 (λ e. omega arith) ∙ getD-set-other over₂ (i + 2) i (r .p0) 0 (λ e. omega arith)
+      ∙ getD-set-other over₁ (i + 1) i (r .transaction) 0 (λ e. omega arith) ∙ getD-set-same ws i (r .client) 0 h
+
+  over-transaction : i + 1 < length ws → getD (overRecord ws i r) (i + 1) 0 ≡ r .transaction
+  over-transaction h =
+      getD-set-other over₅ (i + 5) (i + 1) (r .p3) 0 (λ e. omega arith) ∙ getD-set-other over₄ (i + 4) (i + 1) (r .p2) 0 (λ e. omega arith)
+      ∙ getD-set-other over₃ (i + 3) (i + 1) (r .p1) 0 (λ e. omega arith) ∙ getD-set-other over₂ (i + 2) (i + 1) (r .p0) 0 (λ e. omega arith)
+      ∙ getD-set-same over₁ (i + 1) (r .transaction) 0 (omega (arith, over₁-length))
+
+  over-p0 : i + 2 < length ws → getD (overRecord ws i r) (i + 2) 0 ≡ r .p0
+  over-p0 h =
+      getD-set-other over₅ (i + 5) (i + 2) (r .p3) 0 (λ e. omega arith) ∙ getD-set-other over₄ (i + 4) (i + 2) (r .p2) 0 (λ e. omega arith)
+      ∙ getD-set-other over₃ (i + 3) (i + 2) (r .p1) 0 (λ e. omega arith)
+      ∙ getD-set-same over₂ (i + 2) (r .p0) 0 (omega (arith, over₂-length))
+
+  over-p1 : i + 3 < length ws → getD (overRecord ws i r) (i + 3) 0 ≡ r .p1
+  over-p1 h =
+      getD-set-other over₅ (i + 5) (i + 3) (r .p3) 0 (λ e. omega arith) ∙ getD-set-other over₄ (i + 4) (i + 3) (r .p2) 0 (λ e. omega arith)
+      ∙ getD-set-same over₃ (i + 3) (r .p1) 0 (omega (arith, over₃-length))
+
+  over-p2 : i + 4 < length ws → getD (overRecord ws i r) (i + 4) 0 ≡ r .p2
+  over-p2 h =
+      getD-set-other over₅ (i + 5) (i + 4) (r .p3) 0 (λ e. omega arith)
+      ∙ getD-set-same over₄ (i + 4) (r .p2) 0 (omega (arith, over₄-length))
+
+  over-p3 : i + 5 < length ws → getD (overRecord ws i r) (i + 5) 0 ≡ r .p3
+  over-p3 h = getD-set-same over₅ (i + 5) (r .p3) 0 (omega (arith, over₅-length))
+
+-- a record, by its fields
+pub by-fields : (a b : Request) → a .client ≡ b .client → a .transaction ≡ b .transaction → a .p0 ≡ b .p0 → a .p1 ≡ b .p1 → a .p2 ≡ b .p2
+    → a .p3 ≡ b .p3 → a ≡ b
+by-fields a b c t p q r s = λ i. record { client = c i; transaction = t i; p0 = p i; p1 = q i; p2 = r i; p3 = s i }
+
+-- two places: one is before the other, or they are one
+in-order : (a b : ℕ) → ((a < b) ⊎ (a ≡ b)) ⊎ (b < a)
+in-order a b = by-tests (ltb a b) (ltb b a) refl refl
+  where
+    by-tests : (s t : Bool) → ltb a b ≡ s → ltb b a ≡ t → ((a < b) ⊎ (a ≡ b)) ⊎ (b < a)
+    by-tests true t e f = inl (inl (ltb-true a b e))
+    by-tests false true e f = inr (ltb-true b a f)
+    by-tests false false e f = inl (inr (omega (arith, ltb-false a b e, ltb-false b a f)))
+
+module _ (ws : List ℕ) (at : ℕ) (r : Request) where
+  -- the record itself
+  own-record : at * 6 + 5 < length ws → recordIn (overRecord ws (at * 6) r) at ≡ r
+  own-record h =
+      by-fields (recordIn (overRecord ws (at * 6) r) at) r (over-client ws (at * 6) r (omega arith))
+      (over-transaction ws (at * 6) r (omega arith)) (over-p0 ws (at * 6) r (omega arith)) (over-p1 ws (at * 6) r (omega arith))
+      (over-p2 ws (at * 6) r (omega arith)) (over-p3 ws (at * 6) r h)
+
+  -- a word of another record is away from this one's
+  apart : (b j : ℕ) → (b < at) ⊎ (at < b) → b * 6 ≤ j → j < b * 6 + 6 → (j < at * 6) ⊎ (at * 6 + 6 ≤ j)
+  apart b j (inl h) l u = inl (omega arith)
+  apart b j (inr h) l u = inr (omega arith)
+
+  other-word : (b j : ℕ) → (b < at) ⊎ (at < b) → b * 6 ≤ j → j < b * 6 + 6 → getD (overRecord ws (at * 6) r) j 0 ≡ getD ws j 0
+  other-word b j s l u = over-away ws (at * 6) r j (apart b j s l u)
+
+  -- another record is as before
+  other-record : (b : ℕ) → (b < at) ⊎ (at < b) → recordIn (overRecord ws (at * 6) r) b ≡ recordIn ws b
+  other-record b s =
+      by-fields (recordIn (overRecord ws (at * 6) r) b) (recordIn ws b) (other-word b (b * 6) s (omega arith) (omega arith))
+      (other-word b (b * 6 + 1) s (omega arith) (omega arith)) (other-word b (b * 6 + 2) s (omega arith) (omega arith))
+      (other-word b (b * 6 + 3) s (omega arith) (omega arith)) (other-word b (b * 6 + 4) s (omega arith) (omega arith))
+      (other-word b (b * 6 + 5) s (omega arith) (omega arith))
+
+  -- the records, one by one
+  stored-at : length ws ≡ 192 → at < 32 → (b : ℕ) → b < 32
+      → getD (recordsIn 32 (overRecord ws (at * 6) r)) b noRequest ≡ getD (set (recordsIn 32 ws) at r) b noRequest
+  stored-at e h b l = getD-recordsIn 32 (overRecord ws (at * 6) r) b l ∙ by-order (in-order b at)
+    where
+      by-order : ((b < at) ⊎ (b ≡ at)) ⊎ (at < b) → recordIn (overRecord ws (at * 6) r) b ≡ getD (set (recordsIn 32 ws) at r) b noRequest
+      by-order (inl (inl s)) =
+          other-record b (inl s) ∙ sym (getD-recordsIn 32 ws b l)
+          ∙ sym (getD-set-other (recordsIn 32 ws) at b r noRequest (λ e. omega arith))
+      by-order (inl (inr s)) =
+          ap (recordIn (overRecord ws (at * 6) r)) s ∙ own-record (omega arith)
+          ∙ sym (getD-set-same (recordsIn 32 ws) at r noRequest (omega (arith, length-recordsIn 32 ws)))
+          ∙ ap (λ (k : ℕ). getD (set (recordsIn 32 ws) at r) k noRequest) (sym s)
+      by-order (inr s) =
+          other-record b (inr s) ∙ sym (getD-recordsIn 32 ws b l)
+          ∙ sym (getD-set-other (recordsIn 32 ws) at b r noRequest (λ e. omega arith))
+
+  -- a row with a record stored within it
+  stored-row : length ws ≡ 192 → at < 32 → queueIn (overRecord ws (at * 6) r) ≡ set (queueIn ws) at r
+  stored-row e h =
+      queueIn-row (overRecord ws (at * 6) r) (over-length ws (at * 6) r ∙ e)
+      ∙ ext-getD noRequest (recordsIn 32 (overRecord ws (at * 6) r)) (set (recordsIn 32 ws) at r)
+      (length-recordsIn 32 (overRecord ws (at * 6) r) ∙ sym (length-set (recordsIn 32 ws) at r ∙ length-recordsIn 32 ws))
+      (λ b l. stored-at e h b (omega (arith, length-recordsIn 32 (overRecord ws (at * 6) r))))
+      ∙ ap (λ (q : List Request). set q at r) (sym (queueIn-row ws e))
+
+  -- past the end of a row, or in what is no row, there is nothing to store
+  set-none : length (queueIn ws) ≤ at → set (queueIn ws) at r ≡ queueIn ws
+  set-none h = set-out (queueIn ws) at r h
+
+  pub queueIn-storedIn : queueIn (storedIn ws at r) ≡ set (queueIn ws) at r
+  unfolding storedIn
+  queueIn-storedIn = by-tests (eqb (length ws) 192) (ltb at 32) refl refl
+    where
+      by-tests : (s t : Bool) → eqb (length ws) 192 ≡ s → ltb at 32 ≡ t
+          → queueIn (cond (s && t) (overRecord ws (at * 6) r) ws) ≡ set (queueIn ws) at r
+      by-tests true true e f = stored-row (eqb-true (length ws) 192 e) (ltb-true at 32 f)
+      by-tests true false e f =
+          sym (set-none (omega (arith, length-queueIn ws (eqb-true (length ws) 192 e), ltb-false at 32 f)))
+      by-tests false t e f =
+          queueIn-none ws e ∙ sym (ap (λ (q : List Request). set q at r) (queueIn-none ws e))
+
+  pub storedIn-kept : KeptUnlessRow ws (storedIn ws at r)
+  unfolding storedIn
+  storedIn-kept = by-tests (eqb (length ws) 192) (ltb at 32)
+    where
+      by-tests : (s t : Bool) → (length (cond (s && t) (overRecord ws (at * 6) r) ws) ≡ length ws)
+          × (s ≡ false → cond (s && t) (overRecord ws (at * 6) r) ws ≡ ws)
+      by-tests true true = (over-length ws (at * 6) r, λ e. absurd (false≢true (sym e)))
+      by-tests true false = (refl, λ e. refl)
+      by-tests false t = (refl, λ e. refl)
+
+  -- the three cases of storing
+  pub storedIn-within : length ws ≡ 192 → at < 32 → overRecord ws (at * 6) r ≡ storedIn ws at r
+  unfolding storedIn
+  storedIn-within e h = sym (simp (eq-eqb (length ws) 192 e, lt-ltb at 32 h))
+
+  pub storedIn-past : length ws ≡ 192 → 32 ≤ at → ws ≡ storedIn ws at r
+  unfolding storedIn
+  storedIn-past e h = sym (simp (eq-eqb (length ws) 192 e, le-ltb at 32 h))
+
+  pub storedIn-none : (length ws ≡ 192 → ⊥) → ws ≡ storedIn ws at r
+  unfolding storedIn
+  storedIn-none n = sym (simp (ne-eqb (length ws) 192 n))

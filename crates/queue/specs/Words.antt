@@ -1,0 +1,47 @@
+-- A queue as plain words, six a record: "each the client's word, the transaction and four parameters".
+--     recordIn     the record at a place
+--     queueIn      the queue that words stand for: of 192 words 32 records, of any other number none
+--     storedIn     the words with a record stored at a place
+--     KeptUnlessRow    words of another number than 192 are as before
+use mathlib.Core.Path.{_≡_}
+use Prim.Native.Nat.{ℕ, zero, suc, _+_, _*_}
+use mathlib.Core.Bool.{false, cond, _&&_}
+use mathlib.Core.List.{List, [], _∷_, _++_}
+use lib.Dec.{eqb, ltb}
+use lib.ListN.{length, getD, set}
+use Rattle.queue.specs.declared.record.Request.{Request}
+
+-- the record at a place
+abbrev pub recordIn : List ℕ → ℕ → Request
+recordIn ws at =
+    record {
+      client = getD ws (at * 6) 0;
+      transaction = getD ws (at * 6 + 1) 0;
+      p0 = getD ws (at * 6 + 2) 0;
+      p1 = getD ws (at * 6 + 3) 0;
+      p2 = getD ws (at * 6 + 4) 0;
+      p3 = getD ws (at * 6 + 5) 0;
+    }
+
+-- the first n records
+unfoldable pub recordsIn : ℕ → List ℕ → List Request
+recordsIn zero ws = []
+recordsIn (suc n) ws = recordsIn n ws ++ (recordIn ws n ∷ [])
+
+-- "a lent row of 32 records": other words than 192 are no row, which question 5 refuses as it refuses an empty one
+unfoldable pub queueIn : List ℕ → List Request
+queueIn ws = cond (eqb (length ws) 192) (recordsIn 32 ws) []
+
+-- the six words of a record from word i on
+abbrev pub overRecord : List ℕ → ℕ → Request → List ℕ
+overRecord ws i r =
+    set (set (set (set (set (set ws i (r .client)) (i + 1) (r .transaction)) (i + 2) (r .p0)) (i + 3) (r .p1)) (i + 4) (r .p2)) (i + 5)
+    (r .p3)
+
+-- a record stored at a place of a row; past its end, or in what is no row, nothing changes
+unfoldable pub storedIn : List ℕ → ℕ → Request → List ℕ
+storedIn ws at r = cond (eqb (length ws) 192 && ltb at 32) (overRecord ws (at * 6) r) ws
+
+-- what is no row is as before, and no word is added or lost
+abbrev pub KeptUnlessRow : List ℕ → List ℕ → Type 0
+KeptUnlessRow before after = (length after ≡ length before) × (eqb (length before) 192 ≡ false → after ≡ before)

@@ -1,0 +1,59 @@
+-- `script::desks::set_cells` is safe and ends.
+-- Assumes nothing.
+use Prim.Native.Nat.{_-_, _≤_}
+use borrow.Author.Needs.{needs}
+use Rattle.script.proofs.desks.set_cells.Statement.{statement}
+use Rattle.script.proofs.desks.set_cells.Tie as tie
+
+abbrev Inv-loop : tie.InvT-loop
+Inv-loop m₀ x₀ i₀ m x i = i ≤ 1040
+
+abbrev μ-loop : tie.MeasureT-loop
+μ-loop m₀ x₀ i₀ m x i = 1040 - i
+
+get-requires : tie.Need-get-requires Inv-loop μ-loop
+get-requires c κs = search needs
+
+loop-holds : tie.Need-loop-holds Inv-loop μ-loop
+loop-holds c = search needs
+
+get-requires-2 : tie.Need-get-requires-2 Inv-loop μ-loop
+get-requires-2 c κs = search needs
+
+next-cell-requires : tie.Need-next-cell-requires Inv-loop μ-loop
+next-cell-requires c κs = search needs
+
+here-requires : tie.Need-here-requires Inv-loop μ-loop
+here-requires c κs = search needs
+
+put-requires : tie.Need-put-requires Inv-loop μ-loop
+put-requires c κs = search needs
+
+add-i : tie.Need-add-i Inv-loop μ-loop
+add-i c = search needs
+
+loop-less : tie.Need-loop-less Inv-loop μ-loop
+loop-less c = search needs
+
+loop-again : tie.Need-loop-again Inv-loop μ-loop
+loop-again c = search needs
+
+returns : tie.Need-returns Inv-loop μ-loop
+returns c = search needs
+
+pub set-cells-spec : {M : Type 1} → statement M
+set-cells-spec =
+    tie.close
+    (tie.spec
+    Inv-loop
+    μ-loop
+    get-requires
+    loop-holds
+    get-requires-2
+    next-cell-requires
+    here-requires
+    put-requires
+    add-i
+    loop-less
+    loop-again
+    returns)
