@@ -1,9 +1,9 @@
 // What a call answers: a number and a text, as one number low and high. The text of a refusal is that of the question.
 use crate::layout::ANSWER;
+use crate::layout::ANSWERED;
 use crate::layout::CALLS;
 use crate::layout::QUESTION;
 use crate::layout::REFUSALS;
-use crate::layout::REFUSED;
 use crate::layout::VALUE;
 use crate::texts;
 use terminal::Memory;
@@ -37,24 +37,14 @@ pub fn note(m: &mut Memory, answer: u64) -> &mut Memory {
     )
 }
 
-// Notes that a call was accepted.
-pub fn accept(m: &mut Memory, text: u32, value: u32) -> &mut Memory {
-    note(m, wide(value, text))
-}
-
-// Notes the question that refused a call, 0 for none.
-pub fn refuse(m: &mut Memory, question: u32) -> &mut Memory {
-    note(m, refused(question))
-}
-
 // Whether the call was accepted.
 pub fn is_accepted(m: &Memory) -> bool {
     get(m, QUESTION) == 0
 }
 
-// Counts the call by its question.
+// Counts the call by the text of its answer.
 pub fn count_call(m: &mut Memory) -> &mut Memory {
-    let place = on(REFUSED, (get(m, QUESTION) % 16) as usize);
+    let place = on(ANSWERED, get(m, ANSWER) as usize);
     count_above(add(add(m, place, 1), CALLS, 1), REFUSALS, QUESTION, 0)
 }
 
@@ -62,9 +52,4 @@ pub fn count_call(m: &mut Memory) -> &mut Memory {
 pub fn say_answer(m: &mut Memory) -> &mut Memory {
     let text = get(m, ANSWER);
     say(say(m, texts::REFUSED), text)
-}
-
-// Counts the call, and says the text of its answer.
-pub fn answer(m: &mut Memory) -> &mut Memory {
-    say_answer(count_call(m))
 }

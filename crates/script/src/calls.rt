@@ -1,76 +1,44 @@
-// The engine's request and visit, on what stands in memory. What a call leaves of the desk goes behind the desks, and the buffers behind
-// the frames, so that all of it can be held against what was there before.
+// The engine's request and visit, on what stands in memory. What a call leaves of the desk and of the buffers goes to places of its own,
+// so that all of it can be held against what was there before.
 use crate::answers;
 use crate::desks;
 use crate::layout::AFTER;
+use crate::layout::BEFORE;
+use crate::layout::CELL_COUNT;
 use crate::layout::CLIENT;
-use crate::layout::DONE;
 use crate::layout::HAND;
 use crate::layout::LENT_CELLS;
 use crate::layout::LENT_OUTGOING;
 use crate::layout::LENT_RECORDS;
 use crate::layout::LENT_REPLIES;
-use crate::layout::MARK;
+use crate::layout::MARKS;
+use crate::layout::MOST_WORDS;
 use crate::layout::OUTGOING;
 use crate::layout::PARAMETERS;
 use crate::layout::PLAN;
 use crate::layout::RECORDS;
 use crate::layout::REPLIES;
-use crate::layout::REQUESTS;
+use crate::layout::REPLIES_SIZE;
 use crate::layout::STATE;
 use crate::layout::TRANSACTION;
-use crate::layout::here;
 use crate::texts;
 use conveyor::RequestAnswer;
 use conveyor::RequestResult;
 use conveyor::VisitAnswer;
 use conveyor::VisitResult;
 use terminal::Memory;
-use terminal::memory::add;
 use terminal::memory::copy;
 use terminal::memory::counted;
 use terminal::memory::get;
-use terminal::memory::high;
 use terminal::memory::narrow;
 use terminal::memory::on;
 use terminal::memory::part;
 use terminal::memory::put;
 use terminal::memory::wide;
 
-// Copies words from memory.
-fn load(m: &Memory, place: usize, into: &mut [u32]) {
-    for i in 0..into.len() {
-        into[i] = get(m, on(place, i));
-    }
-}
-
-// Copies words to memory.
-fn store<'a>(m: &'a mut Memory, place: usize, words: &[u32]) -> &'a mut Memory {
-    for i in 0..words.len() {
-        put(m, on(place, i), words[i]);
-    }
-    m
-}
-
-// Marks the words of a lent buffer.
-fn mark(into: &mut [u32]) {
-    for i in 0..into.len() {
-        into[i] = std::num::wrapping_add_u32(MARK, narrow(i));
-    }
-}
-
-// Stores a word, if it has a place.
-fn put_word(into: &mut [u32], i: usize, word: u32) {
-    if i < into.len() {
-        into[i] = word;
-    }
-}
-
-// Copies words to the front of others.
-fn transfer(words: &[u32], into: &mut [u32]) {
-    for i in 0..words.len() {
-        put_word(into, i, words[i]);
-    }
+// Word i, 0 past the end.
+fn word_at(words: &[u32], i: usize) -> u32 {
+    if i < words.len() { words[i] } else { 0 }
 }
 
 // The first so many words, or all where there are less.
@@ -80,6 +48,22 @@ fn front(words: &mut [u32], size: usize) -> &mut [u32] {
     } else {
         words
     }
+}
+
+// Copies words to a buffer, with zeros behind them, and gives the first so many words of it.
+fn load<'a>(words: &[u32], into: &'a mut [u32], size: usize) -> &'a mut [u32] {
+    for i in 0..into.len() {
+        into[i] = word_at(words, i);
+    }
+    front(into, size)
+}
+
+// Copies words to memory.
+fn store<'a>(m: &'a mut Memory, place: usize, words: &[u32]) -> &'a mut Memory {
+    for i in 0..words.len() {
+        put(m, on(place, i), words[i]);
+    }
+    m
 }
 
 // The four parameters at hand.
@@ -92,31 +76,29 @@ pub fn parameters(m: &Memory) -> [u32; 4] {
     ]
 }
 
+// The marks.
+fn marks(m: &Memory) -> &[u32] {
+    part(m, MARKS, MARKS + MOST_WORDS)
+}
+
 // The row of the desk at hand, as much of it as is lent: a number of words.
 fn lent_row(m: &Memory) -> usize {
     (get(m, LENT_RECORDS) % 64) as usize * 6
 }
 
-// The request itself on these cells and this row, with as much lent as is set.
+// The request itself on copies of the cells and of the row, with as much lent as is set.
 fn ask(m: &Memory, cells: &mut [u32], row: &mut [u32]) -> RequestResult {
     let lent_cells = get(m, LENT_CELLS) as usize;
     let lent_words = lent_row(m);
     conveyor::request_on_words(
         counted(m, PLAN),
         desks::state(m),
-        front(cells, lent_cells),
-        front(row, lent_words),
+        load(part(m, BEFORE, BEFORE + CELL_COUNT), cells, lent_cells),
+        load(part(m, BEFORE + RECORDS, BEFORE + STATE), row, lent_words),
         get(m, CLIENT),
         get(m, TRANSACTION),
         parameters(m),
     )
-}
-
-// The same on copies.
-fn ask_on_copies(m: &Memory, cells: &mut [u32], row: &mut [u32]) -> RequestResult {
-    load(m, here(m, 0), cells);
-    load(m, here(m, RECORDS), row);
-    ask(m, cells, row)
 }
 
 // What a request answers. The texts of what became of it stand in the order of its counts.
@@ -138,74 +120,45 @@ fn request_answer(answer: RequestAnswer) -> u64 {
     }
 }
 
-// Counts a request by the text of its answer, if it was accepted.
-fn count_request(m: &mut Memory, text: u32) -> &mut Memory {
-    if text < texts::DONE {
-        m
-    } else {
-        add(
-            add(m, REQUESTS, 1),
-            on(DONE, (text - texts::DONE) as usize),
-            1,
-        )
-    }
-}
-
 // A request at the desk at hand of the operation at hand.
 pub fn request(m: &mut Memory) -> &mut Memory {
     let mut cells = [0u32; 1040];
     let mut row = [0u32; 198];
-    let result = ask_on_copies(m, &mut cells, &mut row);
+    let result = ask(m, &mut cells, &mut row);
     let given = result.answer;
-    let answer = request_answer(given);
     let m = store(store(m, AFTER, &cells), AFTER + RECORDS, &row);
-    let m = answers::note(desks::put_state(m, AFTER + STATE, result.state), answer);
-    count_request(m, high(answer))
+    answers::note(
+        desks::put_state(m, AFTER + STATE, result.state),
+        request_answer(given),
+    )
 }
 
-// The visit itself on these cells and buffers, with as much lent as is set, by the words of the line.
+// The visit itself by the words of the line, on a copy of the cells and on marked buffers, with as much lent as is set.
 fn pass(m: &Memory, cells: &mut [u32], out: &mut [u32], replies: &mut [u32]) -> VisitResult {
     let lent_cells = get(m, LENT_CELLS) as usize;
     let lent_out = get(m, LENT_OUTGOING) as usize;
     let lent_replies = get(m, LENT_REPLIES) as usize;
-    let row = here(m, RECORDS);
     conveyor::visit_on_words(
         counted(m, PLAN),
         desks::state(m),
-        front(cells, lent_cells),
-        part(m, row, on(row, lent_row(m))),
+        load(part(m, BEFORE, BEFORE + CELL_COUNT), cells, lent_cells),
+        part(m, BEFORE + RECORDS, on(BEFORE + RECORDS, lent_row(m))),
         counted(m, HAND),
-        front(out, lent_out),
-        front(replies, lent_replies),
+        load(marks(m), out, lent_out),
+        load(marks(m), replies, lent_replies),
     )
 }
 
-// The same on a copy of the cells and on marked buffers.
-fn pass_on_copies(
-    m: &Memory,
-    cells: &mut [u32],
-    out: &mut [u32],
-    replies: &mut [u32],
-) -> VisitResult {
-    load(m, here(m, 0), cells);
-    mark(out);
-    mark(replies);
-    pass(m, cells, out, replies)
-}
-
-// How many words a visit sends.
-fn sent_words(answer: VisitAnswer) -> u32 {
+// Notes what a visit answers: the words that it sends, and its replies with no text.
+fn note_visit(m: &mut Memory, answer: VisitAnswer) -> &mut Memory {
     match answer {
-        VisitAnswer::Passed(words, _) => narrow(words % 8192),
-        VisitAnswer::Refused(_) => 0,
-    }
-}
-
-// What a visit answers: its replies, with no text.
-fn visit_answer(answer: VisitAnswer) -> u64 {
-    match answer {
-        VisitAnswer::Passed(_, replies) => narrow(replies % 64) as u64,
-        VisitAnswer::Refused(question) => answers::refused(question),
+        VisitAnswer::Passed(words, replies) => answers::note(
+            put(m, OUTGOING, narrow(words % 8192)),
+            narrow(replies % 64) as u64,
+        ),
+        VisitAnswer::Refused(question) => {
+            answers::note(put(m, OUTGOING, 0), answers::refused(question))
+        }
     }
 }
 
@@ -214,47 +167,41 @@ pub fn visit(m: &mut Memory) -> &mut Memory {
     let mut cells = [0u32; 1040];
     let mut out = [0u32; 6420];
     let mut replies = [0u32; 112];
-    let result = pass_on_copies(m, &mut cells, &mut out, &mut replies);
+    let result = pass(m, &mut cells, &mut out, &mut replies);
     let given = result.answer;
-    let row = here(m, RECORDS);
     let m = store(
         store(store(m, AFTER, &cells), OUTGOING + 1, &out),
         REPLIES,
         &replies,
     );
-    let m = desks::put_state(
-        copy(m, row, AFTER + RECORDS, 198),
-        AFTER + STATE,
-        result.state,
-    );
-    answers::note(put(m, OUTGOING, sent_words(given)), visit_answer(given))
+    let m = copy(m, BEFORE + RECORDS, AFTER + RECORDS, 198);
+    note_visit(desks::put_state(m, AFTER + STATE, result.state), given)
 }
 
-// The starting frame in an outgoing buffer of the size that is set: 0, or the question.
+// The starting frame in a marked buffer of the size that is set: 0, or the question.
 fn begin_frame(m: &Memory, out: &mut [u32]) -> u32 {
     let size = get(m, LENT_OUTGOING) as usize;
-    mark(out);
-    match token::starting_frame(front(out, size)) {
+    match token::starting_frame(load(marks(m), out, size)) {
         token::StartAnswer::Written => 0,
         token::StartAnswer::Refused(question) => question,
     }
 }
 
-// The starting frame.
+// The starting frame. No replies are written.
 pub fn start(m: &mut Memory) -> &mut Memory {
     let mut out = [0u32; 6420];
     let question = begin_frame(m, &mut out);
-    let m = store(m, OUTGOING + 1, &out);
-    answers::refuse(
+    let m = copy(store(m, OUTGOING + 1, &out), MARKS, REPLIES, REPLIES_SIZE);
+    answers::note(
         put(m, OUTGOING, if question == 0 { 4 } else { 0 }),
-        question,
+        answers::refused(question),
     )
 }
 
 // The words that the frame reader gives back for the words of the line, and how many.
 fn read_into(m: &Memory, into: &mut [u32]) -> usize {
     let words = token::read_frame(counted(m, PLAN), counted(m, HAND));
-    transfer(words, into);
+    load(words, into, 0);
     words.len()
 }
 

@@ -1,5 +1,6 @@
 // What a desk holds: its state, its cells and its records, by the new desk call or by hand.
 use crate::answers;
+use crate::layout::BEFORE;
 use crate::layout::CELL_COUNT;
 use crate::layout::CLIENT;
 use crate::layout::DESK;
@@ -11,10 +12,8 @@ use crate::layout::RECORDS;
 use crate::layout::SEED;
 use crate::layout::STATE;
 use crate::layout::TO;
-use crate::layout::here;
 use crate::layout::is_made;
-use crate::layout::to_desk;
-use crate::operations;
+use crate::layout::take_desk;
 use crate::texts;
 use conveyor::Desk;
 use conveyor::DeskAnswer;
@@ -22,10 +21,13 @@ use terminal::Memory;
 use terminal::memory;
 use terminal::memory::ITEM;
 use terminal::memory::NUMBER;
+use terminal::memory::copy;
 use terminal::memory::counted;
+use terminal::memory::fill;
 use terminal::memory::get;
 use terminal::memory::on;
 use terminal::memory::put;
+use terminal::memory::wide;
 use terminal::output::say;
 use terminal::output::say_each;
 use terminal::scanner;
@@ -35,9 +37,9 @@ use terminal::scanner::number_to;
 // The state of the desk at hand.
 pub fn state(m: &Memory) -> Desk {
     Desk {
-        desk: get(m, here(m, STATE + 1)),
-        waiting: get(m, here(m, STATE + 2)),
-        awaited: memory::get_wide(m, here(m, STATE + 3)),
+        desk: get(m, BEFORE + STATE + 1),
+        waiting: get(m, BEFORE + STATE + 2),
+        awaited: memory::get_wide(m, BEFORE + STATE + 3),
     }
 }
 
@@ -51,52 +53,40 @@ pub fn put_state(m: &mut Memory, place: usize, state: Desk) -> &mut Memory {
     memory::put_wide(m, on(place, 3), state.awaited)
 }
 
-// The state of the desk at hand goes to the item at hand.
-fn take_state(m: &mut Memory) -> &mut Memory {
-    let place = here(m, STATE);
-    memory::copy(m, place, ITEM, 5)
-}
-
-// A new desk: its words are zeros but for the state.
-fn open(m: &mut Memory, state: Desk) -> &mut Memory {
-    let place = here(m, 0);
-    let m = put_state(
-        memory::fill(m, place, DESK_SIZE - 1, 0),
-        on(place, STATE),
-        state,
-    );
-    answers::accept(take_state(m), texts::STATE, 0)
-}
-
 // Asks for a new desk.
 fn ask(m: &Memory) -> DeskAnswer {
     conveyor::new_desk(counted(m, PLAN), get(m, DESK))
 }
 
-// Notes what a new desk answers.
+// Notes what a new desk answers. The words of one that is made are zeros but for the state.
 fn note(m: &mut Memory, answer: DeskAnswer) -> &mut Memory {
     match answer {
-        DeskAnswer::Opened(state) => open(m, state),
-        DeskAnswer::Refused(question) => answers::refuse(say(m, texts::DESK), question),
+        DeskAnswer::Opened(state) => {
+            let m = put_state(fill(m, BEFORE, DESK_SIZE - 1, 0), BEFORE + STATE, state);
+            answers::note(copy(m, BEFORE + STATE, ITEM, 5), wide(0, texts::STATE))
+        }
+        DeskAnswer::Refused(question) => {
+            answers::note(say(m, texts::DESK), answers::refused(question))
+        }
     }
 }
 
 // `desk 0`.
 pub fn new_desk(m: &mut Memory) -> &mut Memory {
     let answer = ask(m);
-    answers::answer(note(m, answer))
+    answers::say_answer(answers::count_call(note(m, answer)))
 }
 
 // The number of a desk that is made, which is then at hand.
 pub fn read_made(m: &mut Memory) -> &mut Memory {
-    let m = scanner::number_to(m, DESK, 7);
+    let m = take_desk(number_to(m, DESK, 7));
     let is_there = is_made(m);
     scanner::demand(m, is_there, texts::NOT_MADE)
 }
 
 // `state 0 desk 0 waiting 31 awaits 64`, as a line writes it: the state goes to the item at hand.
 pub fn read_state(m: &mut Memory) -> &mut Memory {
-    let m = number_to(put(m, ITEM, 1), DESK, 7);
+    let m = take_desk(number_to(put(m, ITEM, 1), DESK, 7));
     // desk
     let m = number_to(
         scanner::expect(m, 0x6465_736b, texts::NO_DESK),
@@ -108,7 +98,7 @@ pub fn read_state(m: &mut Memory) -> &mut Memory {
     let m = number_to(m, ITEM + 2, WORD);
     // awaits
     let m = scanner::next_word(scanner::expect(m, 0x6177_6169_7473, texts::NO_AWAITS));
-    memory::copy(
+    copy(
         scanner::keep_number(m, 0xffff_ffff_ffff_ffff),
         NUMBER,
         ITEM + 3,
@@ -116,19 +106,14 @@ pub fn read_state(m: &mut Memory) -> &mut Memory {
     )
 }
 
-// `cell 0 128 7`, as a line writes it.
-pub fn read_cell(m: &mut Memory) -> &mut Memory {
-    number_to(number_to(read_made(m), FROM, 1039), TO, WORD)
-}
-
 // `cell 0 128 7`.
 pub fn set_cell(m: &mut Memory) -> &mut Memory {
-    let cell = get(m, FROM) as usize;
-    to_desk(m, TO, cell, 1)
+    let place = on(BEFORE, get(m, FROM) as usize);
+    copy(m, TO, place, 1)
 }
 
 // The next word is at hand, behind `seed` if it is that.
-fn read_seed(m: &mut Memory) -> &mut Memory {
+pub fn read_seed(m: &mut Memory) -> &mut Memory {
     let m = scanner::next_word(m);
     // seed
     if scanner::name(m) == 0x7365_6564 {
@@ -136,11 +121,6 @@ fn read_seed(m: &mut Memory) -> &mut Memory {
     } else {
         put(m, SEED, 0)
     }
-}
-
-// `cells 0 7` and `cells 0 seed 7`, as a line writes them.
-pub fn read_cells(m: &mut Memory) -> &mut Memory {
-    scanner::keep_number(read_seed(read_made(m)), WORD)
 }
 
 // The word of the next cell: the same, or the one that is drawn after it.
@@ -154,44 +134,37 @@ fn next_cell(x: u32, is_drawn: bool) -> u32 {
 
 // `cells 0 7` and `cells 0 seed 7`.
 pub fn set_cells(m: &mut Memory) -> &mut Memory {
+    let is_drawn = get(m, SEED) == 1;
     let mut x = get(m, NUMBER);
-    for i in 0..1040usize {
-        x = next_cell(x, get(m, SEED) == 1);
-        put(m, here(m, i), x);
+    for i in 0..CELL_COUNT {
+        x = next_cell(x, is_drawn);
+        put(m, on(BEFORE, i), x);
     }
     m
 }
 
-// `records 0 5 31 client 100 T1 0 3`, as a line writes it.
-pub fn read_records(m: &mut Memory) -> &mut Memory {
-    let m = number_to(number_to(read_made(m), FROM, 33), TO, 33);
-    operations::read_of_client(m)
-}
-
-// Record i of the desk at hand is the operation at hand; the next client is the next number.
-fn set_record(m: &mut Memory, i: usize) -> &mut Memory {
-    memory::add(to_desk(m, OPERATION, on(RECORDS, i % 64 * 6), 6), CLIENT, 1)
-}
-
-// `records 0 5 31 client 100 T1 0 3`.
+// `records 0 5 31 client 100 T1 0 3`: the client of each next record is the next number.
 pub fn set_records(m: &mut Memory) -> &mut Memory {
     for i in (get(m, FROM) as usize)..(get(m, TO) as usize) {
-        set_record(m, i);
+        memory::add(
+            copy(m, OPERATION, on(BEFORE + RECORDS, i % 64 * 6), 6),
+            CLIENT,
+            1,
+        );
     }
     m
 }
 
 // How many records are shown.
 fn shown_records(m: &Memory) -> usize {
-    let waiting = get(m, here(m, STATE + 2)) as usize;
+    let waiting = get(m, BEFORE + STATE + 2) as usize;
     if waiting < 33 { waiting } else { 33 }
 }
 
 // `show desk 0`: its state, the records that wait, and the cells that are not zero.
 pub fn show(m: &mut Memory) -> &mut Memory {
     let records = shown_records(m);
-    let place = here(m, 0);
-    let m = say(take_state(m), texts::STATE);
-    let m = say_each(m, texts::SHOWN_RECORD, on(place, RECORDS), 6, records);
-    say_each(m, texts::SHOWN_CELL, place, 1, CELL_COUNT)
+    let m = say(copy(m, BEFORE + STATE, ITEM, 5), texts::STATE);
+    let m = say_each(m, texts::SHOWN_RECORD, BEFORE + RECORDS, 6, records);
+    say_each(m, texts::SHOWN_CELL, BEFORE, 1, CELL_COUNT)
 }

@@ -95,34 +95,23 @@ fn repeated(m: &mut Memory) -> &mut Memory {
     extend(demand(m, is_there, texts::NO_SUCH_WORDS), from, words)
 }
 
-// Whether the line has more words than a number that it names.
-fn has_word(m: &Memory) -> bool {
-    get(m, FROM) < get(m, HAND)
-}
-
 // `word 2 A1100000`.
 fn replaced(m: &mut Memory) -> &mut Memory {
     let m = scanner::number_to(m, FROM, 6420);
-    let is_there = has_word(m);
+    let is_there = get(m, FROM) < get(m, HAND);
     let place = on(HAND + 1, get(m, FROM) as usize);
     let m = scanner::next_word(demand(m, is_there, texts::NO_SUCH_WORDS));
     copy(scanner::keep_word(m), NUMBER, place, 1)
 }
 
-// Cuts off the last words.
-fn shorten(m: &mut Memory, last: u32) -> &mut Memory {
+// Cuts off so many of the last words.
+fn cut(m: &mut Memory) -> &mut Memory {
     let words = get(m, HAND);
+    let last = get(m, FROM);
     if words < last {
         return fault(m, texts::NO_SUCH_WORDS);
     }
     put(m, HAND, words - last)
-}
-
-// `cut 3`.
-fn cut(m: &mut Memory) -> &mut Memory {
-    let m = scanner::number_to(m, FROM, 6420);
-    let last = get(m, FROM);
-    shorten(m, last)
 }
 
 // `seal`.
@@ -135,11 +124,6 @@ fn sealed(m: &mut Memory) -> &mut Memory {
 fn take_frame(m: &mut Memory) -> &mut Memory {
     let place = frame_place(m, TAKEN_FRAME);
     memory::copy_counted(m, place, HAND)
-}
-
-// `words`.
-fn no_words(m: &mut Memory) -> &mut Memory {
-    put(put(m, HAND, 0), OWN_WORDS, 1)
 }
 
 // A form that has no name: words that are repeated, or one word.
@@ -155,13 +139,13 @@ fn plain_form(m: &mut Memory) -> &mut Memory {
 fn change(m: &mut Memory, name: u64) -> &mut Memory {
     match name {
         // words
-        0x77_6f72_6473 => no_words(m),
+        0x77_6f72_6473 => put(put(m, HAND, 0), OWN_WORDS, 1),
         // word
         0x776f_7264 => replaced(m),
         // cut
-        0x63_7574 => cut(m),
+        0x63_7574 => cut(scanner::number_to(m, FROM, 6420)),
         // sums
-        0x7375_6d73 => sealed(shorten(m, 2)),
+        0x7375_6d73 => sealed(cut(put(m, FROM, 2))),
         // seal
         0x7365_616c => sealed(m),
         // same
@@ -195,9 +179,9 @@ pub fn read(m: &mut Memory) -> &mut Memory {
 // Takes the latest frame, or no words where none was sent.
 pub fn take_latest(m: &mut Memory) -> &mut Memory {
     let sent = get(m, SENT);
-    let m = put(put(m, CHANGES, 0), OWN_WORDS, 0);
+    let m = put(put(put(m, CHANGES, 0), OWN_WORDS, 0), HAND, 0);
     if sent == 0 {
-        return no_words(m);
+        return put(m, OWN_WORDS, 1);
     }
     take_frame(put(m, TAKEN_FRAME, sent - 1))
 }

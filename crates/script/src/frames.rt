@@ -29,8 +29,8 @@ use terminal::output::say_each;
 use terminal::scanner;
 use token::VisitAnswer;
 
-// Keeps the outgoing words as the next frame.
-fn keep_frame(m: &mut Memory) -> &mut Memory {
+// Keeps the outgoing words as the next frame, which is then said by a text.
+pub fn send(m: &mut Memory, text: u32) -> &mut Memory {
     let place = frame_place(m, SENT);
     let m = copy(
         memory::copy_counted(m, OUTGOING, place),
@@ -38,18 +38,13 @@ fn keep_frame(m: &mut Memory) -> &mut Memory {
         SENT_FRAME,
         1,
     );
-    memory::add(m, SENT, 1)
-}
-
-// The same, which is then said by a text.
-pub fn send(m: &mut Memory, text: u32) -> &mut Memory {
-    words::say_words(say(keep_frame(m), text), OUTGOING)
+    words::say_words(say(memory::add(m, SENT, 1), text), OUTGOING)
 }
 
 // `start`. A refusal must change nothing.
 pub fn start(m: &mut Memory) -> &mut Memory {
-    let m = changes::note_behind_frame(calls::start(m));
-    let m = answers::answer(say(m, texts::START));
+    let m = say(changes::note_behind(calls::start(m)), texts::START);
+    let m = answers::say_answer(answers::count_call(m));
     if answers::is_accepted(m) {
         say(send(m, texts::START_SENDS), texts::OTHER_WORDS)
     } else {
@@ -68,16 +63,12 @@ fn visit_of(m: &Memory) -> u64 {
     }
 }
 
-// Both calls of the frame reader, and their answer.
-fn read_both(m: &mut Memory) -> &mut Memory {
-    let m = calls::read_frame(m);
-    let answer = visit_of(m);
-    answers::answer(answers::note(copy(m, OUTGOING, WORDS, 1), answer))
-}
-
-// `read`. The part of a frame that is refused must be empty.
+// `read`: both calls of the frame reader. The part of a frame that is refused must be empty.
 pub fn read(m: &mut Memory) -> &mut Memory {
-    let m = read_both(say(m, texts::READ));
+    let m = calls::read_frame(say(m, texts::READ));
+    let answer = visit_of(m);
+    let m = answers::note(copy(m, OUTGOING, WORDS, 1), answer);
+    let m = answers::say_answer(answers::count_call(m));
     if answers::is_accepted(m) {
         say(words::say_words(m, OUTGOING), texts::LINE_END)
     } else {

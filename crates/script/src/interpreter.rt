@@ -3,19 +3,26 @@
 use crate::desks;
 use crate::forms;
 use crate::frames;
+use crate::layout::BEFORE;
 use crate::layout::DESK;
 use crate::layout::DESK_SIZE;
 use crate::layout::DESKS;
+use crate::layout::DONE;
+use crate::layout::FROM;
 use crate::layout::HAND;
 use crate::layout::LENT;
 use crate::layout::LENT_NEXT;
 use crate::layout::PLAN;
 use crate::layout::REFUSED;
+use crate::layout::REQUESTED;
 use crate::layout::SENT;
 use crate::layout::SENT_FRAME;
 use crate::layout::SHOWN;
 use crate::layout::STATE;
-use crate::layout::to_desk;
+use crate::layout::TO;
+use crate::layout::install_marks;
+use crate::layout::keep_desk;
+use crate::layout::take_desk;
 use crate::loans;
 use crate::operations;
 use crate::plans;
@@ -38,6 +45,7 @@ use terminal::output;
 use terminal::output::say;
 use terminal::output::say_each;
 use terminal::scanner;
+use terminal::scanner::number_to;
 
 // The names of the commands, the bytes of each as one number.
 const PLAN_NAME: u64 = 0x706c_616e;
@@ -74,9 +82,9 @@ const SHOW: u64 = 0x7368_6f77;
 
 const FRAME: u64 = 0x66_7261_6d65;
 
-// Everything as at the beginning, but for the counts.
+// Everything as at the beginning, but for the counts: no desk is made, nor the one at hand.
 fn reset(m: &mut Memory) -> &mut Memory {
-    let m = memory::fill(m, DESKS, DESK_SIZE * 8 - 1, 0);
+    let m = memory::fill(m, DESKS, DESK_SIZE * 9 - 1, 0);
     loans::put_all(put(put(m, PLAN, 0), SENT, 0), LENT)
 }
 
@@ -104,15 +112,23 @@ fn read_rest(m: &mut Memory, name: u64) -> &mut Memory {
     match name {
         PLAN_NAME => forms::read(put(m, HAND, 0)),
         CLASS => operations::read(m),
-        DESK_NAME => scanner::number_to(m, DESK, scanner::WORD),
+        DESK_NAME => take_desk(number_to(m, DESK, scanner::WORD)),
         REQUEST => operations::read_of_client(desks::read_made(m)),
         VISIT => forms::read(forms::take_latest(desks::read_made(m))),
         PASS => visits::read_pass(m),
         READ => forms::read(forms::take_latest(m)),
         STATE_NAME => desks::read_state(m),
-        CELL => desks::read_cell(m),
-        CELLS => desks::read_cells(m),
-        RECORDS => desks::read_records(m),
+        CELL => number_to(
+            number_to(desks::read_made(m), FROM, 1039),
+            TO,
+            scanner::WORD,
+        ),
+        CELLS => scanner::keep_number(desks::read_seed(desks::read_made(m)), scanner::WORD),
+        RECORDS => operations::read_of_client(number_to(
+            number_to(desks::read_made(m), FROM, 33),
+            TO,
+            33,
+        )),
         LEND => loans::read_sizes(loans::put_all(m, LENT_NEXT)),
         SHOW => read_show(m),
         SAY => say(
@@ -144,7 +160,7 @@ fn perform(m: &mut Memory, name: u64) -> &mut Memory {
         VISIT => visits::visit(m),
         PASS => visits::pass(m),
         READ => frames::read(m),
-        STATE_NAME => to_desk(m, ITEM, STATE, 5),
+        STATE_NAME => memory::copy(m, ITEM, BEFORE + STATE, 5),
         CELL => desks::set_cell(m),
         CELLS => desks::set_cells(m),
         RECORDS => desks::set_records(m),
@@ -166,8 +182,8 @@ fn run_words(m: &mut Memory) -> &mut Memory {
     let m = scanner::next_word(m);
     let name = scanner::name(m);
     let m = scanner::close(read_rest(m, name));
-    if scanner::is_good(m) {
-        perform(m, name)
+    if get(m, FAULT) == 0 {
+        keep_desk(perform(m, name))
     } else {
         say_fault(m)
     }
@@ -212,16 +228,15 @@ fn take_block<'a>(m: &'a mut Memory, block: &[u8]) -> &'a mut Memory {
     m
 }
 
-// Runs a last line that no line feed ends.
-fn run_last(m: &mut Memory) -> &mut Memory {
+// Runs a last line that no line feed ends, and says the counts.
+fn finish(m: &mut Memory) -> &mut Memory {
     let lines = line::open_lines(m);
-    run_whole(memory::add(m, LINES, lines))
-}
-
-// The counts.
-fn say_counts(m: &mut Memory) -> &mut Memory {
-    let m = say_each(say(m, texts::COUNTS), texts::REFUSED_COUNT, REFUSED, 1, 16);
-    say(m, texts::ANSWER_COUNTS)
+    let m = run_whole(memory::add(m, LINES, lines));
+    let m = say(memory::copy(m, REQUESTED, DONE, 4), texts::COUNTS);
+    say(
+        say_each(m, texts::REFUSED_COUNT, REFUSED, 1, 16),
+        texts::ANSWER_COUNTS,
+    )
 }
 
 // Reads the next bytes of the script, runs the lines that they end and writes what is said to them; whether there were any.
@@ -236,11 +251,11 @@ fn run_block(m: &mut Memory) -> bool {
 // Reads a script from standard input, and writes what is said to it.
 pub fn run() {
     let mut m = [0u32; 540672];
-    line::clear(reset(texts::install(&mut m)));
+    line::clear(reset(install_marks(texts::install(&mut m))));
     for _turn in 0..0xffff_ffff_ffffusize {
         if !run_block(&mut m) {
             break;
         }
     }
-    output::flush(say_counts(run_last(&mut m)));
+    output::flush(finish(&mut m));
 }

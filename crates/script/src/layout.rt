@@ -2,7 +2,9 @@
 use terminal::Memory;
 use terminal::memory;
 use terminal::memory::get;
+use terminal::memory::narrow;
 use terminal::memory::on;
+use terminal::memory::put;
 
 // Registers for what is counted. A: calls. B: refusals. C: refusals that changed something. D: requests that were not refused, and
 // of these E done, F declined, G waiting, H elsewhere. I: visits that were not refused, J their replies, K those with several, L those of
@@ -97,8 +99,13 @@ pub const LENT_REPLIES: usize = 27;
 
 pub const LENT_NEXT: usize = 28;
 
-// Calls by the question that refused them; in front, those that were not refused.
+// Calls by the text of their answer. Of these, calls by the question that refused them, and in front those that no question did; and
+// requests by what became of them.
+pub const ANSWERED: usize = 144;
+
 pub const REFUSED: usize = 160;
+
+pub const REQUESTED: usize = 194;
 
 // The plan, the words of the line and the outgoing words of a call: a number of words, and these behind it.
 pub const PLAN: usize = 86272;
@@ -116,12 +123,14 @@ pub const FRAME_SIZE: usize = 6424;
 
 pub const FRAMES_KEPT: u32 = 64;
 
-// The desks, and behind them what a call leaves of one.
+// The desks, and behind them the desk at hand, on which commands work; and what a call leaves of it.
 pub const DESKS: usize = 99136;
 
 pub const DESK_SIZE: usize = 1280;
 
-pub const AFTER: usize = 109376;
+pub const BEFORE: usize = 109376;
+
+pub const AFTER: usize = 530432;
 
 // Of a desk: its cells, its records, and whether it is made with its state: desk, waiting, awaited low and high.
 pub const CELL_COUNT: usize = 1040;
@@ -135,28 +144,43 @@ pub const REPLIES: usize = 528224;
 
 pub const REPLIES_SIZE: usize = 112;
 
-// What word i of the lent buffers holds before a call, less i.
-pub const MARK: u32 = 0xf0f0_0000;
+// What the lent buffers hold before a call: word i is the first, and i.
+pub const MARKS: usize = 532480;
 
-// So many words on in the desk at hand.
-pub fn here(m: &Memory, words: usize) -> usize {
-    on(on(DESKS, (get(m, DESK) % 8) as usize * DESK_SIZE), words)
+pub const FIRST_MARK: u32 = 0xf0f0_0000;
+
+// Puts the marks in their place.
+pub fn install_marks(m: &mut Memory) -> &mut Memory {
+    for i in 0..MOST_WORDS {
+        put(
+            m,
+            on(MARKS, i),
+            std::num::wrapping_add_u32(FIRST_MARK, narrow(i)),
+        );
+    }
+    m
 }
 
-// Copies words to the desk at hand, so many words on in it.
-pub fn to_desk(m: &mut Memory, from: usize, on: usize, words: usize) -> &mut Memory {
-    let place = here(m, on);
-    memory::copy(m, from, place, words)
+// Where the desk stands whose number is noted.
+fn desk_place(m: &Memory) -> usize {
+    on(DESKS, (get(m, DESK) % 8) as usize * DESK_SIZE)
+}
+
+// Takes the desk whose number is noted to hand.
+pub fn take_desk(m: &mut Memory) -> &mut Memory {
+    let place = desk_place(m);
+    memory::copy(m, place, BEFORE, DESK_SIZE)
+}
+
+// Puts the desk at hand back.
+pub fn keep_desk(m: &mut Memory) -> &mut Memory {
+    let place = desk_place(m);
+    memory::copy(m, BEFORE, place, DESK_SIZE)
 }
 
 // Whether the desk at hand is made.
 pub fn is_made(m: &Memory) -> bool {
-    0 < get(m, here(m, STATE))
-}
-
-// Where record i of the desk at hand stands.
-pub fn record_place(m: &Memory, i: usize) -> usize {
-    here(m, on(RECORDS, i % 64 * 6))
+    0 < get(m, BEFORE + STATE)
 }
 
 // Where the frame stands whose number is at a place.

@@ -22,18 +22,12 @@ use terminal::memory::wide;
 use terminal::output::say;
 use terminal::output::say_each;
 
-// The plan reader's answer: 0, or the question.
-fn verdict(m: &Memory) -> u32 {
+// The plan reader's answer.
+fn verdict(m: &Memory) -> u64 {
     match plan::read_plan(counted(m, PLAN)) {
-        PlanAnswer::Accepted => 0,
-        PlanAnswer::Refused(question) => question,
+        PlanAnswer::Accepted => answers::refused(0),
+        PlanAnswer::Refused(question) => answers::refused(question),
     }
-}
-
-// Asks the plan reader.
-fn ask(m: &mut Memory) -> &mut Memory {
-    let question = verdict(m);
-    answers::refuse(m, question)
 }
 
 // The plan reader's line.
@@ -44,8 +38,9 @@ fn say_verdict(m: &mut Memory) -> &mut Memory {
 
 // `plan`.
 pub fn hold(m: &mut Memory) -> &mut Memory {
-    let m = ask(memory::copy_counted(m, HAND, PLAN));
-    say_verdict(answers::count_call(m))
+    let m = memory::copy_counted(m, HAND, PLAN);
+    let answer = verdict(m);
+    say_verdict(answers::count_call(answers::note(m, answer)))
 }
 
 // The classifier's answer to the operation at hand.
@@ -62,7 +57,7 @@ fn class_of(m: &Memory) -> u64 {
 pub fn class(m: &mut Memory) -> &mut Memory {
     let m = say(m, texts::OPERATION);
     let answer = class_of(m);
-    answers::answer(answers::note(m, answer))
+    answers::say_answer(answers::count_call(answers::note(m, answer)))
 }
 
 // Transaction t, whose word stands at a place, with its steps.
@@ -87,7 +82,8 @@ fn say_transactions(m: &mut Memory) -> &mut Memory {
 
 // `show plan`.
 pub fn show(m: &mut Memory) -> &mut Memory {
-    let m = say_verdict(ask(m));
+    let answer = verdict(m);
+    let m = say_verdict(answers::note(m, answer));
     if answers::is_accepted(m) {
         say_transactions(m)
     } else {

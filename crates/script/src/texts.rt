@@ -26,6 +26,8 @@ pub const NOTHING_TO_LEND: u32 = 15;
 
 pub const QUESTIONS: u32 = 16;
 
+pub const LAST_QUESTION: u32 = 31;
+
 pub const BAD_LINE: u32 = 32;
 
 pub const LONG_LINE: u32 = 33;

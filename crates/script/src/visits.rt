@@ -4,6 +4,7 @@ use crate::calls;
 use crate::changes;
 use crate::forms;
 use crate::frames;
+use crate::layout::ANSWER;
 use crate::layout::CHANGED_FRAMES;
 use crate::layout::CHANGES;
 use crate::layout::DESK;
@@ -13,6 +14,7 @@ use crate::layout::LONGEST_TAKEN;
 use crate::layout::OTHER_WORDS;
 use crate::layout::OUTGOING;
 use crate::layout::REPLIES;
+use crate::layout::REQUESTS;
 use crate::layout::SEVERAL_REPLIES;
 use crate::layout::TO;
 use crate::layout::VALUE;
@@ -20,7 +22,10 @@ use crate::layout::VISIT;
 use crate::layout::VISIT_REPLIES;
 use crate::layout::VISITS;
 use crate::layout::is_made;
+use crate::layout::keep_desk;
+use crate::layout::take_desk;
 use crate::texts;
+use crate::texts::LAST_QUESTION;
 use terminal::Memory;
 use terminal::memory;
 use terminal::memory::QUIET;
@@ -36,23 +41,27 @@ use terminal::scanner;
 // `request 1 client 9 T0 5 9`.
 pub fn request(m: &mut Memory) -> &mut Memory {
     let m = put(calls::request(m), OTHER_WORDS, 0);
-    changes::say_all(answers::answer(say(m, texts::REQUEST)))
+    let m = say(
+        count_above(m, REQUESTS, ANSWER, LAST_QUESTION),
+        texts::REQUEST,
+    );
+    changes::say_all(answers::say_answer(answers::count_call(m)))
 }
 
-// Counts a visit with its replies and its frames, the one taken and the one sent.
-fn count(m: &mut Memory) -> &mut Memory {
+// The replies of a visit, and the frame that it sends. Counts it with its replies and its frames, the one taken and the one sent.
+fn accept(m: &mut Memory) -> &mut Memory {
     let replies = get(m, VALUE);
     let m = add(add(m, VISITS, 1), VISIT_REPLIES, replies);
     let m = count_above(m, SEVERAL_REPLIES, VALUE, 1);
     let m = count_above(m, CHANGED_FRAMES, CHANGES, 0);
-    raise(raise(m, LONGEST_TAKEN, HAND), LONGEST_SENT, OUTGOING)
-}
-
-// The replies of a visit, and the frame that it sends.
-fn accept(m: &mut Memory) -> &mut Memory {
-    let replies = get(m, VALUE) as usize;
-    let m = say(count(m), texts::REPLIES);
-    let m = say_each(m, texts::REPLY, REPLIES, 3, replies);
+    let m = raise(raise(m, LONGEST_TAKEN, HAND), LONGEST_SENT, OUTGOING);
+    let m = say_each(
+        say(m, texts::REPLIES),
+        texts::REPLY,
+        REPLIES,
+        3,
+        replies as usize,
+    );
     frames::send(m, texts::VISIT_SENDS)
 }
 
@@ -85,7 +94,7 @@ fn addressed(m: &Memory) -> u32 {
 fn take_token(m: &mut Memory) -> &mut Memory {
     let m = forms::take_latest(m);
     let desk = addressed(m);
-    put(m, DESK, desk)
+    take_desk(put(m, DESK, desk))
 }
 
 // `pass 3`, as a line writes it.
@@ -95,22 +104,17 @@ pub fn read_pass(m: &mut Memory) -> &mut Memory {
     scanner::number_to(scanner::demand(m, is_there, texts::NOT_MADE), TO, 1000000)
 }
 
-// The token goes on by one visit, if the desk is made; without an answer where it is quiet.
+// The token goes on by one visit, if the desk is made; without an answer where this is not 0.
 fn pass_once(m: &mut Memory, quiet: u32) -> &mut Memory {
     let m = take_token(put(m, QUIET, quiet));
-    if is_made(m) { visit(m) } else { m }
-}
-
-// 1 where a word is above another, else 0.
-fn is_above(word: u32, other: u32) -> u32 {
-    if other < word { 1 } else { 0 }
+    if is_made(m) { keep_desk(visit(m)) } else { m }
 }
 
 // `pass 3`: only the last visit is answered.
 pub fn pass(m: &mut Memory) -> &mut Memory {
     let visits = get(m, TO);
     for i in 0..visits {
-        pass_once(m, is_above(visits, std::num::wrapping_add_u32(i, 1)));
+        pass_once(m, visits - 1 - i);
     }
     m
 }

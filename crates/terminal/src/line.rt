@@ -37,20 +37,15 @@ pub fn append(m: &mut Memory, byte: u32) -> &mut Memory {
     put(put(m, on(LINE, at), byte), LINE_LENGTH, narrow(on(at, 1)))
 }
 
-// The place of the last byte, or of the 0 before the line.
-fn last(m: &Memory) -> usize {
-    on(LINE - 1, length(m))
-}
-
-// Whether the last byte says that the line goes on.
+// Whether the last byte says that the line goes on; where there is none, the 0 before the line is looked at.
 pub fn goes_on(m: &Memory) -> bool {
-    get(m, last(m)) == 92
+    get(m, on(LINE - 1, length(m))) == 92
 }
 
 // The line goes on; its last byte is a space then.
 pub fn join(m: &mut Memory) -> &mut Memory {
-    let at = last(m);
-    memory::copy(put(m, at, 32), LINE_LENGTH, LINE_JOINED, 1)
+    let last = on(LINE - 1, length(m));
+    memory::copy(put(m, last, 32), LINE_LENGTH, LINE_JOINED, 1)
 }
 
 // An empty line, whose number is the next one.

@@ -32,18 +32,12 @@ use crate::memory::narrow;
 use crate::memory::on;
 use crate::memory::put;
 
-// The text that is kept, as bytes.
-fn kept(m: &Memory) -> [u8; 16384] {
+// Writes the text that is kept.
+fn write_kept(m: &Memory) {
     let mut block = [0u8; 16384];
     for i in 0..16384usize {
         block[i] = (get(m, on(OUTPUT, i)) % 256) as u8;
     }
-    block
-}
-
-// Writes the text that is kept.
-fn write_kept(m: &Memory) {
-    let block = kept(m);
     let length = (get(m, OUTPUT_LENGTH) % 16385) as usize;
     io::write_all(1, &block[..length]);
 }
@@ -70,19 +64,14 @@ fn word_of(byte: u8) -> u32 {
     byte as u32
 }
 
-// Bytes.
-fn bytes<'a>(m: &'a mut Memory, bytes: &[u8]) -> &'a mut Memory {
-    for i in 0..bytes.len() {
-        byte(m, word_of(bytes[i]));
-    }
-    m
-}
-
 // A number in decimal.
 fn decimal(m: &mut Memory, n: u64) -> &mut Memory {
     let mut digits = [0u8; 20];
-    let length = io::decimal(n, &mut digits);
-    bytes(put(m, WRITTEN, memory::low(n)), &digits[..length])
+    let length = io::decimal(n, &mut digits) % 21;
+    for i in 0..length {
+        byte(m, word_of(digits[i]));
+    }
+    put(m, WRITTEN, memory::low(n))
 }
 
 // The digit of four bits.

@@ -32,14 +32,9 @@ pub const TOO_MUCH: u32 = 5;
 // The largest word.
 pub const WORD: u64 = 0xffff_ffff;
 
-// Whether the line had no fault.
-pub fn is_good(m: &Memory) -> bool {
-    get(m, FAULT) == 0
-}
-
 // Notes a fault at the word at hand, and the largest number that is expected there.
 pub fn fault(m: &mut Memory, text: u32) -> &mut Memory {
-    if is_good(m) {
+    if get(m, FAULT) == 0 {
         copy(
             copy(put(m, FAULT, text), WORD_NUMBER, FAULT_WORD, 1),
             BOUND,
@@ -137,44 +132,35 @@ fn extended(value: u64, digit: u64, base: u64) -> u64 {
     std::num::wrapping_add_u64(shifted, digit)
 }
 
-// Whether the word at hand is a number up to the bound.
-fn is_number(m: &Memory, base: u64) -> bool {
+// What the word at hand is: a number up to a bound, or else 0.
+struct Scanned {
+    is_number: bool,
+    value: u64,
+}
+
+// The word at hand as a number in a base, up to a bound.
+fn scan(m: &Memory, base: u64, most: u64) -> Scanned {
     let mut value: u64 = 0;
     for i in start(m)..end(m) {
         let digit = digit(byte_at(m, i), base);
-        if !fits(value, digit, base, memory::get_wide(m, BOUND)) {
-            return false;
+        if !fits(value, digit, base, most) {
+            return Scanned {
+                is_number: false,
+                value: 0,
+            };
         }
         value = extended(value, digit, base);
     }
-    start(m) < end(m)
-}
-
-// The number that the word at hand is.
-fn value(m: &Memory, base: u64) -> u64 {
-    let mut value: u64 = 0;
-    for i in start(m)..end(m) {
-        value = extended(value, digit(byte_at(m, i), base), base);
+    Scanned {
+        is_number: start(m) < end(m),
+        value: value,
     }
-    value
-}
-
-// Whether the word at hand has 1 to 8 bytes.
-fn is_short(m: &Memory) -> bool {
-    let end = end(m);
-    let start = start(m);
-    if end <= start {
-        return false;
-    }
-    end <= on(start, 8)
 }
 
 // The bytes of the word at hand as one number, the last lowest; 0 for more than eight bytes.
 pub fn name(m: &Memory) -> u64 {
-    if !is_short(m) {
-        return 0;
-    }
-    value(m, 256)
+    let scanned = scan(m, 256, 0xffff_ffff_ffff_ffff);
+    scanned.value
 }
 
 // The next word is this name, or else the text is its fault.
@@ -184,19 +170,21 @@ pub fn expect(m: &mut Memory, expected: u64, otherwise: u32) -> &mut Memory {
     demand(m, is_there, otherwise)
 }
 
-// The word at hand is a number up to the bound, which is kept, or else the text is its fault and 0 is kept.
-fn keep(m: &mut Memory, base: u64, otherwise: u32) -> &mut Memory {
-    if is_number(m, base) {
-        let number = value(m, base);
-        put_wide(m, NUMBER, number)
-    } else {
-        fault(put_wide(m, NUMBER, 0), otherwise)
-    }
+// The word at hand is a number up to a bound, which is kept, or else the text is its fault and 0 is kept.
+fn keep(m: &mut Memory, base: u64, most: u64, otherwise: u32) -> &mut Memory {
+    let scanned = scan(m, base, most);
+    let is_number = scanned.is_number;
+    let value = scanned.value;
+    demand(
+        put_wide(put_wide(m, BOUND, most), NUMBER, value),
+        is_number,
+        otherwise,
+    )
 }
 
 // The word at hand is a number up to a bound, which is kept.
 pub fn keep_number(m: &mut Memory, most: u64) -> &mut Memory {
-    keep(put_wide(m, BOUND, most), 10, NO_NUMBER)
+    keep(m, 10, most, NO_NUMBER)
 }
 
 // The next word is a number up to a bound, which goes to a place.
@@ -206,25 +194,16 @@ pub fn number_to(m: &mut Memory, place: usize, most: u64) -> &mut Memory {
 
 // The word at hand is a word of 1 to 8 hexadecimal digits, which is kept.
 pub fn keep_word(m: &mut Memory) -> &mut Memory {
-    let is_short = is_short(m);
-    keep(
-        demand(put_wide(m, BOUND, WORD), is_short, NO_WORD),
-        16,
-        NO_WORD,
-    )
+    let is_short = end(m) <= on(start(m), 8);
+    keep(demand(m, is_short, NO_WORD), 16, WORD, NO_WORD)
 }
 
 // The next word is a transaction, T and a number, which goes to a place.
 pub fn transaction_to(m: &mut Memory, place: usize) -> &mut Memory {
     let m = next_word(m);
     let has_t = first(m) == 84;
-    let m = memory::add(put_wide(m, BOUND, WORD), WORD_START, 1);
-    copy(
-        keep(demand(m, has_t, NO_TRANSACTION), 10, NO_TRANSACTION),
-        NUMBER,
-        place,
-        1,
-    )
+    let m = memory::add(demand(m, has_t, NO_TRANSACTION), WORD_START, 1);
+    copy(keep(m, 10, WORD, NO_TRANSACTION), NUMBER, place, 1)
 }
 
 // What stands behind the last word is a fault.

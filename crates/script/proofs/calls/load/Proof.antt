@@ -8,19 +8,16 @@ use Rattle.script.proofs.calls.load.Statement.{statement}
 use Rattle.script.proofs.calls.load.Tie as tie
 
 abbrev Inv-loop : tie.InvT-loop
-Inv-loop m place into₀ i₀ i-end into i = (i ≤ i-end) × (length into ≡ length into₀)
+Inv-loop words into₀ size i₀ i-end into i = (i ≤ i-end) × (length into ≡ length into₀)
 
 abbrev μ-loop : tie.MeasureT-loop
-μ-loop m place into₀ i₀ i-end into i = i-end - i
+μ-loop words into₀ size i₀ i-end into i = i-end - i
 
 loop-holds : tie.Need-loop-holds Inv-loop μ-loop
 loop-holds c = search needs
 
-on-requires : tie.Need-on-requires Inv-loop μ-loop
-on-requires c κs = search needs
-
-get-requires : tie.Need-get-requires Inv-loop μ-loop
-get-requires c κs = search needs
+word-at-requires : tie.Need-word-at-requires Inv-loop μ-loop
+word-at-requires c κs = search needs
 
 mul-into : tie.Need-mul-into Inv-loop μ-loop
 mul-into c = search needs
@@ -37,8 +34,8 @@ loop-less c = search needs
 loop-again : tie.Need-loop-again Inv-loop μ-loop
 loop-again c = search needs
 
-same-length : tie.Need-same-length Inv-loop μ-loop
-same-length c = search needs
+front-requires : tie.Need-front-requires Inv-loop μ-loop
+front-requires c κs = search needs
 
 returns : tie.Need-returns Inv-loop μ-loop
 returns c = search needs
@@ -50,12 +47,11 @@ load-spec =
     Inv-loop
     μ-loop
     loop-holds
-    on-requires
-    get-requires
+    word-at-requires
     mul-into
     slice-write-into
     add-i
     loop-less
     loop-again
-    same-length
+    front-requires
     returns)

@@ -6,25 +6,25 @@ use Rattle.script.proofs.desks.set_cells.Statement.{statement}
 use Rattle.script.proofs.desks.set_cells.Tie as tie
 
 abbrev Inv-loop : tie.InvT-loop
-Inv-loop m₀ x₀ i₀ m x i = i ≤ 1040
+Inv-loop m₀ is-drawn x₀ i₀ m x i = i ≤ 1040
 
 abbrev μ-loop : tie.MeasureT-loop
-μ-loop m₀ x₀ i₀ m x i = 1040 - i
+μ-loop m₀ is-drawn x₀ i₀ m x i = 1040 - i
 
 get-requires : tie.Need-get-requires Inv-loop μ-loop
 get-requires c κs = search needs
 
-loop-holds : tie.Need-loop-holds Inv-loop μ-loop
-loop-holds c = search needs
-
 get-requires-2 : tie.Need-get-requires-2 Inv-loop μ-loop
 get-requires-2 c κs = search needs
+
+loop-holds : tie.Need-loop-holds Inv-loop μ-loop
+loop-holds c = search needs
 
 next-cell-requires : tie.Need-next-cell-requires Inv-loop μ-loop
 next-cell-requires c κs = search needs
 
-here-requires : tie.Need-here-requires Inv-loop μ-loop
-here-requires c κs = search needs
+on-requires : tie.Need-on-requires Inv-loop μ-loop
+on-requires c κs = search needs
 
 put-requires : tie.Need-put-requires Inv-loop μ-loop
 put-requires c κs = search needs
@@ -48,10 +48,10 @@ set-cells-spec =
     Inv-loop
     μ-loop
     get-requires
-    loop-holds
     get-requires-2
+    loop-holds
     next-cell-requires
-    here-requires
+    on-requires
     put-requires
     add-i
     loop-less

@@ -26,8 +26,20 @@ cast-i-end c = search needs
 loop-holds : tie.Need-loop-holds Inv-loop μ-loop
 loop-holds c = search needs
 
-set-record-requires : tie.Need-set-record-requires Inv-loop μ-loop
-set-record-requires c κs = search needs
+add-on : tie.Need-add-on Inv-loop μ-loop
+add-on c = search needs
+
+mul-on : tie.Need-mul-on Inv-loop μ-loop
+mul-on c = search needs
+
+on-requires : tie.Need-on-requires Inv-loop μ-loop
+on-requires c κs = search needs
+
+copy-requires : tie.Need-copy-requires Inv-loop μ-loop
+copy-requires c κs = search needs
+
+add-requires : tie.Need-add-requires Inv-loop μ-loop
+add-requires c κs = search needs
 
 add-i : tie.Need-add-i Inv-loop μ-loop
 add-i c = search needs
@@ -52,7 +64,11 @@ set-records-spec =
     get-requires-2
     cast-i-end
     loop-holds
-    set-record-requires
+    add-on
+    mul-on
+    on-requires
+    copy-requires
+    add-requires
     add-i
     loop-less
     loop-again

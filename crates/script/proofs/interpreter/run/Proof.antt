@@ -14,6 +14,9 @@ abbrev μ-loop : tie.MeasureT-loop
 install-requires : tie.Need-install-requires Inv-loop μ-loop
 install-requires c κs = search needs
 
+install-marks-requires : tie.Need-install-marks-requires Inv-loop μ-loop
+install-marks-requires c κs = search needs
+
 reset-requires : tie.Need-reset-requires Inv-loop μ-loop
 reset-requires c κs = search needs
 
@@ -35,11 +38,8 @@ loop-less c = search needs
 loop-again : tie.Need-loop-again Inv-loop μ-loop
 loop-again c = search needs
 
-run-last-requires : tie.Need-run-last-requires Inv-loop μ-loop
-run-last-requires c κs = search needs
-
-say-counts-requires : tie.Need-say-counts-requires Inv-loop μ-loop
-say-counts-requires c κs = search needs
+finish-requires : tie.Need-finish-requires Inv-loop μ-loop
+finish-requires c κs = search needs
 
 flush-requires : tie.Need-flush-requires Inv-loop μ-loop
 flush-requires c κs = search needs
@@ -54,6 +54,7 @@ run-spec =
     Inv-loop
     μ-loop
     install-requires
+    install-marks-requires
     reset-requires
     clear-requires
     loop-holds
@@ -61,7 +62,6 @@ run-spec =
     add--turn
     loop-less
     loop-again
-    run-last-requires
-    say-counts-requires
+    finish-requires
     flush-requires
     returns)

@@ -17,11 +17,11 @@ get-requires c κs = search needs
 loop-holds : tie.Need-loop-holds Inv-loop μ-loop
 loop-holds c = search needs
 
-wrapping-add-u32-requires : tie.Need-wrapping-add-u32-requires Inv-loop μ-loop
-wrapping-add-u32-requires c κs = search needs
+sub-pass-once : tie.Need-sub-pass-once Inv-loop μ-loop
+sub-pass-once c = search needs
 
-is-above-requires : tie.Need-is-above-requires Inv-loop μ-loop
-is-above-requires c κs = search needs
+sub-pass-once-2 : tie.Need-sub-pass-once-2 Inv-loop μ-loop
+sub-pass-once-2 c = search needs
 
 pass-once-requires : tie.Need-pass-once-requires Inv-loop μ-loop
 pass-once-requires c κs = search needs
@@ -46,8 +46,8 @@ pass-spec =
     μ-loop
     get-requires
     loop-holds
-    wrapping-add-u32-requires
-    is-above-requires
+    sub-pass-once
+    sub-pass-once-2
     pass-once-requires
     add-i
     loop-less

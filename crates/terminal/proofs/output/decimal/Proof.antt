@@ -1,21 +1,24 @@
--- `terminal::output::bytes` is safe and ends.
+-- `terminal::output::decimal` is safe and ends.
 -- Assumes nothing.
 use Prim.Native.Nat.{_-_, _≤_}
 use borrow.Author.Needs.{needs}
-use Rattle.terminal.proofs.output.bytes.Statement.{statement}
-use Rattle.terminal.proofs.output.bytes.Tie as tie
+use Rattle.terminal.proofs.output.decimal.Statement.{statement}
+use Rattle.terminal.proofs.output.decimal.Tie as tie
 
 abbrev Inv-loop : tie.InvT-loop
-Inv-loop m₀ bytes i₀ i-end m i = i ≤ i-end
+Inv-loop m₀ n digits count i₀ m i = (i ≤ count) × (count ≤ 20)
 
 abbrev μ-loop : tie.MeasureT-loop
-μ-loop m₀ bytes i₀ i-end m i = i-end - i
+μ-loop m₀ n digits count i₀ m i = count - i
+
+decimal-requires : tie.Need-decimal-requires Inv-loop μ-loop
+decimal-requires c κs = search needs
 
 loop-holds : tie.Need-loop-holds Inv-loop μ-loop
 loop-holds c = search needs
 
-shared-slice-read-word-of : tie.Need-shared-slice-read-word-of Inv-loop μ-loop
-shared-slice-read-word-of c = search needs
+array-read-word-of : tie.Need-array-read-word-of Inv-loop μ-loop
+array-read-word-of c = search needs
 
 word-of-requires : tie.Need-word-of-requires Inv-loop μ-loop
 word-of-requires c κs = search needs
@@ -32,20 +35,29 @@ loop-less c = search needs
 loop-again : tie.Need-loop-again Inv-loop μ-loop
 loop-again c = search needs
 
+low-requires : tie.Need-low-requires Inv-loop μ-loop
+low-requires c κs = search needs
+
+put-requires : tie.Need-put-requires Inv-loop μ-loop
+put-requires c κs = search needs
+
 returns : tie.Need-returns Inv-loop μ-loop
 returns c = search needs
 
-pub bytes-spec : {M : Type 1} → statement M
-bytes-spec =
+pub decimal-spec : {M : Type 1} → statement M
+decimal-spec =
     tie.close
     (tie.spec
     Inv-loop
     μ-loop
+    decimal-requires
     loop-holds
-    shared-slice-read-word-of
+    array-read-word-of
     word-of-requires
     byte-requires
     add-i
     loop-less
     loop-again
+    low-requires
+    put-requires
     returns)

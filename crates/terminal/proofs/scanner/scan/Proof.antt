@@ -1,15 +1,15 @@
--- `terminal::scanner::is_number` is safe and ends.
+-- `terminal::scanner::scan` is safe and ends.
 -- Assumes nothing.
 use Prim.Native.Nat.{_-_, _≤_}
 use borrow.Author.Needs.{needs}
-use Rattle.terminal.proofs.scanner.is_number.Statement.{statement}
-use Rattle.terminal.proofs.scanner.is_number.Tie as tie
+use Rattle.terminal.proofs.scanner.scan.Statement.{statement}
+use Rattle.terminal.proofs.scanner.scan.Tie as tie
 
 abbrev Inv-loop : tie.InvT-loop
-Inv-loop m base value₀ i₀ i-end value i = 0 ≤ i
+Inv-loop m base most value₀ i₀ i-end value i = 0 ≤ i
 
 abbrev μ-loop : tie.MeasureT-loop
-μ-loop m base value₀ i₀ i-end value i = i-end - i
+μ-loop m base most value₀ i₀ i-end value i = i-end - i
 
 start-requires : tie.Need-start-requires Inv-loop μ-loop
 start-requires c κs = search needs
@@ -25,9 +25,6 @@ byte-at-requires c κs = search needs
 
 digit-requires : tie.Need-digit-requires Inv-loop μ-loop
 digit-requires c κs = search needs
-
-get-wide-requires : tie.Need-get-wide-requires Inv-loop μ-loop
-get-wide-requires c κs = search needs
 
 fits-requires : tie.Need-fits-requires Inv-loop μ-loop
 fits-requires c κs = search needs
@@ -56,8 +53,8 @@ end-requires-2 c κs = search needs
 returns-2 : tie.Need-returns-2 Inv-loop μ-loop
 returns-2 c = search needs
 
-pub is-number-spec : {M : Type 1} → statement M
-is-number-spec =
+pub scan-spec : {M : Type 1} → statement M
+scan-spec =
     tie.close
     (tie.spec
     Inv-loop
@@ -67,7 +64,6 @@ is-number-spec =
     loop-holds
     byte-at-requires
     digit-requires
-    get-wide-requires
     fits-requires
     returns
     extended-requires

@@ -1,15 +1,15 @@
--- `terminal::output::kept` is safe and ends.
+-- `script::layout::install_marks` is safe and ends.
 -- Assumes nothing.
 use Prim.Native.Nat.{_-_, _≤_}
 use borrow.Author.Needs.{needs}
-use Rattle.terminal.proofs.output.kept.Statement.{statement}
-use Rattle.terminal.proofs.output.kept.Tie as tie
+use Rattle.script.proofs.layout.install_marks.Statement.{statement}
+use Rattle.script.proofs.layout.install_marks.Tie as tie
 
 abbrev Inv-loop : tie.InvT-loop
-Inv-loop m block₀ i₀ block i = i ≤ 16384
+Inv-loop m₀ i₀ m i = i ≤ 6420
 
 abbrev μ-loop : tie.MeasureT-loop
-μ-loop m block₀ i₀ block i = 16384 - i
+μ-loop m₀ i₀ m i = 6420 - i
 
 loop-holds : tie.Need-loop-holds Inv-loop μ-loop
 loop-holds c = search needs
@@ -17,14 +17,14 @@ loop-holds c = search needs
 on-requires : tie.Need-on-requires Inv-loop μ-loop
 on-requires c κs = search needs
 
-get-requires : tie.Need-get-requires Inv-loop μ-loop
-get-requires c κs = search needs
+narrow-requires : tie.Need-narrow-requires Inv-loop μ-loop
+narrow-requires c κs = search needs
 
-cast-block : tie.Need-cast-block Inv-loop μ-loop
-cast-block c = search needs
+wrapping-add-u32-requires : tie.Need-wrapping-add-u32-requires Inv-loop μ-loop
+wrapping-add-u32-requires c κs = search needs
 
-array-write-block : tie.Need-array-write-block Inv-loop μ-loop
-array-write-block c = search needs
+put-requires : tie.Need-put-requires Inv-loop μ-loop
+put-requires c κs = search needs
 
 add-i : tie.Need-add-i Inv-loop μ-loop
 add-i c = search needs
@@ -38,17 +38,17 @@ loop-again c = search needs
 returns : tie.Need-returns Inv-loop μ-loop
 returns c = search needs
 
-pub kept-spec : {M : Type 1} → statement M
-kept-spec =
+pub install-marks-spec : {M : Type 1} → statement M
+install-marks-spec =
     tie.close
     (tie.spec
     Inv-loop
     μ-loop
     loop-holds
     on-requires
-    get-requires
-    cast-block
-    array-write-block
+    narrow-requires
+    wrapping-add-u32-requires
+    put-requires
     add-i
     loop-less
     loop-again
