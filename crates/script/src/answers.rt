@@ -37,11 +37,6 @@ pub fn note(m: &mut Memory, answer: u64) -> &mut Memory {
     )
 }
 
-// Whether the call was accepted.
-pub fn is_accepted(m: &Memory) -> bool {
-    get(m, QUESTION) == 0
-}
-
 // Counts the call by the text of its answer.
 pub fn count_call(m: &mut Memory) -> &mut Memory {
     let place = on(ANSWERED, get(m, ANSWER) as usize);

@@ -76,20 +76,10 @@ pub fn parameters(m: &Memory) -> [u32; 4] {
     ]
 }
 
-// The marks.
-fn marks(m: &Memory) -> &[u32] {
-    part(m, MARKS, MARKS + MOST_WORDS)
-}
-
-// The row of the desk at hand, as much of it as is lent: a number of words.
-fn lent_row(m: &Memory) -> usize {
-    (get(m, LENT_RECORDS) % 64) as usize * 6
-}
-
 // The request itself on copies of the cells and of the row, with as much lent as is set.
 fn ask(m: &Memory, cells: &mut [u32], row: &mut [u32]) -> RequestResult {
     let lent_cells = get(m, LENT_CELLS) as usize;
-    let lent_words = lent_row(m);
+    let lent_words = (get(m, LENT_RECORDS) % 64) as usize * 6;
     conveyor::request_on_words(
         counted(m, PLAN),
         desks::state(m),
@@ -136,16 +126,17 @@ pub fn request(m: &mut Memory) -> &mut Memory {
 // The visit itself by the words of the line, on a copy of the cells and on marked buffers, with as much lent as is set.
 fn pass(m: &Memory, cells: &mut [u32], out: &mut [u32], replies: &mut [u32]) -> VisitResult {
     let lent_cells = get(m, LENT_CELLS) as usize;
+    let lent_words = (get(m, LENT_RECORDS) % 64) as usize * 6;
     let lent_out = get(m, LENT_OUTGOING) as usize;
     let lent_replies = get(m, LENT_REPLIES) as usize;
     conveyor::visit_on_words(
         counted(m, PLAN),
         desks::state(m),
         load(part(m, BEFORE, BEFORE + CELL_COUNT), cells, lent_cells),
-        part(m, BEFORE + RECORDS, on(BEFORE + RECORDS, lent_row(m))),
+        part(m, BEFORE + RECORDS, BEFORE + RECORDS + lent_words),
         counted(m, HAND),
-        load(marks(m), out, lent_out),
-        load(marks(m), replies, lent_replies),
+        load(part(m, MARKS, MARKS + MOST_WORDS), out, lent_out),
+        load(part(m, MARKS, MARKS + REPLIES_SIZE), replies, lent_replies),
     )
 }
 
@@ -181,7 +172,7 @@ pub fn visit(m: &mut Memory) -> &mut Memory {
 // The starting frame in a marked buffer of the size that is set: 0, or the question.
 fn begin_frame(m: &Memory, out: &mut [u32]) -> u32 {
     let size = get(m, LENT_OUTGOING) as usize;
-    match token::starting_frame(load(marks(m), out, size)) {
+    match token::starting_frame(load(part(m, MARKS, MARKS + MOST_WORDS), out, size)) {
         token::StartAnswer::Written => 0,
         token::StartAnswer::Refused(question) => question,
     }

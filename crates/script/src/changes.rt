@@ -1,6 +1,5 @@
 // What a call changed of all that it was lent. The desk at hand still holds what was there before the call; what the call left of it
 // stands apart, and the lent buffers behind the frames.
-use crate::answers;
 use crate::layout::AFTER;
 use crate::layout::BEFORE;
 use crate::layout::CELL_COUNT;
@@ -48,23 +47,17 @@ fn unmarked(m: &Memory, place: usize, from: usize, words: usize) -> u32 {
     differences(m, on(place, from), on(MARKS, from), words - from)
 }
 
-// How many words changed behind the outgoing ones and the replies.
-fn changed_behind(m: &Memory) -> u32 {
-    std::num::wrapping_add_u32(
-        unmarked(m, OUTGOING + 1, get(m, OUTGOING) as usize, MOST_WORDS),
-        unmarked(m, REPLIES, (get(m, VALUE) % 64) as usize * 3, REPLIES_SIZE),
-    )
-}
-
 // Notes how many words changed behind the outgoing ones and the replies.
 pub fn note_behind(m: &mut Memory) -> &mut Memory {
-    let words = changed_behind(m);
-    put(m, OTHER_WORDS, words)
+    let words = unmarked(m, OUTGOING + 1, get(m, OUTGOING) as usize, MOST_WORDS);
+    let replies = (get(m, VALUE) % 64) as usize * 3;
+    let reply_words = unmarked(m, REPLIES, replies, REPLIES_SIZE);
+    memory::add(put(m, OTHER_WORDS, words), OTHER_WORDS, reply_words)
 }
 
 // Whether the call was refused and changed nothing, as it must be.
 fn is_idle(m: &Memory) -> bool {
-    if answers::is_accepted(m) {
+    if get(m, QUESTION) == 0 {
         return false;
     }
     std::num::wrapping_add_u32(

@@ -53,11 +53,6 @@ pub fn put_state(m: &mut Memory, place: usize, state: Desk) -> &mut Memory {
     memory::put_wide(m, on(place, 3), state.awaited)
 }
 
-// Asks for a new desk.
-fn ask(m: &Memory) -> DeskAnswer {
-    conveyor::new_desk(counted(m, PLAN), get(m, DESK))
-}
-
 // Notes what a new desk answers. The words of one that is made are zeros but for the state.
 fn note(m: &mut Memory, answer: DeskAnswer) -> &mut Memory {
     match answer {
@@ -73,7 +68,7 @@ fn note(m: &mut Memory, answer: DeskAnswer) -> &mut Memory {
 
 // `desk 0`.
 pub fn new_desk(m: &mut Memory) -> &mut Memory {
-    let answer = ask(m);
+    let answer = conveyor::new_desk(counted(m, PLAN), get(m, DESK));
     answers::say_answer(answers::count_call(note(m, answer)))
 }
 
@@ -99,7 +94,7 @@ pub fn read_state(m: &mut Memory) -> &mut Memory {
     // awaits
     let m = scanner::next_word(scanner::expect(m, 0x6177_6169_7473, texts::NO_AWAITS));
     copy(
-        scanner::keep_number(m, 0xffff_ffff_ffff_ffff),
+        scanner::keep(m, 10, 0xffff_ffff_ffff_ffff, scanner::NO_NUMBER),
         NUMBER,
         ITEM + 3,
         2,

@@ -26,9 +26,10 @@ use terminal::memory::narrow;
 use terminal::memory::on;
 use terminal::memory::put;
 use terminal::scanner;
+use terminal::scanner::NO_NUMBER;
 use terminal::scanner::demand;
 use terminal::scanner::fault;
-use terminal::scanner::keep_number;
+use terminal::scanner::keep;
 
 // So many words more, which stand from a place on, or a fault where they are too many.
 fn extend(m: &mut Memory, from: usize, words: usize) -> &mut Memory {
@@ -58,7 +59,7 @@ fn read_repetition(m: &mut Memory) -> &mut Memory {
     let middle = slash(m);
     let end = scanner::end(m);
     let m = memory::add(put(m, WORD_END, narrow(middle)), WORD_START, 1);
-    let m = copy(keep_number(m, 6420), NUMBER, FROM, 1);
+    let m = copy(keep(m, 10, 6420, NO_NUMBER), NUMBER, FROM, 1);
     if middle == end {
         return put(m, TO, 1);
     }
@@ -67,32 +68,31 @@ fn read_repetition(m: &mut Memory) -> &mut Memory {
         WORD_END,
         narrow(end),
     );
-    copy(keep_number(m, 6420), NUMBER, TO, 1)
+    copy(keep(m, 10, 6420, NO_NUMBER), NUMBER, TO, 1)
 }
 
-// Whether words can be repeated after a period.
-fn has_period(m: &Memory) -> bool {
-    if get(m, FROM) == 0 {
-        return true;
-    }
-    if get(m, TO) == 0 {
-        return false;
-    }
-    get(m, TO) <= get(m, HAND)
-}
-
-// Where the last period begins.
+// Where the last period begins, 0 where there are no such words.
 fn last_period(m: &Memory) -> usize {
-    std::num::wrapping_sub_usize(on(HAND + 1, get(m, HAND) as usize), get(m, TO) as usize)
+    let words = get(m, HAND);
+    let period = get(m, TO);
+    if period == 0 {
+        return 0;
+    }
+    if words < period {
+        return 0;
+    }
+    on(HAND + 1, (words - period) as usize)
 }
 
 // `*11` or `*403/13`: words more, each the same as a period before it.
 fn repeated(m: &mut Memory) -> &mut Memory {
     let m = read_repetition(m);
-    let is_there = has_period(m);
     let from = last_period(m);
     let words = get(m, FROM) as usize;
-    extend(demand(m, is_there, texts::NO_SUCH_WORDS), from, words)
+    if words == 0 {
+        return m;
+    }
+    extend(demand(m, 0 < from, texts::NO_SUCH_WORDS), from, words)
 }
 
 // `word 2 A1100000`.
@@ -120,16 +120,10 @@ fn sealed(m: &mut Memory) -> &mut Memory {
     extend(sums::take(m, HAND + 1, words), SUMS, 2)
 }
 
-// The words of the frame that is taken.
-fn take_frame(m: &mut Memory) -> &mut Memory {
-    let place = frame_place(m, TAKEN_FRAME);
-    memory::copy_counted(m, place, HAND)
-}
-
 // A form that has no name: words that are repeated, or one word.
 fn plain_form(m: &mut Memory) -> &mut Memory {
     // *
-    if scanner::first(m) == 42 {
+    if line::byte_at(m, scanner::start(m)) == 42 {
         return repeated(m);
     }
     extend(scanner::keep_word(m), NUMBER, 1)
@@ -160,7 +154,9 @@ fn form(m: &mut Memory) -> &mut Memory {
     let name = scanner::name(m);
     // frame
     if name == 0x66_7261_6d65 {
-        return take_frame(frames::read_kept(m, TAKEN_FRAME));
+        let m = frames::read_kept(m, TAKEN_FRAME);
+        let place = frame_place(m, TAKEN_FRAME);
+        return memory::copy_counted(m, place, HAND);
     }
     change(memory::add(m, CHANGES, 1), name)
 }
@@ -181,7 +177,9 @@ pub fn take_latest(m: &mut Memory) -> &mut Memory {
     let sent = get(m, SENT);
     let m = put(put(put(m, CHANGES, 0), OWN_WORDS, 0), HAND, 0);
     if sent == 0 {
-        return put(m, OWN_WORDS, 1);
+        return put(put(m, OWN_WORDS, 1), HAND + 1, 0);
     }
-    take_frame(put(m, TAKEN_FRAME, sent - 1))
+    let m = put(m, TAKEN_FRAME, sent - 1);
+    let place = frame_place(m, TAKEN_FRAME);
+    memory::copy_counted(m, place, HAND)
 }

@@ -7,6 +7,7 @@ use crate::layout::HAND;
 use crate::layout::OTHER_WORDS;
 use crate::layout::OUTGOING;
 use crate::layout::PLAN;
+use crate::layout::QUESTION;
 use crate::layout::SENT;
 use crate::layout::SENT_FRAME;
 use crate::layout::WORDS;
@@ -45,7 +46,7 @@ pub fn send(m: &mut Memory, text: u32) -> &mut Memory {
 pub fn start(m: &mut Memory) -> &mut Memory {
     let m = say(changes::note_behind(calls::start(m)), texts::START);
     let m = answers::say_answer(answers::count_call(m));
-    if answers::is_accepted(m) {
+    if get(m, QUESTION) == 0 {
         say(send(m, texts::START_SENDS), texts::OTHER_WORDS)
     } else {
         say(
@@ -69,7 +70,7 @@ pub fn read(m: &mut Memory) -> &mut Memory {
     let answer = visit_of(m);
     let m = answers::note(copy(m, OUTGOING, WORDS, 1), answer);
     let m = answers::say_answer(answers::count_call(m));
-    if answers::is_accepted(m) {
+    if get(m, QUESTION) == 0 {
         say(words::say_words(m, OUTGOING), texts::LINE_END)
     } else {
         say(count_above(m, CHANGED, WORDS, 0), texts::CHANGED_PART)

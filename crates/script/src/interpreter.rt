@@ -123,7 +123,12 @@ fn read_rest(m: &mut Memory, name: u64) -> &mut Memory {
             TO,
             scanner::WORD,
         ),
-        CELLS => scanner::keep_number(desks::read_seed(desks::read_made(m)), scanner::WORD),
+        CELLS => scanner::keep(
+            desks::read_seed(desks::read_made(m)),
+            10,
+            scanner::WORD,
+            scanner::NO_NUMBER,
+        ),
         RECORDS => operations::read_of_client(number_to(
             number_to(desks::read_made(m), FROM, 33),
             TO,
@@ -137,15 +142,6 @@ fn read_rest(m: &mut Memory, name: u64) -> &mut Memory {
         ),
         START | RESET => m,
         _ => scanner::fault(m, scanner::NO_COMMAND),
-    }
-}
-
-// Shows what was read.
-fn show(m: &mut Memory) -> &mut Memory {
-    match get(m, SHOWN) {
-        0 => plans::show(m),
-        1 => desks::show(m),
-        _ => frames::show(m),
     }
 }
 
@@ -166,26 +162,25 @@ fn perform(m: &mut Memory, name: u64) -> &mut Memory {
         RECORDS => desks::set_records(m),
         LEND => memory::copy(m, LENT_NEXT, LENT, 4),
         RESET => reset(m),
-        SHOW => show(m),
+        SHOW => match get(m, SHOWN) {
+            0 => plans::show(m),
+            1 => desks::show(m),
+            _ => frames::show(m),
+        },
         _ => m,
     }
 }
 
-// Says what is wrong with the line.
-fn say_fault(m: &mut Memory) -> &mut Memory {
-    let fault = get(m, FAULT);
-    say(say(memory::add(m, BAD_LINES, 1), texts::BAD_LINE), fault)
-}
-
-// Runs the words of the line, of which there are some: reads all of them, and does what they say if they are good.
+// Runs the words of the line, of which there are some: reads all of them, and does what they say if they are good, or says what is wrong.
 fn run_words(m: &mut Memory) -> &mut Memory {
     let m = scanner::next_word(m);
     let name = scanner::name(m);
     let m = scanner::close(read_rest(m, name));
-    if get(m, FAULT) == 0 {
+    let fault = get(m, FAULT);
+    if fault == 0 {
         keep_desk(perform(m, name))
     } else {
-        say_fault(m)
+        say(say(memory::add(m, BAD_LINES, 1), texts::BAD_LINE), fault)
     }
 }
 

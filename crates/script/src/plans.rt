@@ -3,6 +3,7 @@ use crate::answers;
 use crate::calls;
 use crate::layout::HAND;
 use crate::layout::PLAN;
+use crate::layout::QUESTION;
 use crate::layout::TRANSACTION;
 use crate::layout::WORDS;
 use crate::layout::parts;
@@ -84,7 +85,7 @@ fn say_transactions(m: &mut Memory) -> &mut Memory {
 pub fn show(m: &mut Memory) -> &mut Memory {
     let answer = verdict(m);
     let m = say_verdict(answers::note(m, answer));
-    if answers::is_accepted(m) {
+    if get(m, QUESTION) == 0 {
         say_transactions(m)
     } else {
         m

@@ -13,6 +13,7 @@ use crate::layout::LONGEST_SENT;
 use crate::layout::LONGEST_TAKEN;
 use crate::layout::OTHER_WORDS;
 use crate::layout::OUTGOING;
+use crate::layout::QUESTION;
 use crate::layout::REPLIES;
 use crate::layout::REQUESTS;
 use crate::layout::SEVERAL_REPLIES;
@@ -68,7 +69,7 @@ fn accept(m: &mut Memory) -> &mut Memory {
 // The answer to a visit.
 fn say_visit(m: &mut Memory) -> &mut Memory {
     let m = say(memory::copy(m, HAND + 2, VISIT, 1), texts::VISIT);
-    if answers::is_accepted(m) {
+    if get(m, QUESTION) == 0 {
         accept(m)
     } else {
         answers::say_answer(m)
@@ -81,19 +82,10 @@ pub fn visit(m: &mut Memory) -> &mut Memory {
     changes::say_all(say_visit(m))
 }
 
-// The desk that the words of the line are addressed to; 0 where there are none.
-fn addressed(m: &Memory) -> u32 {
-    if get(m, HAND) == 0 {
-        0
-    } else {
-        get(m, HAND + 1) / 0x100_0000 % 8
-    }
-}
-
-// Takes the latest frame; the desk that it is addressed to is at hand then.
+// Takes the latest frame; the desk that it is addressed to is at hand then, desk 0 where none was sent.
 fn take_token(m: &mut Memory) -> &mut Memory {
     let m = forms::take_latest(m);
-    let desk = addressed(m);
+    let desk = get(m, HAND + 1) / 0x100_0000 % 8;
     take_desk(put(m, DESK, desk))
 }
 

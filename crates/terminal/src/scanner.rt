@@ -71,11 +71,6 @@ pub fn end(m: &Memory) -> usize {
     get(m, WORD_END) as usize
 }
 
-// The first byte of the word at hand, 0 of an empty one.
-pub fn first(m: &Memory) -> u32 {
-    byte_at(m, start(m))
-}
-
 // Where the next word begins; the end of the line where none does, or a comment.
 fn next_start(m: &Memory) -> usize {
     let start = find(m, end(m), true);
@@ -171,7 +166,7 @@ pub fn expect(m: &mut Memory, expected: u64, otherwise: u32) -> &mut Memory {
 }
 
 // The word at hand is a number up to a bound, which is kept, or else the text is its fault and 0 is kept.
-fn keep(m: &mut Memory, base: u64, most: u64, otherwise: u32) -> &mut Memory {
+pub fn keep(m: &mut Memory, base: u64, most: u64, otherwise: u32) -> &mut Memory {
     let scanned = scan(m, base, most);
     let is_number = scanned.is_number;
     let value = scanned.value;
@@ -182,14 +177,9 @@ fn keep(m: &mut Memory, base: u64, most: u64, otherwise: u32) -> &mut Memory {
     )
 }
 
-// The word at hand is a number up to a bound, which is kept.
-pub fn keep_number(m: &mut Memory, most: u64) -> &mut Memory {
-    keep(m, 10, most, NO_NUMBER)
-}
-
 // The next word is a number up to a bound, which goes to a place.
 pub fn number_to(m: &mut Memory, place: usize, most: u64) -> &mut Memory {
-    copy(keep_number(next_word(m), most), NUMBER, place, 1)
+    copy(keep(next_word(m), 10, most, NO_NUMBER), NUMBER, place, 1)
 }
 
 // The word at hand is a word of 1 to 8 hexadecimal digits, which is kept.
@@ -201,7 +191,7 @@ pub fn keep_word(m: &mut Memory) -> &mut Memory {
 // The next word is a transaction, T and a number, which goes to a place.
 pub fn transaction_to(m: &mut Memory, place: usize) -> &mut Memory {
     let m = next_word(m);
-    let has_t = first(m) == 84;
+    let has_t = byte_at(m, start(m)) == 84;
     let m = memory::add(demand(m, has_t, NO_TRANSACTION), WORD_START, 1);
     copy(keep(m, 10, WORD, NO_TRANSACTION), NUMBER, place, 1)
 }
