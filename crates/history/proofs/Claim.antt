@@ -5,6 +5,7 @@ use mathlib.Core.Path.{_≡_, refl, sym, _∙_, ap, subst}
 use mathlib.Core.Bool.{Bool}
 use mathlib.Core.List.{List, [], _∷_, map}
 use native.Mathlib.Nat.{zero-add}
+use native.Mathlib.Omega.{arith}
 use lib.ListN.{length, getD}
 use Rattle.plan.specs.Plan.{Plan}
 use Rattle.plan.specs.Decode.{planOf}
@@ -35,7 +36,7 @@ use Rattle.history.proofs.Machine.{machine, frames, after-is, refusals-
 use Rattle.history.proofs.SerialSeen.{finishedSeen, serialSeen, notes-seen}
 use Rattle.history.proofs.OrderSeen.{RanAs, RunsAll, sort-seen, all-sorted, store-seen, due-seen}
 use Rattle.history.proofs.Notes.{notes-noted}
-use Rattle.history.proofs.Given.{each-gives}
+use Rattle.history.proofs.Given.{Match, each-gives, none-past}
 
 module _ (ws : List ℕ) (accept : planVerdict ws ≡ accepted) (class : Operation → Class) (right : Classifies (planOf ws) class)
     (cells : List ℕ) (rows : ℕ → List Request) (cs : List Call) (pr : ProperFromStart ws cells rows cs) where
@@ -122,11 +123,14 @@ module _ (ws : List ℕ) (accept : planVerdict ws ≡ accepted) (class : Operati
 
   -- ---- the claim
 
+  given-is : Match ws accept class right records (λ i. due p i ordered cells) 0 cs w
+  given-is j = whole .all-replies j ∙ due-is j ∙ ap (λ (k : ℕ). map answeredSeen (due p k ordered cells)) (sym (zero-add j))
+
   claim : Serializable p cells cs (outcomes ws w cs) (holdingsAfter ws w cs) s
   claim =
       record {
-        all-replies = each-gives ws accept class right records (λ i. due p i ordered cells) cs w 0
-            (λ j. whole .all-replies j ∙ due-is j ∙ ap (λ (k : ℕ). map answeredSeen (due p k ordered cells)) (sym (zero-add j)));
+        all-replies = each-gives ws accept class right records (λ i. due p i ordered cells) cs w 0 given-is;
+        none-further = λ i l. none-past ws accept class right records (λ i. due p i ordered cells) cs w 0 given-is i (omega arith);
         one-desk = λ c d j. value-is d c _
             (whole .one-desk d c (desk-of-one c d j) (one-of c d j) ∙ ap (λ (b : Store). getD b c 0) store-is);
         any-other = λ c f. value-is (s .latest) c _
