@@ -2,3 +2,4 @@ pub mod History
 pub mod Order
 pub mod SerialRun
 pub mod Claim
+pub mod Answering
