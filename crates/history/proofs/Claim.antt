@@ -55,13 +55,13 @@ module _ (ws : List ℕ) (accept : planVerdict ws ≡ accepted) (class : Operati
   abbrev w : ℕ → Holding
   w = start cells rows
 
-  abbrev refusals : List Bool
+  abbrev pub refusals : List Bool
   refusals = map isRefused (outcomes ws w cs)
 
   abbrev s : Serial
   s = serial p class cs refusals
 
-  abbrev ordered : List Finished
+  abbrev pub ordered : List Finished
   ordered = order s
 
   -- ---- the protocol's serial run is this one
@@ -88,6 +88,10 @@ module _ (ws : List ℕ) (accept : planVerdict ws ≡ accepted) (class : Operati
 
   order-is : run.order S (serialSeen s) ≡ map finishedSeen ordered
   order-is = sym (sort-seen p [] (s .finished) tt ended)
+
+  -- so is its order
+  pub order-seen : run.order S (run.serial S (map callSeen cs) refusals) ≡ map finishedSeen ordered
+  order-seen = ap (run.order S) (sym (notes-seen ws class records cs refusals newSerial)) ∙ order-is
 
   store-is : run.storeAfter S (run.order S (serialSeen s)) cells ≡ storeAfter p ordered cells
   store-is =

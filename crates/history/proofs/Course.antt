@@ -35,6 +35,7 @@ use Rattle.passing.specs.Visit.{visitVerdict, visitResult}
 use Rattle.passing.specs.Visit as passing
 use Rattle.passing.specs.Waiting.{Answered, runAll, updatesOf, repliesOf, repliesWords}
 use Rattle.history.specs.History.{Call, request, visit, Outcome, requested, visited, isRefused, outcomes, start, ProperFromStart}
+use Rattle.history.specs.Order.{Finished}
 use Rattle.history.specs.SerialRun.{Serial, serial, order, storeAfter, due}
 
 abbrev starting : List ℕ
@@ -55,11 +56,11 @@ blank p = replicate 32 noRequest
 abbrev passes : ℕ → List ℕ → Call
 passes p frame = visit p frame (replicate 6404 0) (replicate 96 0)
 
--- T2(1) at desk 1, T1(0, 3) at desk 0, the visits 0 and 1, a replay, and T2(1) again
+-- T2(1) at desk 1, T1(0, 3) at desk 0, visit 0, T2(1) again, visit 1, a replay, and T2(1) once more; of clients 5, 7, 6 and 8
 abbrev calls : List Call
 calls =
-    request 1 5 2 (1 ∷ 0 ∷ 0 ∷ 0 ∷ []) ∷ request 0 7 1 (0 ∷ 3 ∷ 0 ∷ 0 ∷ []) ∷ passes 0 starting ∷ passes 1 sending ∷ passes 1 sending
-    ∷ request 1 5 2 (1 ∷ 0 ∷ 0 ∷ 0 ∷ []) ∷ []
+    request 1 5 2 (1 ∷ 0 ∷ 0 ∷ 0 ∷ []) ∷ request 0 7 1 (0 ∷ 3 ∷ 0 ∷ 0 ∷ []) ∷ passes 0 starting ∷ request 1 6 2 (1 ∷ 0 ∷ 0 ∷ 0 ∷ [])
+    ∷ passes 1 sending ∷ passes 1 sending ∷ request 1 8 2 (1 ∷ 0 ∷ 0 ∷ 0 ∷ []) ∷ []
 
 abbrev says : Outcome → asked.Response ⊎ passing.Passage
 says (requested r) = inl (r .answer)
@@ -68,20 +69,26 @@ says (visited v) = inr (v .answer)
 abbrev run : List Outcome → Serial
 run os = serial (planOf planP) (classOf (planOf planP)) calls (map isRefused os)
 
--- the answers; the replies due to visit 0, call 2; and the serial value of the cell that T1 writes
+-- the answers; the replies due to visit 0, call 2; the serial order, by clients; and the serial value of the cell that T1 writes
 abbrev Rows : Type 0
-Rows = List (asked.Response ⊎ passing.Passage) × List Answered × ℕ
+Rows = List (asked.Response ⊎ passing.Passage) × List Answered × List ℕ × ℕ
 
 abbrev found : List Outcome → Rows
-found os =
-    (map says os, due (planOf planP) 2 (order (run os)) zeros, getD (storeAfter (planOf planP) (order (run os)) zeros) 128 0)
+found os = (
+  map says os,
+  due (planOf planP) 2 (order (run os)) zeros,
+  map (λ (e : Finished). e .request .client) (order (run os)),
+  getD (storeAfter (planOf planP) (order (run os)) zeros) 128 0,
+)
 
--- "T2(1) at desk 1 gives 0 before visit 1, 3 after"; "reply C0000001 00000007 00000003"; "The frame twice at desk 1: 14"
+-- "T2(1) at desk 1 gives 0 before visit 1, 3 after"; "reply C0000001 00000007 00000003"; "The frame twice at desk 1: 14". "A read at one
+-- desk may precede, in this order, a global already answered at another": client 6 is answered 0 after client 7's T1, and stands before it
 abbrev expected : Rows
 expected = (
-  inl (done 0) ∷ inl asked.waits ∷ inr (passing.forwarded 7 1) ∷ inr (passing.forwarded 7 0) ∷ inr (passing.isRefused 14)
-      ∷ inl (done 3) ∷ [],
+  inl (done 0) ∷ inl asked.waits ∷ inr (passing.forwarded 7 1) ∷ inl (done 0) ∷ inr (passing.forwarded 7 0)
+      ∷ inr (passing.isRefused 14) ∷ inl (done 3) ∷ [],
   record { client = 7; reply = record { done = true; number = 3 } } ∷ [],
+  5 ∷ 6 ∷ 7 ∷ 8 ∷ [],
   3,
 )
 
@@ -126,13 +133,18 @@ course-proper = (
       λ e. List·Memᴰ·head refl,
       (
         omega arith,
-        tt,
-        λ e. List·Memᴰ·tail (List·Memᴰ·head refl),
+        small 1 0 (omega arith) (omega arith),
+        λ e. tt,
         (
           omega arith,
           tt,
           λ e. List·Memᴰ·tail (List·Memᴰ·head refl),
-          (omega arith, small 1 0 (omega arith) (omega arith), λ e. tt, tt),
+          (
+            omega arith,
+            tt,
+            λ e. List·Memᴰ·tail (List·Memᴰ·head refl),
+            (omega arith, small 1 0 (omega arith) (omega arith), λ e. tt, tt),
+          ),
         ),
       ),
     ),

@@ -3,3 +3,5 @@ pub mod Order
 pub mod SerialRun
 pub mod Claim
 pub mod Answering
+pub mod OrderRule
+pub mod VisitNumbers
