@@ -19,7 +19,7 @@ use Rattle.plan.proofs.Every.{every-member}
 use Rattle.plan.proofs.Accepted.{yes-of}
 use Rattle.operation.specs.Admission.{operationVerdict}
 use Rattle.operation.specs.Run.{Store, applyUpdate, run}
-use Rattle.operation.proofs.Words.{AllWords}
+use Rattle.operation.specs.Words.{AllWords}
 use Rattle.token.specs.Frame.{overwritten}
 use Rattle.token.specs.Admission.{frameVerdict, frameVisit, frameUpdates, readVerdict}
 use Rattle.token.proofs.OneWord.{one-word}
