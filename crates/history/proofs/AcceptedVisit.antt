@@ -1,9 +1,9 @@
 -- What an accepted visit gives, whatever the desk's past: the frame that it writes reads, it answers its waiting requests in order, and
 -- a frame with one word changed is refused.
 -- Assumes nothing.
-use Prim.Native.Nat.{ℕ, zero, suc, _+_, _*_, _^_, _≤_, _<_}
+use Prim.Native.Nat.{ℕ, zero, suc, _*_, _≤_, _<_}
 use mathlib.Core.Path.{_≡_, refl, sym, _∙_, ap}
-use mathlib.Core.Logic.{_⊎_, inl, inr, ⊎-elim}
+use mathlib.Core.Logic.{inl, inr, ⊎-elim}
 use mathlib.Core.Bool.{Bool, true, _&&_, cond}
 use mathlib.Core.List.{List, [], _∷_, _++_, List·Memᴰ, List·Memᴰ·head, List·Memᴰ·tail, List·Memᴰ·not-nil}
 use native.Mathlib.Omega.{arith}
@@ -19,20 +19,18 @@ use Rattle.plan.proofs.Every.{every-member}
 use Rattle.plan.proofs.Accepted.{yes-of}
 use Rattle.operation.specs.Admission.{operationVerdict}
 use Rattle.operation.specs.Run.{Store, applyUpdate, run}
-use Rattle.operation.specs.Words.{AllWords}
 use Rattle.token.specs.Frame.{overwritten}
-use Rattle.token.specs.Admission.{frameVerdict, frameVisit, frameUpdates, readVerdict}
+use Rattle.token.specs.Admission.{frameVerdict}
 use Rattle.token.proofs.OneWord.{one-word}
 use Rattle.token.proofs.Verdicts.{both, read-after}
-use Rattle.queue.specs.Queue.{noRequest, paramsOf}
+use Rattle.queue.specs.Queue.{noRequest}
 use Rattle.queue.specs.declared.record.Request.{Request}
 use Rattle.desk.specs.declared.state.Desk.{Desk}
 use Rattle.desk.specs.Queueing.{operationOf, waitingIn}
 use Rattle.desk.specs.Admission.{isAccepted, deskBuffersFit, waitsHere, deskStands}
 use Rattle.desk.proofs.Asked.{accepted-is}
 use Rattle.passing.specs.Admission.{visitBuffersFit}
-use Rattle.passing.specs.Visit.{forwarded, isRefused, Visited, caughtUp, outgoingUpdates, outgoingFrame, visitedBy, visitVerdict}
-use Rattle.passing.specs.Visit.{visitResult}
+use Rattle.passing.specs.Visit.{forwarded, Visited, caughtUp, outgoingFrame, visitedBy, visitVerdict, visitResult}
 use Rattle.passing.specs.Waiting.{runAll, Answered, repliesOf, replyWords, repliesWords}
 use Rattle.passing.specs.Running.{replyTo, allReplies}
 use Rattle.passing.proofs.WaitingRuns.{replies-length}
@@ -40,13 +38,10 @@ use Rattle.passing.proofs.OwnUpdates.{replies-count}
 use Rattle.serial.proofs.Lists.{mem-All}
 use Rattle.history.specs.History.{Holding}
 use Rattle.history.specs.Answering.{WaitsAt, replyPart, leftBy, storeBefore, AnswersWaiting, VisitAnswersWaiting}
+use Rattle.history.specs.AcceptedVisit.{RecordsFit, Sends, VisitFrameReads, ChangedWordRefused}
 use Rattle.history.proofs.Operations.{Runs}
 use Rattle.history.proofs.Standing.{Stands, Six, six}
 use Rattle.history.proofs.Visits.{turn-of, sends-reads}
-
--- the parameters of every record are words
-abbrev pub RecordsFit : List Request → Type 0
-RecordsFit queue = (r : Request) → List·Memᴰ r queue → AllWords (paramsOf r)
 
 mem-take : {A : Type 0} (k : ℕ) (l : List A) (x : A) → List·Memᴰ x (take k l) → List·Memᴰ x l
 mem-take zero l x m = absurd (List·Memᴰ·not-nil m)
@@ -82,12 +77,6 @@ module _ (plan : List ℕ) (h : Holding) (frame out replies : List ℕ) where
 
   abbrev sends : List ℕ
   sends = outgoingFrame (planOf plan) d (h .cells) (h .queue) frame out replies
-
-  -- the frame that it writes: its first words, as many as its answer says
-  pub record Sends (sent : List ℕ) : Type 0 where
-    pub verdict : readVerdict plan sent ≡ accepted
-    pub number : frameVisit sent ≡ frameVisit frame + 1
-    pub updates : frameUpdates sent ≡ outgoingUpdates (planOf plan) d (h .cells) (h .queue) frame out replies
 
   -- ---- acceptance shows the verdict
 
@@ -182,8 +171,8 @@ module _ (plan : List ℕ) (h : Holding) (frame out replies : List ℕ) where
         }
 
     -- what an accepted visit writes is read as visit v + 1 with the outgoing updates
-    pub visit-frame-reads : RecordsFit (h .queue) → Sends (take words (left .out))
-    visit-frame-reads fit =
+    frame-reads : RecordsFit (h .queue) → Sends plan h frame out replies (take words (left .out))
+    frame-reads fit =
         let ok : Stands plan (λ (q : ℕ). length (h .queue)) (d .desk) h =
         record {
           desk = refl;
@@ -206,25 +195,16 @@ module _ (plan : List ℕ) (h : Holding) (frame out replies : List ℕ) where
         same-words : {a b : ℕ} → forwarded words count ≡ forwarded a b → words ≡ a
         same-words e = cc
 
-  -- ---- one word changed
-
-  -- refused with this number: "nothing lent and no state changes"
-  abbrev pub RefusedWith : ℕ → List ℕ → Type 0
-  RefusedWith question changed =
-      visitResult plan d (h .cells) (h .queue) changed out replies
-      ≡ record { answer = isRefused question; state = d; cells = h .cells; out = out; replies = replies }
-
-  -- where questions 1 to 6 pass, a frame that reads is refused with 10 or 11 if any one word of it is changed to another
-  pub changed-word-refused : planVerdict plan ≡ accepted → deskBuffersFit (h .cells) (h .queue) && visitBuffersFit out replies ≡ true →
-      deskStands (planOf plan) d (h .queue) ≡ true → AllWords frame → frameVerdict (planOf plan .desks) frame ≡ accepted →
-      (i x : ℕ) → i < length frame → x < 2 ^ 32 → (x ≡ getD frame i 0 → ⊥)
-      → RefusedWith 10 (set frame i x) ⊎ RefusedWith 11 (set frame i x)
-  unfolding visitResult visitVerdict
-  changed-word-refused a b c words reads i x l hx ne =
-      ⊎-elim (λ (e : frameVerdict (planOf plan .desks) (set frame i x) ≡ refused 10). inl (rw (a, b, c, e) refl))
-      (λ (e : frameVerdict (planOf plan .desks) (set frame i x) ≡ refused 11). inr (rw (a, b, c, e) refl))
-      (one-word (planOf plan .desks) frame words reads i x l hx ne)
-
 -- "runs all waiting requests in order": each waiting request is answered at this visit, and no other
 pub visit-answers-waiting : VisitAnswersWaiting
 visit-answers-waiting plan h frame out replies words count e = answers-waiting plan h frame out replies words count e
+
+pub visit-frame-reads : VisitFrameReads
+visit-frame-reads plan h frame out replies words count e = frame-reads plan h frame out replies words count e
+
+pub changed-word-refused : ChangedWordRefused
+unfolding visitResult visitVerdict
+changed-word-refused plan h frame out replies a b c words reads i x l hx ne =
+    ⊎-elim (λ (e : frameVerdict (planOf plan .desks) (set frame i x) ≡ refused 10). inl (rw (a, b, c, e) refl))
+    (λ (e : frameVerdict (planOf plan .desks) (set frame i x) ≡ refused 11). inr (rw (a, b, c, e) refl))
+    (one-word (planOf plan .desks) frame words reads i x l hx ne)

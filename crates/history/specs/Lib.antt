@@ -3,5 +3,6 @@ pub mod Order
 pub mod SerialRun
 pub mod Claim
 pub mod Answering
+pub mod AcceptedVisit
 pub mod OrderRule
 pub mod VisitNumbers
