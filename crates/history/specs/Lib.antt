@@ -6,3 +6,4 @@ pub mod Answering
 pub mod AcceptedVisit
 pub mod OrderRule
 pub mod VisitNumbers
+pub mod Course
