@@ -37,7 +37,7 @@ use Rattle.passing.proofs.WaitingRuns.{replies-length}
 use Rattle.passing.proofs.OwnUpdates.{replies-count}
 use Rattle.serial.proofs.Lists.{mem-All}
 use Rattle.history.specs.History.{Holding}
-use Rattle.history.specs.Answering.{WaitsAt, replyPart, leftBy, storeBefore, AnswersWaiting, VisitAnswersWaiting}
+use Rattle.history.specs.Answering.{WaitsAt, replyPart, visitResultAt, storeBefore, AnswersWaiting, VisitAnswersWaiting}
 use Rattle.history.specs.AcceptedVisit.{RecordsFit, Sends, VisitFrameReads, ChangedWordRefused}
 use Rattle.history.proofs.Operations.{Runs}
 use Rattle.history.proofs.Standing.{Stands, Six, six}
@@ -49,7 +49,7 @@ mem-take (suc k) [] x m = m
 mem-take (suc k) (y ∷ l) x (List·Memᴰ·head e) = List·Memᴰ·head e
 mem-take (suc k) (y ∷ l) x (List·Memᴰ·tail m) = List·Memᴰ·tail (mem-take k l x m)
 
--- the reply of record k, with more words behind the replies
+-- the reply of record k, with any words after the replies
 replies-at : (p : Plan) (q : List Request) (s : Store) (k : ℕ) (rest : List ℕ) → k < length q →
     replyPart k (repliesWords (repliesOf p q s) ++ rest) ≡ replyWords (replyTo p (getD q k noRequest) (runAll p (take k q) s))
 unfolding repliesOf repliesWords runAll
@@ -73,7 +73,7 @@ module _ (plan : List ℕ) (h : Holding) (frame out replies : List ℕ) where
   given = repliesOf (planOf plan) waiting caught
 
   abbrev left : Visited
-  left = leftBy plan h frame out replies
+  left = visitResultAt plan h frame out replies
 
   abbrev sends : List ℕ
   sends = outgoingFrame (planOf plan) d (h .cells) (h .queue) frame out replies

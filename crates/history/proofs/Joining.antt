@@ -30,7 +30,7 @@ module _ (plan : List ℕ) (h : Holding) where
   -- ---- a request
 
   module _ (r : Request) where
-    -- what a request leaves: the waiting records at their places, and behind them the request, if it is told to wait
+    -- what a request leaves: the waiting records at their places, and after them the request, if it is told to wait
     pub record Joined (m : Requested) : Type 0 where
       pub keeps : (k : ℕ) (t : Request) → WaitsAt k t h → WaitsAt k t (holdingAfter h (requested m))
       pub joins : m .answer ≡ asked.waits → WaitsAt (h .state .waiting) r (holdingAfter h (requested m))

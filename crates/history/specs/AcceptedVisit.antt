@@ -15,7 +15,7 @@ use Rattle.desk.specs.Admission.{deskBuffersFit, deskStands}
 use Rattle.passing.specs.Admission.{visitBuffersFit}
 use Rattle.passing.specs.Visit.{forwarded, isRefused, outgoingUpdates}
 use Rattle.history.specs.History.{Holding}
-use Rattle.history.specs.Answering.{leftBy}
+use Rattle.history.specs.Answering.{visitResultAt}
 
 -- "Words are unsigned 32-bit": the parameters of every record
 abbrev pub RecordsFit : List Request → Type 0
@@ -31,15 +31,15 @@ module _ (plan : List ℕ) (h : Holding) (frame out replies : List ℕ) where
   -- "A "no" gives its number; nothing lent and no state changes"
   abbrev pub RefusedWith : ℕ → Type 0
   RefusedWith question =
-      leftBy plan h frame out replies
+      visitResultAt plan h frame out replies
       ≡ record { answer = isRefused question; state = h .state; cells = h .cells; out = out; replies = replies }
 
 -- the frame that an accepted visit writes: the first words of the outgoing ones, as many as its answer says
 abbrev pub VisitFrameReads : Type 0
 VisitFrameReads =
     (plan : List ℕ) (h : Holding) (frame out replies : List ℕ) (words count : ℕ)
-    → leftBy plan h frame out replies .answer ≡ forwarded words count → RecordsFit (h .queue)
-    → Sends plan h frame out replies (take words (leftBy plan h frame out replies .out))
+    → visitResultAt plan h frame out replies .answer ≡ forwarded words count → RecordsFit (h .queue)
+    → Sends plan h frame out replies (take words (visitResultAt plan h frame out replies .out))
 
 -- where questions 1 to 6 pass: word i is changed to another word x
 abbrev pub ChangedWordRefused : Type 0

@@ -33,11 +33,11 @@ replyPart k words = take wordsOfReply (drop (wordsOfReply * k) words)
 -- ---- a visit, at a desk that holds h
 
 module _ (plan : List ℕ) (h : Holding) (frame out replies : List ℕ) where
-  abbrev pub leftBy : Visited
-  leftBy = visitResult plan (h .state) (h .cells) (h .queue) frame out replies
+  abbrev pub visitResultAt : Visited
+  visitResultAt = visitResult plan (h .state) (h .cells) (h .queue) frame out replies
 
-  -- "applies the others in order, runs all waiting requests in order": the store on which record k runs, behind the updates of the
-  -- other desks and the runs of the records before it
+  -- "applies the others in order, runs all waiting requests in order": the store on which record k runs, once the updates of the
+  -- other desks are applied and the records before it have run
   abbrev pub storeBefore : ℕ → Store
   storeBefore k = runAll (planOf plan) (take k (h .queue)) (caughtUp (planOf plan) (h .state) (h .cells) (h .queue) frame out replies)
 
@@ -55,12 +55,12 @@ module _ (plan : List ℕ) (h : Holding) (frame out replies : List ℕ) where
 abbrev pub VisitAnswersWaiting : Type 0
 VisitAnswersWaiting =
     (plan : List ℕ) (h : Holding) (frame out replies : List ℕ) (words count : ℕ)
-    → leftBy plan h frame out replies .answer ≡ forwarded words count
-    → AnswersWaiting plan h frame out replies count (leftBy plan h frame out replies)
+    → visitResultAt plan h frame out replies .answer ≡ forwarded words count
+    → AnswersWaiting plan h frame out replies count (visitResultAt plan h frame out replies)
 
 -- ---- from the request to the visit
 
--- a request that is told to wait is the record behind those that waited
+-- a request that is told to wait is the next record after those that waited
 abbrev pub RequestWaits : Type 0
 RequestWaits =
     (plan : List ℕ) (w : ℕ → Holding) (p client k : ℕ) (ps : List ℕ)
@@ -83,11 +83,11 @@ WaitingStays =
     → WaitsAt k r (w p) → WaitsAt k r (holdingsAfter plan w cs p)
 
 -- "each waiting request is answered at its desk's next accepted visit": r is record k at desk p, the calls cs have no accepted visit
--- there, and then one is accepted. RequestWaits says which record a request is that is told to wait.
+-- at p, and then one is accepted. RequestWaits says which record a request is that is told to wait.
 abbrev pub AnsweredAtNextVisit : Type 0
 AnsweredAtNextVisit =
     (plan : List ℕ) (p : ℕ) (cs : List Call) (w : ℕ → Holding) → NoVisits plan p w cs → (k : ℕ) (r : Request) → WaitsAt k r (w p)
     → (frame out replies : List ℕ) (words count : ℕ)
-    → leftBy plan (holdingsAfter plan w cs p) frame out replies .answer ≡ forwarded words count
-    → (k < count) × (replyPart k (leftBy plan (holdingsAfter plan w cs p) frame out replies .replies)
+    → visitResultAt plan (holdingsAfter plan w cs p) frame out replies .answer ≡ forwarded words count
+    → (k < count) × (replyPart k (visitResultAt plan (holdingsAfter plan w cs p) frame out replies .replies)
     ≡ replyWords (replyTo (planOf plan) r (storeBefore plan (holdingsAfter plan w cs p) frame out replies k)))

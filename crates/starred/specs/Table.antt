@@ -65,7 +65,7 @@ pub data Result : Type 0 where
   verdict : Verdict → Result
   classified : Classified → Result
   cells : List ℕ → Result
-  -- whether the starting frame was written, and the outgoing words behind the call
+  -- whether the starting frame was written, and the outgoing words after the call
   started : Verdict → List ℕ → Result
   -- the visit or the refusal, and the updates in the part that is handed back
   frame : VisitRead → List SentUpdate → Result
