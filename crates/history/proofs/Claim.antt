@@ -21,8 +21,10 @@ use Rattle.serial.specs.System.{System}
 use Rattle.serial.specs.SerialRun as run
 use Rattle.serial.specs.Order as protocolOrder
 use Rattle.serial.specs.Claim as protocol
-use Rattle.serial.specs.Machine.{Machine, machineAfter, seen, answersSeen}
-use Rattle.serial.proofs.Bridge.{machine-serializable}
+use Rattle.serial.specs.AtEnd.{ProperFrom, answersOf}
+use Rattle.serial.specs.Desk as desk
+use Rattle.serial.specs.Machine.{Machine, Words, machineAfter, seen, answersSeen, MachineProper}
+use Rattle.serial.proofs.Bridge.{AllOk, machine-proper, machine-answers, machine-serializable}
 use Rattle.history.specs.History.{Holding, Call, isRefused, outcomes, holdingsAfter, start, ProperFromStart}
 use Rattle.history.specs.Order.{Finished}
 use Rattle.history.specs.SerialRun.{Classifies, Serial, newSerial, serial, order, storeAfter, due}
@@ -52,8 +54,17 @@ module _ (ws : List ℕ) (accept : planVerdict ws ≡ accepted) (class : Operati
   abbrev M : Machine S
   M = machine ws accept class right records
 
+  abbrev N : Words M
+  N = frames ws accept class right records
+
   abbrev w : ℕ → Holding
   w = start cells rows
+
+  standing : AllOk M w
+  standing q l = start-stands ws cells rows q l
+
+  proper : MachineProper M N w (startingFrame ∷ []) cs
+  proper = proper-is ws accept class right records cs w (startingFrame ∷ []) pr
 
   abbrev pub refusals : List Bool
   refusals = map isRefused (outcomes ws w cs)
@@ -63,6 +74,16 @@ module _ (ws : List ℕ) (accept : planVerdict ws ≡ accepted) (class : Operati
 
   abbrev pub ordered : List Finished
   ordered = order s
+
+  -- ---- the protocol's history is this one
+
+  pub proper-seen : ProperFrom S cells (map callSeen cs)
+  proper-seen = machine-proper M N cells w standing refl cs proper
+
+  pub refusals-seen : map desk.isRefused (answersOf S cells (map callSeen cs)) ≡ refusals
+  refusals-seen =
+      ap (map desk.isRefused) (sym (machine-answers M N cells w standing refl cs proper))
+      ∙ refusals-are ws accept class right records cs w
 
   -- ---- the protocol's serial run is this one
 
@@ -76,9 +97,7 @@ module _ (ws : List ℕ) (accept : planVerdict ws ≡ accepted) (class : Operati
       subst Whole
       (ap (run.serial S (map callSeen cs)) (refusals-are ws accept class right records cs w)
       ∙ sym (notes-seen ws class records cs refusals newSerial))
-      (machine-serializable M (frames ws accept class right records) cells w
-      (λ q l. start-stands ws cells rows q l) refl cs (proper-is ws accept class right records cs w (startingFrame ∷ []) pr)
-      (laws ws accept class right records))
+      (machine-serializable M N cells w standing refl cs proper (laws ws accept class right records))
 
   ended : RunsAll p (s .finished)
   ended = notes-noted ws class cs w (startingFrame ∷ []) newSerial pr (record { lines = λ d. tt; ended = tt }) .ended

@@ -7,19 +7,20 @@ use mathlib.Core.Bool.{Bool, true, false, cond}
 use mathlib.Core.List.{List, [], _∷_, _++_, map, append-nil, Perm, Perm·refl, Perm·trans, Perm·symm, Perm·cons, Perm·swap}
 use mathlib.Core.List.{Perm·append-right, perm-middle}
 use lib.ListN.{length, getD, List·getD-map, length-map}
-use Rattle.operation.specs.Operation.{Operation}
-use Rattle.conflict.specs.Class.{Class}
+use Rattle.serial.specs.Frame.{Frame, startFrame}
+use Rattle.serial.specs.Desk as desk
+use Rattle.serial.specs.System.{System}
+use Rattle.serial.specs.History.{answerAt, stepAt, newDesks, Proper}
 use Rattle.serial.specs.Order as protocolOrder
 use Rattle.serial.proofs.Lists.{All, Pairs, Pairs-getD}
 use Rattle.serial.proofs.SerialOrder as protocolRule
-use Rattle.history.specs.History.{Holding, Call, request, visit, stepAt, outcomeAt, written, Proper}
 use Rattle.history.specs.Order.{Slot, globalRun, immediateRun, Finished, before, insert, sortOnto}
 use Rattle.history.specs.OrderRule.{OrderPermutes, Precedes, InOrder, OrderFollowsRule}
 use Rattle.history.proofs.Protocol.{system}
 use Rattle.history.proofs.View.{callSeen}
 use Rattle.history.proofs.SerialSeen.{slotSeen, finishedSeen}
 use Rattle.history.proofs.Places.{of-means}
-use Rattle.history.proofs.Claim.{refusals, ordered, order-seen}
+use Rattle.history.proofs.Claim.{refusals, ordered, proper-seen, order-seen}
 
 -- ---- a permutation
 
@@ -59,19 +60,15 @@ in-order es h none i j l k =
     (rw (List·getD-map finishedSeen es i none, List·getD-map finishedSeen es j none) at
     (Pairs-getD protocolOrder.Precedes (map finishedSeen es) (finishedSeen none) h i j l (rw (length-map es finishedSeen) k)))
 
-at-desks : (ws : List ℕ) (records : ℕ → ℕ) (class : Operation → Class) (cs : List Call) (w : ℕ → Holding) (fs : List (List ℕ)) →
-    Proper ws w fs cs → All (protocolRule.AtDesk (system ws class records)) (map callSeen cs)
-at-desks ws records class [] w fs pr = tt
-at-desks ws records class (request p client k ps ∷ cs) w fs pr =
-    (pr .0, at-desks ws records class cs (stepAt ws w (request p client k ps)) (fs ++ []) (pr .3))
-at-desks ws records class (visit p ft out replies ∷ cs) w fs pr =
-    let c : Call = visit p ft out replies in
-    (pr .0, at-desks ws records class cs (stepAt ws w c) (fs ++ written (outcomeAt ws w c)) (pr .3))
+at-desks : (S : System) (cs : List (desk.Call (S .Op) (S .Extra))) (w : ℕ → desk.Desk (S .Op)) (fs : List Frame) → Proper S w fs cs →
+    All (protocolRule.AtDesk S) cs
+at-desks S [] w fs pr = tt
+at-desks S (c ∷ cs) w fs pr = (pr .0, at-desks S cs (stepAt S w c) (fs ++ desk.sent (answerAt S w c)) (pr .2))
 
 pub order-follows-rule : OrderFollowsRule
 order-follows-rule plan accept class right cells rows cs pr =
-    let records : ℕ → ℕ = λ q. length (rows q) in
+    let S : System = system plan class (λ q. length (rows q)) in
     in-order (ordered plan accept class right cells rows cs pr)
     (subst (Pairs protocolOrder.Precedes) (order-seen plan accept class right cells rows cs pr)
-    (protocolRule.order-follows-rule (system plan class records) (map callSeen cs) (refusals plan accept class right cells rows cs pr)
-    (at-desks plan records class cs _ _ pr)))
+    (protocolRule.order-follows-rule S (map callSeen cs) (refusals plan accept class right cells rows cs pr)
+    (at-desks S (map callSeen cs) (newDesks S cells) (startFrame ∷ []) (proper-seen plan accept class right cells rows cs pr))))
