@@ -3,7 +3,7 @@
 use mathlib.Core.Path.{_≡_, refl, _∙_, sym, subst}
 use mathlib.Core.Bool.{Bool, true, false, cond, false≢true}
 use mathlib.Core.List.{List, List·Memᴰ}
-use mathlib.Core.Logic.{inl, inr, ⊎-elim, _↔_}
+use mathlib.Core.Logic.{inl, inr, ⊎-elim}
 use Prim.Native.Nat.{ℕ}
 use native.Mathlib.Decide.{ℕ-discrete}
 use native.Mathlib.Omega.{arith}
@@ -20,8 +20,9 @@ use Rattle.operation.proofs.Cells.{names-of, of-names}
 use Rattle.conflict.specs.Mask.{some}
 use Rattle.conflict.specs.Touch.{deskMask}
 use Rattle.conflict.specs.Written.{written}
-use Rattle.conflict.specs.Class.{OtherDesk, Free, Local, Global, WriteConflict, ReadsFrom, Class, free, local, global, isWrite}
+use Rattle.conflict.specs.Class.{OtherDesk, Free, Local, Global, Class, free, local, global, isWrite}
 use Rattle.conflict.specs.Class.{oneDeskEach, classBy, classOf}
+use Rattle.conflict.specs.Classification.{FreeMeans, LocalMeans, GlobalMeans, LocalByConflicts}
 use Rattle.conflict.proofs.Some.{member-some, some-member}
 use Rattle.conflict.proofs.MaskMeaning.{desk-low, one-desk}
 use Rattle.conflict.proofs.WrittenMeaning.{written-gives, gives-written}
@@ -128,22 +129,18 @@ module _ (ws : List ℕ) (e : planVerdict ws ≡ accepted) (o : Operation) (i : 
   only-global local m g = absurd (g .1 m)
   only-global global m g = refl
 
-  -- ---- the theorem
+-- ---- the theorem
 
-  pub class-free : (classOf (planOf ws) o ≡ free) ↔ Free (planOf ws) o
-  class-free = (λ q. subst Means q class-means, only-free (classOf (planOf ws) o) class-means)
+pub class-free : FreeMeans
+class-free ws e o i = (λ q. subst (Means ws e o i) q (class-means ws e o i), only-free ws e o i _ (class-means ws e o i))
 
-  pub class-local : (classOf (planOf ws) o ≡ local) ↔ Local (planOf ws) o
-  class-local = (λ q. subst Means q class-means, only-local (classOf (planOf ws) o) class-means)
+pub class-local : LocalMeans
+class-local ws e o i = (λ q. subst (Means ws e o i) q (class-means ws e o i), only-local ws e o i _ (class-means ws e o i))
 
-  pub class-global : (classOf (planOf ws) o ≡ global) ↔ Global (planOf ws) o
-  class-global = (λ q. subst Means q class-means, only-global (classOf (planOf ws) o) class-means)
+pub class-global : GlobalMeans
+class-global ws e o i = (λ q. subst (Means ws e o i) q (class-means ws e o i), only-global ws e o i _ (class-means ws e o i))
 
--- ---- 002, section 3.2: no write conflict with an operation of another desk, and none of another desk reads from it
-
-pub local-by-conflicts : (p : Plan) (o : Operation)
-    → Local p o ↔ ((Free p o → ⊥) × ((o′ : Operation) → IsOperation p o′ → OtherDesk p o o′ → (WriteConflict p o o′ → ⊥)
-    × (ReadsFrom p o′ o → ⊥)))
+pub local-by-conflicts : LocalByConflicts
 local-by-conflicts p o = (
   λ l. (l .0, λ o′ i d. (λ w. l .1 (w .0) (w .1) o′ i d (inr (w .2)), λ r. l .1 (r .0) (r .2) o′ i d (inl (r .1)))),
   λ l. (

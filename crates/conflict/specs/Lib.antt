@@ -2,4 +2,5 @@ pub mod Mask
 pub mod Touch
 pub mod Written
 pub mod Class
+pub mod Classification
 pub mod Answer

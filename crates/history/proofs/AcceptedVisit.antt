@@ -1,16 +1,17 @@
 -- What an accepted visit gives, whatever the desk's past: the frame that it writes reads, it answers its waiting requests in order, and
 -- a frame with one word changed is refused.
 -- Assumes nothing.
-use Prim.Native.Nat.{ℕ, zero, suc, _+_, _^_, _≤_, _<_}
+use Prim.Native.Nat.{ℕ, zero, suc, _*_, _≤_, _<_}
 use mathlib.Core.Path.{_≡_, refl, sym, _∙_, ap}
-use mathlib.Core.Logic.{_⊎_, inl, inr, ⊎-elim}
-use mathlib.Core.Bool.{true, _&&_, cond}
-use mathlib.Core.List.{List, [], _∷_, map, List·Memᴰ, List·Memᴰ·head, List·Memᴰ·tail, List·Memᴰ·not-nil}
+use mathlib.Core.Logic.{inl, inr, ⊎-elim}
+use mathlib.Core.Bool.{Bool, true, _&&_, cond}
+use mathlib.Core.List.{List, [], _∷_, _++_, List·Memᴰ, List·Memᴰ·head, List·Memᴰ·tail, List·Memᴰ·not-nil}
 use native.Mathlib.Omega.{arith}
 use lib.Dec.{eqb}
-use lib.ListN.{length, getD, set, take, drop, length-map}
-use lib.Seq.{take-append-seam, length-take-le}
+use lib.ListN.{length, getD, set, take, drop}
+use lib.Seq.{take-append-seam, drop-append-seam, length-take-le, getD-take, take-take}
 use borrow.Author.Tests.{eqb-true}
+use Rattle.plan.specs.Plan.{Plan}
 use Rattle.plan.specs.Decode.{planOf}
 use Rattle.plan.specs.Admission.{Verdict, accepted, refused, planVerdict}
 use Rattle.plan.proofs.Bool.{and-fst, and-snd}
@@ -18,30 +19,29 @@ use Rattle.plan.proofs.Every.{every-member}
 use Rattle.plan.proofs.Accepted.{yes-of}
 use Rattle.operation.specs.Admission.{operationVerdict}
 use Rattle.operation.specs.Run.{Store, applyUpdate, run}
-use Rattle.operation.proofs.Words.{AllWords}
 use Rattle.token.specs.Frame.{overwritten}
-use Rattle.token.specs.Admission.{frameVerdict, frameVisit, frameUpdates, readVerdict}
+use Rattle.token.specs.Admission.{frameVerdict}
 use Rattle.token.proofs.OneWord.{one-word}
 use Rattle.token.proofs.Verdicts.{both, read-after}
-use Rattle.queue.specs.Queue.{paramsOf}
+use Rattle.queue.specs.Queue.{noRequest}
 use Rattle.queue.specs.declared.record.Request.{Request}
 use Rattle.desk.specs.declared.state.Desk.{Desk}
 use Rattle.desk.specs.Queueing.{operationOf, waitingIn}
 use Rattle.desk.specs.Admission.{isAccepted, deskBuffersFit, waitsHere, deskStands}
 use Rattle.desk.proofs.Asked.{accepted-is}
 use Rattle.passing.specs.Admission.{visitBuffersFit}
-use Rattle.passing.specs.Visit.{forwarded, isRefused, Visited, caughtUp, outgoingUpdates, outgoingFrame, visitedBy, visitVerdict}
-use Rattle.passing.specs.Visit.{visitResult}
-use Rattle.passing.specs.Waiting.{Answered, repliesOf, repliesWords}
+use Rattle.passing.specs.Visit.{forwarded, Visited, caughtUp, outgoingFrame, visitedBy, visitVerdict, visitResult}
+use Rattle.passing.specs.Waiting.{runAll, Answered, repliesOf, replyWords, repliesWords}
+use Rattle.passing.specs.Running.{replyTo, allReplies}
+use Rattle.passing.proofs.WaitingRuns.{replies-length}
+use Rattle.passing.proofs.OwnUpdates.{replies-count}
 use Rattle.serial.proofs.Lists.{mem-All}
 use Rattle.history.specs.History.{Holding}
+use Rattle.history.specs.Answering.{WaitsAt, replyPart, visitResultAt, storeBefore, AnswersWaiting, VisitAnswersWaiting}
+use Rattle.history.specs.AcceptedVisit.{RecordsFit, Sends, VisitFrameReads, ChangedWordRefused}
 use Rattle.history.proofs.Operations.{Runs}
 use Rattle.history.proofs.Standing.{Stands, Six, six}
 use Rattle.history.proofs.Visits.{turn-of, sends-reads}
-
--- the parameters of every record are words
-abbrev pub RecordsFit : List Request → Type 0
-RecordsFit queue = (r : Request) → List·Memᴰ r queue → AllWords (paramsOf r)
 
 mem-take : {A : Type 0} (k : ℕ) (l : List A) (x : A) → List·Memᴰ x (take k l) → List·Memᴰ x l
 mem-take zero l x m = absurd (List·Memᴰ·not-nil m)
@@ -49,108 +49,109 @@ mem-take (suc k) [] x m = m
 mem-take (suc k) (y ∷ l) x (List·Memᴰ·head e) = List·Memᴰ·head e
 mem-take (suc k) (y ∷ l) x (List·Memᴰ·tail m) = List·Memᴰ·tail (mem-take k l x m)
 
-module _ (plan : List ℕ) (d : Desk) (cells : List ℕ) (queue : List Request) (frame out replies : List ℕ) where
-  abbrev left : Visited
-  left = visitResult plan d cells queue frame out replies
+-- the reply of record k, with any words after the replies
+replies-at : (p : Plan) (q : List Request) (s : Store) (k : ℕ) (rest : List ℕ) → k < length q →
+    replyPart k (repliesWords (repliesOf p q s) ++ rest) ≡ replyWords (replyTo p (getD q k noRequest) (runAll p (take k q) s))
+unfolding repliesOf repliesWords runAll
+replies-at p [] s k rest l = absurd (omega arith)
+replies-at p (r ∷ q) s zero rest l = refl
+replies-at p (r ∷ q) s (suc k) rest l =
+    let e : 3 * suc k ≡ suc (suc (suc (3 * k))) = omega arith in
+    rw e (replies-at p q (applyUpdate (run p (operationOf r) s .update) s) k rest (omega arith))
+
+module _ (plan : List ℕ) (h : Holding) (frame out replies : List ℕ) where
+  abbrev d : Desk
+  d = h .state
 
   abbrev waiting : List Request
-  waiting = waitingIn (d .waiting) queue
+  waiting = waitingIn (d .waiting) (h .queue)
+
+  abbrev caught : Store
+  caught = caughtUp (planOf plan) d (h .cells) (h .queue) frame out replies
 
   abbrev given : List Answered
-  given = repliesOf (planOf plan) waiting (caughtUp (planOf plan) d cells queue frame out replies)
+  given = repliesOf (planOf plan) waiting caught
 
-  -- the frame that it writes: its first words, as many as its answer says
-  pub record Sends (sent : List ℕ) : Type 0 where
-    pub verdict : readVerdict plan sent ≡ accepted
-    pub number : frameVisit sent ≡ frameVisit frame + 1
-    pub updates : frameUpdates sent ≡ outgoingUpdates (planOf plan) d cells queue frame out replies
+  abbrev left : Visited
+  left = visitResultAt plan h frame out replies
 
-  -- the replies that it puts out: those of the first `waiting` records, in order and with their clients' words
-  pub record AnswersWaiting (count : ℕ) (after : List ℕ) : Type 0 where
-    pub count-is : count ≡ d .waiting
-    pub words : after ≡ overwritten (repliesWords given) replies
-    pub clients : map (λ (a : Answered). a .client) given ≡ map (λ (r : Request). r .client) waiting
-    pub each : (r : Request) → List·Memᴰ r waiting →
-        (s : Store) × List·Memᴰ (record { client = r .client; reply = run (planOf plan) (operationOf r) s .reply }) given
+  abbrev sends : List ℕ
+  sends = outgoingFrame (planOf plan) d (h .cells) (h .queue) frame out replies
 
   -- ---- acceptance shows the verdict
 
-  forwarded-accepted : (words count : ℕ) (v : Verdict) → visitedBy (planOf plan) d cells queue frame out replies v .answer
+  forwarded-accepted : (words count : ℕ) (v : Verdict) → visitedBy (planOf plan) d (h .cells) (h .queue) frame out replies v .answer
       ≡ forwarded words count → v ≡ accepted
   forwarded-accepted words count accepted e = refl
   forwarded-accepted words count (refused q) e = cc
 
   module _ (words count : ℕ) (answered : left .answer ≡ forwarded words count) where
-    verdict-of : visitVerdict plan d cells queue frame out replies ≡ accepted
+    verdict-of : visitVerdict plan d (h .cells) (h .queue) frame out replies ≡ accepted
     unfolding visitResult
-    verdict-of = forwarded-accepted words count (visitVerdict plan d cells queue frame out replies) answered
+    verdict-of = forwarded-accepted words count (visitVerdict plan d (h .cells) (h .queue) frame out replies) answered
 
     plan-of : planVerdict plan ≡ accepted
     unfolding visitVerdict
     plan-of = both (planVerdict plan) _ verdict-of .0
 
-    rest-of : (deskBuffersFit cells queue && visitBuffersFit out replies ≡ true) × (deskStands (planOf plan) d queue ≡ true)
+    abbrev fit : Bool
+    fit = deskBuffersFit (h .cells) (h .queue) && visitBuffersFit out replies
+
+    rest-of : (fit ≡ true) × (deskStands (planOf plan) d (h .queue) ≡ true)
     unfolding visitVerdict
     rest-of =
         let a = both (planVerdict plan) _ verdict-of .1 in
-        let b = both (cond (deskBuffersFit cells queue && visitBuffersFit out replies) accepted (refused 5)) _ a in
-        let c = both (cond (deskStands (planOf plan) d queue) accepted (refused 6)) _ (b .1) in (
-          yes-of (deskBuffersFit cells queue && visitBuffersFit out replies) accepted 5 (b .0) .0,
-          yes-of (deskStands (planOf plan) d queue) accepted 6 (c .0) .0,
-        )
-
-    abbrev h : Holding
-    h = record { state = d; cells = cells; queue = queue }
+        let b = both (cond fit accepted (refused 5)) _ a in
+        let c = both (cond (deskStands (planOf plan) d (h .queue)) accepted (refused 6)) _ (b .1) in
+        (yes-of fit accepted 5 (b .0) .0, yes-of (deskStands (planOf plan) d (h .queue)) accepted 6 (c .0) .0)
 
     six-of : Six plan h
     six-of = six plan h (rest-of .1)
 
-    size-of : length queue ≡ 32
+    size-of : length (h .queue) ≡ 32
     unfolding deskBuffersFit
     size-of =
-        eqb-true (length queue) 32
-        (and-snd (eqb (length cells) 1024) _ (and-fst (deskBuffersFit cells queue) (visitBuffersFit out replies) (rest-of .0)))
+        let b = and-fst (deskBuffersFit (h .cells) (h .queue)) (visitBuffersFit out replies) (rest-of .0) in
+        eqb-true (length (h .queue)) 32 (and-snd (eqb (length (h .cells)) 1024) _ b)
 
-    room-of : d .waiting ≤ length queue
+    room-of : d .waiting ≤ length (h .queue)
     room-of = omega (arith, six-of .few, size-of)
 
     -- ---- the replies
 
-    given-is : (left .answer ≡ forwarded (length (outgoingFrame (planOf plan) d cells queue frame out replies)) (length given))
-        × (left .replies ≡ overwritten (repliesWords given) replies)
-        × (left .out ≡ overwritten (outgoingFrame (planOf plan) d cells queue frame out replies) out)
+    passed-is : (forwarded words count ≡ forwarded (length sends) (length given))
+        × (left .replies ≡ overwritten (repliesWords given) replies) × (left .out ≡ overwritten sends out) × (left .state .waiting ≡ 0)
     unfolding visitResult
-    given-is = rw verdict-of (refl, refl, refl)
+    passed-is = (sym answered ∙ rw verdict-of refl, rw verdict-of refl, rw verdict-of refl, rw verdict-of refl)
 
-    replies-clients : (q : List Request) (s : Store) → map (λ (a : Answered). a .client) (repliesOf (planOf plan) q s)
-        ≡ map (λ (r : Request). r .client) q
-    unfolding repliesOf
-    replies-clients [] s = refl
-    replies-clients (r ∷ q) s =
-        ap (λ (l : List ℕ). r .client ∷ l) (replies-clients q (applyUpdate (run (planOf plan) (operationOf r) s .update) s))
+    waiting-length : length waiting ≡ d .waiting
+    waiting-length = length-take-le (d .waiting) (h .queue) room-of
 
-    replies-each : (q : List Request) (s : Store) (r : Request) → List·Memᴰ r q →
-        (t : Store)
-        × List·Memᴰ (record { client = r .client; reply = run (planOf plan) (operationOf r) t .reply }) (repliesOf (planOf plan) q s)
-    unfolding repliesOf
-    replies-each [] s r m = absurd (List·Memᴰ·not-nil m)
-    replies-each (t ∷ q) s r (List·Memᴰ·head e) =
-        (s, List·Memᴰ·head (ap (λ (u : Request). record { client = u .client; reply = run (planOf plan) (operationOf u) s .reply }) e))
-    replies-each (t ∷ q) s r (List·Memᴰ·tail m) =
-        let k = replies-each q (applyUpdate (run (planOf plan) (operationOf t) s .update) s) r m in (k .0, List·Memᴰ·tail (k .1))
+    replies-size : length (repliesWords given) ≡ 3 * d .waiting
+    unfolding allReplies
+    replies-size = replies-length (planOf plan) waiting caught ∙ ap (λ (n : ℕ). 3 * n) waiting-length
 
-    -- "runs all waiting requests in order": each waiting request is answered at this visit, and no other
-    pub visit-answers-waiting : AnswersWaiting count (left .replies)
-    visit-answers-waiting =
-        let c = caughtUp (planOf plan) d cells queue frame out replies in
-        let counted : length given ≡ d .waiting =
-        sym (length-map given (λ (a : Answered). a .client)) ∙ ap length (replies-clients waiting c)
-        ∙ length-map waiting (λ (r : Request). r .client) ∙ length-take-le (d .waiting) queue room-of in
+    answers-each : (k : ℕ) (r : Request) → WaitsAt k r h →
+        replyPart k (left .replies) ≡ replyWords (replyTo (planOf plan) r (storeBefore plan h frame out replies k))
+    answers-each k r w =
+        let l : k < d .waiting = w .0 in
+        rw (
+          passed-is .1,
+          replies-at (planOf plan) waiting caught k (drop (length (repliesWords given)) replies) (omega (arith, waiting-length)),
+          getD-take (d .waiting) (h .queue) k noRequest l,
+          w .1,
+          take-take k (d .waiting) (h .queue) (omega arith),
+        ) refl
+
+    answers-waiting : AnswersWaiting plan h frame out replies count left
+    answers-waiting =
+        let counted : count ≡ d .waiting =
+        same-count (passed-is .0) ∙ replies-count (planOf plan) waiting caught ∙ waiting-length in
         record {
-          count-is = same-count (sym answered ∙ given-is .0) ∙ counted;
-          words = given-is .1;
-          clients = replies-clients waiting c;
-          each = replies-each waiting c;
+          count-is = counted;
+          each = answers-each;
+          untouched = rw (counted, passed-is .1, ← replies-size) (drop-append-seam (repliesWords given) _);
+          none-waits = passed-is .3;
         }
       where
         same-count : {a b : ℕ} → forwarded words count ≡ forwarded a b → count ≡ b
@@ -158,21 +159,21 @@ module _ (plan : List ℕ) (d : Desk) (cells : List ℕ) (queue : List Request) 
 
     -- ---- the frame
 
-    waits-runs : RecordsFit queue → (r : Request) → List·Memᴰ r waiting → Runs (planOf plan) r
+    waits-runs : RecordsFit (h .queue) → (r : Request) → List·Memᴰ r waiting → Runs (planOf plan) r
     unfolding waitsHere
     waits-runs fit r m =
         let e = every-member (waitsHere (planOf plan) (d .desk)) waiting r (six-of .each) m in
         record {
           four = refl;
-          words = fit r (mem-take (d .waiting) queue r m);
+          words = fit r (mem-take (d .waiting) (h .queue) r m);
           passes = accepted-is (operationVerdict (planOf plan) (operationOf r))
               (and-fst (isAccepted (operationVerdict (planOf plan) (operationOf r))) _ e);
         }
 
     -- what an accepted visit writes is read as visit v + 1 with the outgoing updates
-    pub visit-frame-reads : RecordsFit queue → Sends (take words (left .out))
-    visit-frame-reads fit =
-        let ok : Stands plan (λ (q : ℕ). length queue) (d .desk) h =
+    frame-reads : RecordsFit (h .queue) → Sends plan h frame out replies (take words (left .out))
+    frame-reads fit =
+        let ok : Stands plan (λ (q : ℕ). length (h .queue)) (d .desk) h =
         record {
           desk = refl;
           stands = rest-of .1;
@@ -180,11 +181,10 @@ module _ (plan : List ℕ) (d : Desk) (cells : List ℕ) (queue : List Request) 
           room = room-of;
           runs = mem-All (Runs (planOf plan)) waiting (waits-runs fit);
         } in
-        let sends = outgoingFrame (planOf plan) d cells queue frame out replies in
-        let r = sends-reads plan plan-of (λ q. length queue) h ok frame out replies
-        (turn-of plan d cells queue frame out replies verdict-of) in
+        let r = sends-reads plan plan-of (λ q. length (h .queue)) h ok frame out replies
+        (turn-of plan d (h .cells) (h .queue) frame out replies verdict-of) in
         let whole : take words (left .out) ≡ sends =
-        rw (given-is .2, same-words (sym answered ∙ given-is .0)) (take-append-seam sends (drop (length sends) out)) in
+        rw (passed-is .2, same-words (passed-is .0)) (take-append-seam sends (drop (length sends) out)) in
         rw whole
         (record {
           verdict = sym (read-after plan sends accepted plan-of (sym (r .verdict)));
@@ -195,21 +195,16 @@ module _ (plan : List ℕ) (d : Desk) (cells : List ℕ) (queue : List Request) 
         same-words : {a b : ℕ} → forwarded words count ≡ forwarded a b → words ≡ a
         same-words e = cc
 
-  -- ---- one word changed
+-- "runs all waiting requests in order": each waiting request is answered at this visit, and no other
+pub visit-answers-waiting : VisitAnswersWaiting
+visit-answers-waiting plan h frame out replies words count e = answers-waiting plan h frame out replies words count e
 
-  -- refused with this number: "nothing lent and no state changes"
-  abbrev pub RefusedWith : ℕ → List ℕ → Type 0
-  RefusedWith question changed =
-      visitResult plan d cells queue changed out replies
-      ≡ record { answer = isRefused question; state = d; cells = cells; out = out; replies = replies }
+pub visit-frame-reads : VisitFrameReads
+visit-frame-reads plan h frame out replies words count e = frame-reads plan h frame out replies words count e
 
-  -- where questions 1 to 6 pass, a frame that reads is refused with 10 or 11 if any one word of it is changed to another
-  pub changed-word-refused : planVerdict plan ≡ accepted → deskBuffersFit cells queue && visitBuffersFit out replies ≡ true →
-      deskStands (planOf plan) d queue ≡ true → AllWords frame → frameVerdict (planOf plan .desks) frame ≡ accepted →
-      (i x : ℕ) → i < length frame → x < 2 ^ 32 → (x ≡ getD frame i 0 → ⊥)
-      → RefusedWith 10 (set frame i x) ⊎ RefusedWith 11 (set frame i x)
-  unfolding visitResult visitVerdict
-  changed-word-refused a b c words reads i x l hx ne =
-      ⊎-elim (λ (e : frameVerdict (planOf plan .desks) (set frame i x) ≡ refused 10). inl (rw (a, b, c, e) refl))
-      (λ (e : frameVerdict (planOf plan .desks) (set frame i x) ≡ refused 11). inr (rw (a, b, c, e) refl))
-      (one-word (planOf plan .desks) frame words reads i x l hx ne)
+pub changed-word-refused : ChangedWordRefused
+unfolding visitResult visitVerdict
+changed-word-refused plan h frame out replies a b c words reads i x l hx ne =
+    ⊎-elim (λ (e : frameVerdict (planOf plan .desks) (set frame i x) ≡ refused 10). inl (rw (a, b, c, e) refl))
+    (λ (e : frameVerdict (planOf plan .desks) (set frame i x) ≡ refused 11). inr (rw (a, b, c, e) refl))
+    (one-word (planOf plan .desks) frame words reads i x l hx ne)

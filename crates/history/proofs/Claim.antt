@@ -5,6 +5,7 @@ use mathlib.Core.Path.{_≡_, refl, sym, _∙_, ap, subst}
 use mathlib.Core.Bool.{Bool}
 use mathlib.Core.List.{List, [], _∷_, map}
 use native.Mathlib.Nat.{zero-add}
+use native.Mathlib.Omega.{arith}
 use lib.ListN.{length, getD}
 use Rattle.plan.specs.Plan.{Plan}
 use Rattle.plan.specs.Decode.{planOf}
@@ -20,8 +21,10 @@ use Rattle.serial.specs.System.{System}
 use Rattle.serial.specs.SerialRun as run
 use Rattle.serial.specs.Order as protocolOrder
 use Rattle.serial.specs.Claim as protocol
-use Rattle.serial.specs.Machine.{Machine, machineAfter, seen, answersSeen}
-use Rattle.serial.proofs.Bridge.{machine-serializable}
+use Rattle.serial.specs.AtEnd.{ProperFrom, answersOf}
+use Rattle.serial.specs.Desk as desk
+use Rattle.serial.specs.Machine.{Machine, Words, machineAfter, seen, answersSeen, MachineProper}
+use Rattle.serial.proofs.Bridge.{AllOk, machine-proper, machine-answers, machine-serializable}
 use Rattle.history.specs.History.{Holding, Call, isRefused, outcomes, holdingsAfter, start, ProperFromStart}
 use Rattle.history.specs.Order.{Finished}
 use Rattle.history.specs.SerialRun.{Classifies, Serial, newSerial, serial, order, storeAfter, due}
@@ -35,7 +38,7 @@ use Rattle.history.proofs.Machine.{machine, frames, after-is, refusals-
 use Rattle.history.proofs.SerialSeen.{finishedSeen, serialSeen, notes-seen}
 use Rattle.history.proofs.OrderSeen.{RanAs, RunsAll, sort-seen, all-sorted, store-seen, due-seen}
 use Rattle.history.proofs.Notes.{notes-noted}
-use Rattle.history.proofs.Given.{each-gives}
+use Rattle.history.proofs.Given.{Match, each-gives, none-past}
 
 module _ (ws : List ℕ) (accept : planVerdict ws ≡ accepted) (class : Operation → Class) (right : Classifies (planOf ws) class)
     (cells : List ℕ) (rows : ℕ → List Request) (cs : List Call) (pr : ProperFromStart ws cells rows cs) where
@@ -51,17 +54,36 @@ module _ (ws : List ℕ) (accept : planVerdict ws ≡ accepted) (class : Operati
   abbrev M : Machine S
   M = machine ws accept class right records
 
+  abbrev N : Words M
+  N = frames ws accept class right records
+
   abbrev w : ℕ → Holding
   w = start cells rows
 
-  abbrev refusals : List Bool
+  standing : AllOk M w
+  standing q l = start-stands ws cells rows q l
+
+  proper : MachineProper M N w (startingFrame ∷ []) cs
+  proper = proper-is ws accept class right records cs w (startingFrame ∷ []) pr
+
+  abbrev pub refusals : List Bool
   refusals = map isRefused (outcomes ws w cs)
 
   abbrev s : Serial
   s = serial p class cs refusals
 
-  abbrev ordered : List Finished
+  abbrev pub ordered : List Finished
   ordered = order s
+
+  -- ---- the protocol's history is this one
+
+  pub proper-seen : ProperFrom S cells (map callSeen cs)
+  proper-seen = machine-proper M N cells w standing refl cs proper
+
+  pub refusals-seen : map desk.isRefused (answersOf S cells (map callSeen cs)) ≡ refusals
+  refusals-seen =
+      ap (map desk.isRefused) (sym (machine-answers M N cells w standing refl cs proper))
+      ∙ refusals-are ws accept class right records cs w
 
   -- ---- the protocol's serial run is this one
 
@@ -75,9 +97,7 @@ module _ (ws : List ℕ) (accept : planVerdict ws ≡ accepted) (class : Operati
       subst Whole
       (ap (run.serial S (map callSeen cs)) (refusals-are ws accept class right records cs w)
       ∙ sym (notes-seen ws class records cs refusals newSerial))
-      (machine-serializable M (frames ws accept class right records) cells w
-      (λ q l. start-stands ws cells rows q l) refl cs (proper-is ws accept class right records cs w (startingFrame ∷ []) pr)
-      (laws ws accept class right records))
+      (machine-serializable M N cells w standing refl cs proper (laws ws accept class right records))
 
   ended : RunsAll p (s .finished)
   ended = notes-noted ws class cs w (startingFrame ∷ []) newSerial pr (record { lines = λ d. tt; ended = tt }) .ended
@@ -87,6 +107,10 @@ module _ (ws : List ℕ) (accept : planVerdict ws ≡ accepted) (class : Operati
 
   order-is : run.order S (serialSeen s) ≡ map finishedSeen ordered
   order-is = sym (sort-seen p [] (s .finished) tt ended)
+
+  -- so is its order
+  pub order-seen : run.order S (run.serial S (map callSeen cs) refusals) ≡ map finishedSeen ordered
+  order-seen = ap (run.order S) (sym (notes-seen ws class records cs refusals newSerial)) ∙ order-is
 
   store-is : run.storeAfter S (run.order S (serialSeen s)) cells ≡ storeAfter p ordered cells
   store-is =
@@ -122,11 +146,14 @@ module _ (ws : List ℕ) (accept : planVerdict ws ≡ accepted) (class : Operati
 
   -- ---- the claim
 
+  given-is : Match ws accept class right records (λ i. due p i ordered cells) 0 cs w
+  given-is j = whole .all-replies j ∙ due-is j ∙ ap (λ (k : ℕ). map answeredSeen (due p k ordered cells)) (sym (zero-add j))
+
   claim : Serializable p cells cs (outcomes ws w cs) (holdingsAfter ws w cs) s
   claim =
       record {
-        all-replies = each-gives ws accept class right records (λ i. due p i ordered cells) cs w 0
-            (λ j. whole .all-replies j ∙ due-is j ∙ ap (λ (k : ℕ). map answeredSeen (due p k ordered cells)) (sym (zero-add j)));
+        all-replies = each-gives ws accept class right records (λ i. due p i ordered cells) cs w 0 given-is;
+        none-further = λ i l. none-past ws accept class right records (λ i. due p i ordered cells) cs w 0 given-is i (omega arith);
         one-desk = λ c d j. value-is d c _
             (whole .one-desk d c (desk-of-one c d j) (one-of c d j) ∙ ap (λ (b : Store). getD b c 0) store-is);
         any-other = λ c f. value-is (s .latest) c _

@@ -1,6 +1,6 @@
 -- The replies that the protocol sees a call give are those that stand in its answer and in its reply buffer.
 -- Assumes nothing.
-use Prim.Native.Nat.{ℕ, suc, _+_}
+use Prim.Native.Nat.{ℕ, suc, _+_, _-_, _≤_}
 use mathlib.Core.Path.{_≡_, refl, sym, _∙_, ap}
 use mathlib.Core.List.{List, [], _∷_, map}
 use native.Mathlib.Nat.{add-zero}
@@ -71,7 +71,7 @@ module _ (ws : List ℕ) (h : Holding) (p : ℕ) (ft out replies : List ℕ) whe
 
 module _ (ws : List ℕ) (accept : planVerdict ws ≡ accepted) (class : Operation → Class) (right : Classifies (planOf ws) class)
     (records : ℕ → ℕ) (replies : ℕ → List Answered) where
-  abbrev Match : ℕ → List Call → (ℕ → Holding) → Type 0
+  abbrev pub Match : ℕ → List Call → (ℕ → Holding) → Type 0
   Match i cs w =
       (j : ℕ) → getD (map desk.given (answersSeen (machine ws accept class right records) w cs)) j [] ≡ map answeredSeen (replies (i + j))
 
@@ -94,3 +94,12 @@ module _ (ws : List ℕ) (accept : planVerdict ws ≡ accepted) (class : Operati
             (first i (passageSeen (v .answer) (v .out) (repliesRun ws (w p) (visit p ft out buffer))) (m 0)),
         each-gives cs (stepAt ws w (visit p ft out buffer)) (suc i) (λ j. m (suc j) ∙ later i j),
       )
+
+  -- past the last call nothing is given, so nothing is due
+  pub none-past : (cs : List Call) (w : ℕ → Holding) (i : ℕ) → Match i cs w → (j : ℕ) → i + length cs ≤ j → replies j ≡ []
+  none-past [] w i m j l =
+      seen-once (replies j) [] (ap (λ (k : ℕ). map answeredSeen (replies k)) (omega arith) ∙ sym (m (j - i)))
+  none-past (request p client k ps ∷ cs) w i m j l =
+      none-past cs (stepAt ws w (request p client k ps)) (suc i) (λ j. m (suc j) ∙ later i j) j (omega arith)
+  none-past (visit p ft out buffer ∷ cs) w i m j l =
+      none-past cs (stepAt ws w (visit p ft out buffer)) (suc i) (λ j. m (suc j) ∙ later i j) j (omega arith)

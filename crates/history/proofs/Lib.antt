@@ -14,7 +14,9 @@ pub mod OrderSeen
 pub mod Notes
 pub mod Given
 pub mod Claim
+pub mod OrderRule
 pub mod Start
+pub mod VisitNumbers
 pub mod AcceptedVisit
 pub mod Joining
 pub mod Answered

@@ -35,7 +35,7 @@ of-order : (g h p q : ℕ) → (g < h) ⊎ ((g ≡ h) × (p < q)) → cond (eqb 
 of-order g h p q (inl l) = rw (ne-eqb g h (omega arith)) (lt-ltb g h l)
 of-order g h p q (inr l) = rw (eq-eqb g h (l .0)) (lt-ltb p q (l .1))
 
-of-means : (a b : Slot) → order.Before (slotSeen a) (slotSeen b) → before a b ≡ true
+pub of-means : (a b : Slot) → order.Before (slotSeen a) (slotSeen b) → before a b ≡ true
 of-means (globalRun j) (globalRun k) h = lt-ltb j k h
 of-means (globalRun k) (immediateRun g p) h = le-leb k g h
 of-means (immediateRun g p) (globalRun k) h = lt-ltb g k h

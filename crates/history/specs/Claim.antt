@@ -1,5 +1,5 @@
 -- Demand 3: "a single claim about a whole history, not one for each call".
-use Prim.Native.Nat.{ℕ, suc}
+use Prim.Native.Nat.{ℕ, suc, _≤_}
 use mathlib.Core.Path.{_≡_}
 use mathlib.Core.List.{List, [], _∷_, map}
 use lib.ListN.{length, getD}
@@ -51,6 +51,9 @@ EachGives replies i (c ∷ cs) (o ∷ os) = Gives c o (replies i) × EachGives r
 -- b the starting cells, os the outcomes of the calls cs, w the holdings at the end, s the serial run at the end
 pub record Serializable (p : Plan) (b : Store) (cs : List Call) (os : List Outcome) (w : ℕ → Holding) (s : Serial) : Type 0 where
   pub all-replies : EachGives (λ i. due p i (order s) b) 0 cs os
+  -- "A request finished at once is answered with its reply. A visit puts out the replies of what it finished": the calls give all
+  -- that is due, and past the last of them nothing is
+  pub none-further : (i : ℕ) → length cs ≤ i → due p i (order s) b ≡ []
   -- "A cell that just one desk may touch has its serial value in that desk's book"
   pub one-desk : (c d : ℕ) → JustOne p c d → getD (w d .cells) c 0 ≡ getD (storeAfter p (order s) b) c 0
   -- "any other, at the desk of the latest accepted visit (desk 0 before any)"

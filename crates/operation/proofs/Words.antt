@@ -10,13 +10,10 @@ use native.Mathlib.Omega.{arith}
 use lib.ListN.{getD, set}
 use lib.Dec.{leb}
 use Rattle.plan.specs.Plan.{Source, param, fixed, reads, writes, Action, sets, adds, needs, takes, Step, cell, operand, Transaction}
+use Rattle.operation.specs.Words.{AllWords}
 use Rattle.operation.specs.Operation.{valueOf, cellNumber}
 use Rattle.operation.specs.Run.{Store, Update, Outcome, declined, Next, continues, stops, act, onward, runFrom, runTransaction}
 use Rattle.operation.proofs.Bounds.{FieldsFit, AllFit}
-
--- "Words are unsigned 32-bit"
-abbrev pub AllWords : List ℕ → Type 0
-AllWords l = (i : ℕ) → getD l i 0 < 2 ^ 32
 
 abbrev pub ValuesFit : Update → Type 0
 ValuesFit u = (w : ℕ × ℕ) → List·Memᴰ w u → w .1 < 2 ^ 32

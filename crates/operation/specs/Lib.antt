@@ -1,3 +1,4 @@
+pub mod Words
 pub mod Operation
 pub mod Admission
 pub mod Run

@@ -1,6 +1,6 @@
 -- Laws of lists: a property of every element or of every pair, one entry more, and a function changed at one place.
 -- Assumes nothing.
-use Prim.Native.Nat.{ℕ, suc}
+use Prim.Native.Nat.{ℕ, zero, suc, _<_}
 use mathlib.Core.Path.{_≡_, refl, sym, _∙_, ap, fun-ext}
 use mathlib.Core.Logic.{_≢_, ⊎-elim}
 use mathlib.Core.Bool.{Bool, true, false, cond}
@@ -66,6 +66,19 @@ Pairs-part P R Q (x ∷ xs) f h k = (both xs (h .1) (k .0), Pairs-part P R Q xs 
     both : (ys : List _) → All P ys → All (R x) ys → All (Q x) ys
     both [] a b = tt
     both (y ∷ ys) a b = (f x y (h .0) (a .0) (b .0), both ys (a .1) (b .1))
+
+-- at two places
+pub All-getD : {A : Type 0} (P : A → Type 0) (xs : List A) (d : A) → All P xs → (i : ℕ) → i < length xs → P (getD xs i d)
+All-getD P [] d h i l = absurd (omega arith)
+All-getD P (x ∷ xs) d h zero l = h .0
+All-getD P (x ∷ xs) d h (suc i) l = All-getD P xs d (h .1) i (omega arith)
+
+pub Pairs-getD : {A : Type 0} (R : A → A → Type 0) (xs : List A) (d : A) → Pairs R xs → (i j : ℕ) → i < j → j < length xs →
+    R (getD xs i d) (getD xs j d)
+Pairs-getD R [] d h i j l k = absurd (omega arith)
+Pairs-getD R (x ∷ xs) d h i zero l k = absurd (omega arith)
+Pairs-getD R (x ∷ xs) d h zero (suc j) l k = All-getD (R x) xs d (h .0) j (omega arith)
+Pairs-getD R (x ∷ xs) d h (suc i) (suc j) l k = Pairs-getD R xs d (h .1) i j (omega arith) (omega arith)
 
 -- ---- nothing in a joined list
 

@@ -9,7 +9,7 @@ use Rattle.operation.specs.Operation.{operation, writeSet}
 use Rattle.operation.specs.Admission.{operationVerdict}
 use Rattle.token.specs.Frame.{SentUpdate, sent, startingFrame}
 use Rattle.token.specs.Admission.{readVerdict, updatesFrom}
-use Rattle.token.specs.Answer.{VisitRead, visitNumber, refusal, visitRead, partRead}
+use Rattle.token.specs.Answer.{VisitRead, visitNumber, refusal, visitRead, partRead, startVerdict, startWords}
 use Rattle.queue.specs.Queue.{noRequest}
 use Rattle.queue.specs.declared.record.Request.{Request}
 use Rattle.desk.specs.declared.state.Desk.{Desk}
@@ -44,34 +44,52 @@ pub data Input : Type 0 where
   classify : ℕ → List ℕ → Input
   admit : ℕ → List ℕ → Input
   cellsWritten : ℕ → List ℕ → Input
-  startFrame : Input
+  -- the starting frame, into these outgoing words
+  startFrame : List ℕ → Input
   readFrame : List ℕ → Input
-  -- a visit at the desk in this state, with these requests waiting, by this frame; "Books all zero", the other buffers too
-  visit : Desk → List Request → List ℕ → Input
+  -- visits by these frames, one after another, at the desk in this state, with these requests waiting; "Books all zero", the other
+  -- buffers too
+  visits : Desk → List Request → List (List ℕ) → Input
+
+-- what is shown of a visit: the answer, the state that it leaves, the first seven outgoing words and the first three reply words
+pub record Left : Type 0 where
+  pub answer : passing.Passage
+  pub state : Desk
+  pub out : List ℕ
+  pub replies : List ℕ
+
+abbrev left : passing.Passage → Desk → List ℕ → List ℕ → Left
+left a d out replies = record { answer = a; state = d; out = out; replies = replies }
 
 pub data Result : Type 0 where
   verdict : Verdict → Result
   classified : Classified → Result
   cells : List ℕ → Result
-  words : List ℕ → Result
+  -- whether the starting frame was written, and the outgoing words after the call
+  started : Verdict → List ℕ → Result
   -- the visit or the refusal, and the updates in the part that is handed back
   frame : VisitRead → List SentUpdate → Result
-  -- the answer, the first seven outgoing words and the first three reply words
-  visited : passing.Passage → List ℕ → List ℕ → Result
+  visited : List Left → Result
 
-abbrev shown : passing.Visited → Result
-shown v = visited (v .answer) (take 7 (v .out)) (take 3 (v .replies))
+abbrev shown : passing.Visited → Left
+shown v = left (v .answer) (v .state) (take 7 (v .out)) (take 3 (v .replies))
+
+-- "State, book and row pass from call to call at their desk": each visit runs on what the one before left
+abbrev visitsFrom : List Request → Desk → List ℕ → List (List ℕ) → List Left
+visitsFrom queue d store [] = []
+visitsFrom queue d store (ws ∷ frames) =
+    let v = visitResult planP d store queue ws (replicate 6404 0) (replicate 96 0) in
+    shown v ∷ visitsFrom queue (v .state) (v .cells) frames
 
 abbrev pub resultOf : Input → Result
 resultOf readPlan = verdict (planVerdict planP)
 resultOf (classify k ps) = classified (classifyResult planP k ps)
 resultOf (admit k ps) = verdict (operationVerdict (planOf planP) (operation k ps))
 resultOf (cellsWritten k ps) = cells (writeSet (planOf planP) (operation k ps))
-resultOf startFrame = words startingFrame
+resultOf (startFrame out) = started (startVerdict out) (startWords out)
 resultOf (readFrame ws) = frame (visitRead (readVerdict planP ws) ws) (updatesFrom 0 (partRead (readVerdict planP ws) ws))
-resultOf (visit d waiting ws) =
-    shown (visitResult planP d (replicate 1024 0) (waiting ++ replicate (32 - length waiting) noRequest) ws (replicate 6404 0)
-    (replicate 96 0))
+resultOf (visits d waiting frames) =
+    visited (visitsFrom (waiting ++ replicate (32 - length waiting) noRequest) d (replicate 1024 0) frames)
 
 pub record Row : Type 0 where
   pub input : Input
@@ -99,19 +117,19 @@ table =
     -- "T3(): free."
     ∷ row (classify 3 (0 ∷ 0 ∷ 0 ∷ 0 ∷ [])) (classified isFree)
     -- "Starting frame: 90000004 00000000 90000004 20000008."
-    ∷ row startFrame (words (0x90000004 ∷ 0x00000000 ∷ 0x90000004 ∷ 0x20000008 ∷ []))
+    ∷ row (startFrame (replicate 5 1)) (started accepted (0x90000004 ∷ 0x00000000 ∷ 0x90000004 ∷ 0x20000008 ∷ 1 ∷ []))
     ∷ row (readFrame (0x90000004 ∷ 0x00000000 ∷ 0x90000004 ∷ 0x20000008 ∷ [])) (frame (visitNumber 0) [])
     -- the frame that desk 0 sends reads as visit 1 with T1's update
     ∷ row (readFrame (sentFrame 0xA0100000)) (frame (visitNumber 1) (sent 0 ((128, 3) ∷ []) ∷ []))
     -- "Word 2 as A1100000: 11."
     ∷ row (readFrame (sentFrame 0xA1100000)) (frame (refusal 11) [])
-    -- "Desk 0 with T1(0, 3) of client 7 waiting, visit 0, sends ..; reply C0000001 00000007 00000003."
-    ∷ row (visit (desk 0 1 0) (recordOf 7 1 (0 ∷ 3 ∷ 0 ∷ 0 ∷ []) ∷ []) startingFrame)
-    (visited (passing.forwarded 7 1) (sentFrame 0xA0100000) (0xC0000001 ∷ 0x00000007 ∷ 0x00000003 ∷ []))
-    -- "Word 2 as A1100000: 11."
-    ∷ row (visit (desk 1 0 1) [] (sentFrame 0xA1100000)) (visited (passing.isRefused 11) (replicate 7 0) (replicate 3 0))
-    -- "The frame twice at desk 1: 14": desk 1 awaits visit 1, and then visit 3; "at desk 0: 13."
-    ∷ row (visit (desk 1 0 1) [] (sentFrame 0xA0100000)) (visited (passing.forwarded 7 0) passedOn (replicate 3 0))
-    ∷ row (visit (desk 1 0 3) [] (sentFrame 0xA0100000)) (visited (passing.isRefused 14) (replicate 7 0) (replicate 3 0))
-    ∷ row (visit (desk 0 0 2) [] (sentFrame 0xA0100000)) (visited (passing.isRefused 13) (replicate 7 0) (replicate 3 0))
+    -- "Desk 0 with T1(0, 3) of client 7 waiting, visit 0, sends ..; reply C0000001 00000007 00000003." The frame sent "at desk 0: 13"
+    ∷ row (visits (desk 0 1 0) (recordOf 7 1 (0 ∷ 3 ∷ 0 ∷ 0 ∷ []) ∷ []) (startingFrame ∷ sentFrame 0xA0100000 ∷ []))
+    (visited (left (passing.forwarded 7 1) (desk 0 0 2) (sentFrame 0xA0100000) (0xC0000001 ∷ 0x00000007 ∷ 0x00000003 ∷ [])
+    ∷ left (passing.isRefused 13) (desk 0 0 2) (replicate 7 0) (replicate 3 0) ∷ []))
+    -- "Word 2 as A1100000: 11. The frame twice at desk 1: 14"
+    ∷ row (visits (desk 1 0 1) [] (sentFrame 0xA1100000 ∷ sentFrame 0xA0100000 ∷ sentFrame 0xA0100000 ∷ []))
+    (visited (left (passing.isRefused 11) (desk 1 0 1) (replicate 7 0) (replicate 3 0)
+    ∷ left (passing.forwarded 7 0) (desk 1 0 3) passedOn (replicate 3 0)
+    ∷ left (passing.isRefused 14) (desk 1 0 3) (replicate 7 0) (replicate 3 0) ∷ []))
     ∷ []

@@ -12,11 +12,12 @@ use lib.ListN.{length, getD, take, set, length-set}
 use lib.Seq.{length-take-le, getD-set-same, getD-set-other, getD-take, take-set-le, take-set-lt}
 use borrow.Author.Tests.{eqb-true}
 use Rattle.plan.specs.Decode.{planOf}
-use Rattle.plan.specs.Admission.{accepted, refused}
+use Rattle.plan.specs.Admission.{refused}
 use Rattle.plan.proofs.Bool.{and-fst, and-snd}
-use Rattle.operation.proofs.Words.{AllWords}
+use Rattle.operation.specs.Words.{AllWords}
 use Rattle.token.specs.Frame.{sumsFrom, sumsOf}
-use Rattle.token.specs.Admission.{frameHeaded, sumsRight, frameVerdict, readVerdict}
+use Rattle.token.specs.Admission.{frameHeaded, sumsRight, frameVerdict}
+use Rattle.token.specs.OneWord.{OneWord, OneWordRead}
 use Rattle.token.proofs.Verdicts.{headed, admitted, read-accepted, read-after}
 
 -- ---- the first sum is the words' total modulo 2^32
@@ -118,17 +119,12 @@ wrong-sums n ws e = go (frameHeaded ws) refl
     go true q = inr (simp (q, e))
     go false q = inl (simp q)
 
-pub one-word : (n : ℕ) (ws : List ℕ) → AllWords ws → frameVerdict n ws ≡ accepted
-    → (i x : ℕ) → i < length ws → x < 2 ^ 32 → (x ≡ getD ws i 0 → ⊥)
-    → (frameVerdict n (set ws i x) ≡ refused 10) ⊎ (frameVerdict n (set ws i x) ≡ refused 11)
+pub one-word : OneWord
 one-word n ws words e i x h hx d =
     let q = admitted n ws e in
     wrong-sums n (set ws i x) (no-longer-right ws i x words (headed ws (q .head) .low) h hx (q .sums) d)
 
--- the same for the reader, with the plan's questions before
-pub one-word-read : (plan ws : List ℕ) → AllWords ws → readVerdict plan ws ≡ accepted
-    → (i x : ℕ) → i < length ws → x < 2 ^ 32 → (x ≡ getD ws i 0 → ⊥)
-    → (readVerdict plan (set ws i x) ≡ refused 10) ⊎ (readVerdict plan (set ws i x) ≡ refused 11)
+pub one-word-read : OneWordRead
 one-word-read plan ws words e i x h hx d =
     let r = read-accepted plan ws e in
     ⊎-elim (λ q. inl (sym (read-after plan (set ws i x) (refused 10) (r .0) (sym q))))

@@ -17,6 +17,7 @@ use Rattle.token.specs.Frame.{SentUpdate, frameHead, writeWords, updates
 use Rattle.token.specs.Admission.{frameVisit, updatesPart, writesFrom, updatesFrom, frameUpdates, frameHeaded, sumsRight}
 use Rattle.token.specs.Admission.{wellFormed, fewPerDesk, updatesAdmitted, updatesRight, frameVerdict, ReadsAs}
 use Rattle.token.specs.WellFormed.{WellFormed}
+use Rattle.token.specs.RoundTrip.{ReadsExactly, WrittenLength, WritingInjective}
 use Rattle.token.proofs.HeadWords.{head-read, head-kind, head-zero, head-desk, head-length}
 use Rattle.token.proofs.PerDesk.{few-counts, counts-few}
 use Rattle.token.proofs.Decoding.{Decoded, decoded, encoded}
@@ -147,20 +148,15 @@ pub written-reads : (n v : ℕ) (us : List SentUpdate) → 1 ≤ n → n ≤ 8 �
 written-reads n v us low high f = subst (λ (ws : List ℕ). ReadsAs n ws v us) (same n v us low high f) (reads n v us low high f)
 
 -- both directions
-pub reads-exactly : (n : ℕ) → 1 ≤ n → n ≤ 8 → (ws : List ℕ) (v : ℕ) (us : List SentUpdate)
-    → (ReadsAs n ws v us → (ws ≡ frameWords n v us) × WellFormed n us) × ((ws ≡ frameWords n v us) × WellFormed n us → ReadsAs n ws v us)
+pub reads-exactly : ReadsExactly
 reads-exactly n low high ws v us =
     (reads-written n ws v us, λ w. subst (λ (x : List ℕ). ReadsAs n x v us) (sym (w .0)) (written-reads n v us low high (w .1)))
 
--- "4–6,404" words
-pub written-length : (n v : ℕ) (us : List SentUpdate) → 1 ≤ n → n ≤ 8 → WellFormed n us → length (frameWords n v us) ≤ 6404
+pub written-length : WrittenLength
 written-length n v us low high f =
     headed (frameWords n v us) (admitted n (frameWords n v us) (written-reads n v us low high f .verdict) .head) .high
 
--- ---- the words determine the visit and the updates, whatever the number of desks
-
-pub writing-injective : (n m v w : ℕ) (us ts : List SentUpdate) → 1 ≤ n → n ≤ 8 → 1 ≤ m → m ≤ 8 → WellFormed n us → WellFormed m ts
-    → frameWords n v us ≡ frameWords m w ts → (v ≡ w) × (us ≡ ts)
+pub writing-injective : WritingInjective
 writing-injective n m v w us ts ln hn lm hm f g e =
     let a = written-reads n v us ln hn f in
     let b = written-reads m w ts lm hm g in

@@ -3,3 +3,5 @@ pub mod Admission
 pub mod Forward
 pub mod WellFormed
 pub mod Answer
+pub mod RoundTrip
+pub mod OneWord

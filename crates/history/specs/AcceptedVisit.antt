@@ -1,0 +1,51 @@
+-- Demand 2, of one visit: the frame that an accepted visit sends reads, and a frame that reads is refused once one word is changed.
+use Prim.Native.Nat.{ℕ, _+_, _^_, _<_}
+use mathlib.Core.Path.{_≡_}
+use mathlib.Core.Logic.{_⊎_}
+use mathlib.Core.Bool.{true, _&&_}
+use mathlib.Core.List.{List, List·Memᴰ}
+use lib.ListN.{length, getD, set, take}
+use Rattle.plan.specs.Decode.{planOf}
+use Rattle.plan.specs.Admission.{planVerdict, accepted}
+use Rattle.operation.specs.Words.{AllWords}
+use Rattle.token.specs.Admission.{frameVerdict, frameVisit, frameUpdates, readVerdict}
+use Rattle.queue.specs.Queue.{paramsOf}
+use Rattle.queue.specs.declared.record.Request.{Request}
+use Rattle.desk.specs.Admission.{deskBuffersFit, deskStands}
+use Rattle.passing.specs.Admission.{visitBuffersFit}
+use Rattle.passing.specs.Visit.{forwarded, isRefused, outgoingUpdates}
+use Rattle.history.specs.History.{Holding}
+use Rattle.history.specs.Answering.{visitResultAt}
+
+-- "Words are unsigned 32-bit": the parameters of every record
+abbrev pub RecordsFit : List Request → Type 0
+RecordsFit queue = (r : Request) → List·Memᴰ r queue → AllWords (paramsOf r)
+
+module _ (plan : List ℕ) (h : Holding) (frame out replies : List ℕ) where
+  -- these words read as visit v + 1 with the outgoing updates
+  pub record Sends (sent : List ℕ) : Type 0 where
+    pub verdict : readVerdict plan sent ≡ accepted
+    pub number : frameVisit sent ≡ frameVisit frame + 1
+    pub updates : frameUpdates sent ≡ outgoingUpdates (planOf plan) (h .state) (h .cells) (h .queue) frame out replies
+
+  -- "A "no" gives its number; nothing lent and no state changes"
+  abbrev pub RefusedWith : ℕ → Type 0
+  RefusedWith question =
+      visitResultAt plan h frame out replies
+      ≡ record { answer = isRefused question; state = h .state; cells = h .cells; out = out; replies = replies }
+
+-- the frame that an accepted visit writes: the first words of the outgoing ones, as many as its answer says
+abbrev pub VisitFrameReads : Type 0
+VisitFrameReads =
+    (plan : List ℕ) (h : Holding) (frame out replies : List ℕ) (words count : ℕ)
+    → visitResultAt plan h frame out replies .answer ≡ forwarded words count → RecordsFit (h .queue)
+    → Sends plan h frame out replies (take words (visitResultAt plan h frame out replies .out))
+
+-- where questions 1 to 6 pass: word i is changed to another word x
+abbrev pub ChangedWordRefused : Type 0
+ChangedWordRefused =
+    (plan : List ℕ) (h : Holding) (frame out replies : List ℕ) → planVerdict plan ≡ accepted
+    → deskBuffersFit (h .cells) (h .queue) && visitBuffersFit out replies ≡ true → deskStands (planOf plan) (h .state) (h .queue) ≡ true
+    → AllWords frame → frameVerdict (planOf plan .desks) frame ≡ accepted
+    → (i x : ℕ) → i < length frame → x < 2 ^ 32 → (x ≡ getD frame i 0 → ⊥)
+    → RefusedWith plan h (set frame i x) out replies 10 ⊎ RefusedWith plan h (set frame i x) out replies 11

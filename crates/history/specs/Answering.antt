@@ -1,0 +1,93 @@
+-- Demand 2: each waiting request is answered at its desk's next accepted visit. A waiting request is known by its place in the queue, so
+-- that two equal requests are two. None of this asks how the desks came to hold what they hold.
+use Prim.Native.Nat.{ℕ, _*_, _<_}
+use mathlib.Core.Path.{_≡_}
+use mathlib.Core.Bool.{true}
+use mathlib.Core.List.{List, [], _∷_}
+use lib.ListN.{getD, take, drop}
+use Rattle.plan.specs.Decode.{planOf}
+use Rattle.operation.specs.Run.{Store}
+use Rattle.queue.specs.Queue.{noRequest}
+use Rattle.queue.specs.declared.record.Request.{Request}
+use Rattle.routing.specs.Request.{recordOf, requestResult}
+use Rattle.routing.specs.Request as asked
+use Rattle.passing.specs.Visit.{forwarded, Visited, caughtUp, visitResult}
+use Rattle.passing.specs.Waiting.{runAll, replyWords}
+use Rattle.passing.specs.Running.{replyTo}
+use Rattle.history.specs.History.{Holding, Call, request, visit, isRefused, outcomeAt, stepAt, holdingsAfter}
+
+-- ---- a waiting request, and its reply
+
+-- "the waiting requests lie in a lent row of 32 records, the earliest first": record k waits, and is r
+abbrev pub WaitsAt : ℕ → Request → Holding → Type 0
+WaitsAt k r h = (k < h .state .waiting) × (getD (h .queue) k noRequest ≡ r)
+
+-- "Replies go out as three words each"
+abbrev pub wordsOfReply : ℕ
+wordsOfReply = 3
+
+-- the words of reply k
+abbrev pub replyPart : ℕ → List ℕ → List ℕ
+replyPart k words = take wordsOfReply (drop (wordsOfReply * k) words)
+
+-- ---- a visit, at a desk that holds h
+
+module _ (plan : List ℕ) (h : Holding) (frame out replies : List ℕ) where
+  abbrev pub visitResultAt : Visited
+  visitResultAt = visitResult plan (h .state) (h .cells) (h .queue) frame out replies
+
+  -- "applies the others in order, runs all waiting requests in order": the store on which record k runs, once the updates of the
+  -- other desks are applied and the records before it have run
+  abbrev pub storeBefore : ℕ → Store
+  storeBefore k = runAll (planOf plan) (take k (h .queue)) (caughtUp (planOf plan) (h .state) (h .cells) (h .queue) frame out replies)
+
+  -- what the visit puts out: `count` replies, in the reply words that it leaves
+  pub record AnswersWaiting (count : ℕ) (left : Visited) : Type 0 where
+    pub count-is : count ≡ h .state .waiting
+    -- record k's reply is reply k: "kind 12 with bit 0 set if done, the client's word, the number", of its own run
+    pub each : (k : ℕ) (r : Request) → WaitsAt k r h → replyPart k (left .replies) ≡ replyWords (replyTo (planOf plan) r (storeBefore k))
+    -- "Words past what is written are untouched."
+    pub untouched : drop (wordsOfReply * count) (left .replies) ≡ drop (wordsOfReply * count) replies
+    -- "Then none waits"
+    pub none-waits : left .state .waiting ≡ 0
+
+-- an accepted visit answers all that wait, and no other
+abbrev pub VisitAnswersWaiting : Type 0
+VisitAnswersWaiting =
+    (plan : List ℕ) (h : Holding) (frame out replies : List ℕ) (words count : ℕ)
+    → visitResultAt plan h frame out replies .answer ≡ forwarded words count
+    → AnswersWaiting plan h frame out replies count (visitResultAt plan h frame out replies)
+
+-- ---- from the request to the visit
+
+-- a request that is told to wait is the next record after those that waited
+abbrev pub RequestWaits : Type 0
+RequestWaits =
+    (plan : List ℕ) (w : ℕ → Holding) (p client k : ℕ) (ps : List ℕ)
+    → requestResult plan (w p .state) (w p .cells) (w p .queue) (recordOf client k ps) .answer ≡ asked.waits
+    → WaitsAt (w p .state .waiting) (recordOf client k ps) (stepAt plan w (request p client k ps) p)
+
+-- the call is no accepted visit at desk p
+abbrev pub NoVisit : List ℕ → ℕ → (ℕ → Holding) → Call → Type 0
+NoVisit plan p w (request q client k ps) = Unit {0}
+NoVisit plan p w (visit q frame out replies) = p ≡ q → isRefused (outcomeAt plan w (visit q frame out replies)) ≡ true
+
+abbrev pub NoVisits : List ℕ → ℕ → (ℕ → Holding) → List Call → Type 0
+NoVisits plan p w [] = Unit {0}
+NoVisits plan p w (c ∷ cs) = NoVisit plan p w c × NoVisits plan p (stepAt plan w c) cs
+
+-- until its desk's next accepted visit each waiting record stays at its place
+abbrev pub WaitingStays : Type 0
+WaitingStays =
+    (plan : List ℕ) (p : ℕ) (cs : List Call) (w : ℕ → Holding) → NoVisits plan p w cs → (k : ℕ) (r : Request)
+    → WaitsAt k r (w p) → WaitsAt k r (holdingsAfter plan w cs p)
+
+-- "each waiting request is answered at its desk's next accepted visit": r is record k at desk p, the calls cs have no accepted visit
+-- at p, and then one is accepted. RequestWaits says which record a request is that is told to wait.
+abbrev pub AnsweredAtNextVisit : Type 0
+AnsweredAtNextVisit =
+    (plan : List ℕ) (p : ℕ) (cs : List Call) (w : ℕ → Holding) → NoVisits plan p w cs → (k : ℕ) (r : Request) → WaitsAt k r (w p)
+    → (frame out replies : List ℕ) (words count : ℕ)
+    → visitResultAt plan (holdingsAfter plan w cs p) frame out replies .answer ≡ forwarded words count
+    → (k < count) × (replyPart k (visitResultAt plan (holdingsAfter plan w cs p) frame out replies .replies)
+    ≡ replyWords (replyTo (planOf plan) r (storeBefore plan (holdingsAfter plan w cs p) frame out replies k)))

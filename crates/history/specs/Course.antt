@@ -1,0 +1,77 @@
+-- The course of 01 as a history of the engine: plan P, two desks, cells all zero.
+use Prim.Native.Nat.{ℕ}
+use mathlib.Core.Path.{_≡_}
+use mathlib.Core.Logic.{_⊎_, inl, inr}
+use mathlib.Core.Bool.{true}
+use mathlib.Core.List.{List, [], _∷_, map}
+use lib.ListN.{getD, replicate}
+use Rattle.plan.specs.Decode.{planOf}
+use Rattle.conflict.specs.Class.{classOf}
+use Rattle.queue.specs.Queue.{noRequest}
+use Rattle.queue.specs.declared.record.Request.{Request}
+use Rattle.routing.specs.Request as asked
+use Rattle.passing.specs.Visit as passing
+use Rattle.passing.specs.Waiting.{Answered}
+use Rattle.starred.specs.Table.{planP, sentFrame}
+use Rattle.history.specs.History.{Call, request, visit, Outcome, requested, visited, isRefused, outcomes, start, ProperFromStart}
+use Rattle.history.specs.Order.{Finished}
+use Rattle.history.specs.SerialRun.{Serial, serial, order, storeAfter, due}
+
+abbrev starting : List ℕ
+starting = 0x90000004 ∷ 0x00000000 ∷ 0x90000004 ∷ 0x20000008 ∷ []
+
+abbrev sending : List ℕ
+sending = sentFrame 0xA0100000
+
+abbrev done : ℕ → asked.Response
+done x = asked.replied (record { done = true; number = x })
+
+abbrev pub zeros : List ℕ
+zeros = replicate 1024 0
+
+abbrev pub blank : ℕ → List Request
+blank p = replicate 32 noRequest
+
+abbrev passes : ℕ → List ℕ → Call
+passes p frame = visit p frame (replicate 6404 0) (replicate 96 0)
+
+-- T2(1) at desk 1, T1(0, 3) at desk 0, visit 0, T2(1) again, visit 1, a replay, and T2(1) once more; of clients 5, 7, 6 and 8
+abbrev pub calls : List Call
+calls =
+    request 1 5 2 (1 ∷ 0 ∷ 0 ∷ 0 ∷ []) ∷ request 0 7 1 (0 ∷ 3 ∷ 0 ∷ 0 ∷ []) ∷ passes 0 starting ∷ request 1 6 2 (1 ∷ 0 ∷ 0 ∷ 0 ∷ [])
+    ∷ passes 1 sending ∷ passes 1 sending ∷ request 1 8 2 (1 ∷ 0 ∷ 0 ∷ 0 ∷ []) ∷ []
+
+abbrev says : Outcome → asked.Response ⊎ passing.Passage
+says (requested r) = inl (r .answer)
+says (visited v) = inr (v .answer)
+
+abbrev serialRun : List Outcome → Serial
+serialRun os = serial (planOf planP) (classOf (planOf planP)) calls (map isRefused os)
+
+-- the answers; the replies due to visit 0, call 2; the serial order, by clients; and the serial value of the cell that T1 writes
+abbrev pub Rows : Type 0
+Rows = List (asked.Response ⊎ passing.Passage) × List Answered × List ℕ × ℕ
+
+abbrev pub found : List Outcome → Rows
+found os = (
+  map says os,
+  due (planOf planP) 2 (order (serialRun os)) zeros,
+  map (λ (e : Finished). e .request .client) (order (serialRun os)),
+  getD (storeAfter (planOf planP) (order (serialRun os)) zeros) 128 0,
+)
+
+-- "T2(1) at desk 1 gives 0 before visit 1, 3 after"; "reply C0000001 00000007 00000003"; "The frame twice at desk 1: 14". "A read at one
+-- desk may precede, in this order, a global already answered at another": client 6 is answered 0 after client 7's T1, and stands before it
+abbrev pub expected : Rows
+expected = (
+  inl (done 0) ∷ inl asked.waits ∷ inr (passing.forwarded 7 1) ∷ inl (done 0) ∷ inr (passing.forwarded 7 0)
+      ∷ inr (passing.isRefused 14) ∷ inl (done 3) ∷ [],
+  record { client = 7; reply = record { done = true; number = 3 } } ∷ [],
+  5 ∷ 6 ∷ 7 ∷ 8 ∷ [],
+  3,
+)
+
+-- the premise of the claim is met, and the calls give these answers
+pub record Course : Type 0 where
+  pub proper : ProperFromStart planP zeros blank calls
+  pub gives : found (outcomes planP (start zeros blank) calls) ≡ expected
