@@ -10,9 +10,10 @@ use native.Mathlib.Omega.{arith}
 use lib.Count.{ones}
 use lib.Dec.{eqb}
 use borrow.Author.Tests.{eq-eqb, eqb-true}
+use Rattle.verdict.specs.Verdict.{accepted}
 use Rattle.plan.specs.Plan.{Source, reads, writes, Step, cell, operand, Plan}
 use Rattle.plan.specs.Decode.{planOf}
-use Rattle.plan.specs.Admission.{planVerdict, accepted}
+use Rattle.plan.specs.Admission.{planVerdict}
 use Rattle.plan.proofs.Every.{every-member, member-every}
 use Rattle.operation.specs.Operation.{Operation, transactionOf, deskOf, readSet, writeSet, MayRead, MayWrite, MayTouch}
 use Rattle.operation.specs.Admission.{IsOperation}

@@ -13,10 +13,11 @@ use lib.Dec.{leb}
 use lib.ListN.{length, getD, take, drop, drop-of-length-le, replicate, length-replicate, getD-replicate}
 use lib.Seq.{drop-cons}
 use borrow.Author.Tests.{leb-true}
+use Rattle.verdict.specs.Verdict.{accepted}
 use Rattle.word.specs.Field.{stepCount, partitioningField, headDesks, headTransactions}
 use Rattle.plan.specs.Plan.{Partitioning}
 use Rattle.plan.specs.Decode.{partBy, stepOf, transactionsOf, planOf, headOf}
-use Rattle.plan.specs.Admission.{wellFormed, every, stepFormed, transactionFormed, planVerdict, accepted}
+use Rattle.plan.specs.Admission.{wellFormed, every, stepFormed, transactionFormed, planVerdict}
 use Rattle.plan.proofs.Bool.{and-fst, and-snd}
 use Rattle.plan.proofs.Accepted.{accepted-gives}
 use Rattle.plan.proofs.Places.{lt-or-ge, left-suc}

@@ -9,11 +9,12 @@ use native.Mathlib.Omega.{arith}
 use lib.Dec.{ltb, eqb}
 use lib.ListN.{length, getD}
 use borrow.Author.Tests.{eq-eqb, lt-ltb, eqb-true, leb-true}
+use Rattle.verdict.specs.Verdict.{accepted}
 use Rattle.word.specs.Field.{headTransactions}
 use Rattle.plan.specs.Plan.{Source, param, fixed, Access, Step, cell, operand, Partitioning, byParam, unpartitioned, Transaction, Plan}
 use Rattle.plan.specs.Plan.{noTransaction, transactionAt}
 use Rattle.plan.specs.Decode.{planOf, headOf}
-use Rattle.plan.specs.Admission.{accepted, planVerdict, parametersExist, partExists, stepExists, sourceExists}
+use Rattle.plan.specs.Admission.{planVerdict, parametersExist, partExists, stepExists, sourceExists}
 use Rattle.plan.specs.Place.{transactionPlace}
 use Rattle.plan.proofs.Bool.{and-fst, and-snd}
 use Rattle.plan.proofs.Every.{every-index, every-member}

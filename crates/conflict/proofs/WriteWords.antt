@@ -8,10 +8,11 @@ use native.Mathlib.Omega.{arith}
 use lib.Dec.{leb, eqb}
 use lib.ListN.{length, getD, take, drop, take-append-drop}
 use borrow.Author.Tests.{eq-eqb, ne-eqb, eqb-true, eqb-false, leb-true}
+use Rattle.verdict.specs.Verdict.{accepted}
 use Rattle.word.specs.Field.{kindOf, stepCount, tableField, columnField}
-use Rattle.plan.specs.Plan.{Step, cell}
+use Rattle.plan.specs.Plan.{Step}
 use Rattle.plan.specs.Decode.{accessBy, stepOf, rowOf, transactionsOf, planOf}
-use Rattle.plan.specs.Admission.{every, wellFormed, transactionFormed, stepFormed, planVerdict, accepted}
+use Rattle.plan.specs.Admission.{every, wellFormed, transactionFormed, stepFormed, planVerdict}
 use Rattle.plan.proofs.Bool.{and-fst, and-snd}
 use Rattle.plan.proofs.Words.{step-kind-low}
 use Rattle.plan.proofs.Accepted.{accepted-gives}

@@ -7,12 +7,14 @@ use Prim.Native.Nat.{ℕ, _<_}
 use native.Mathlib.Omega.{arith}
 use lib.ListN.{length, getD}
 use borrow.Author.Tests.{ltb-true}
+use Rattle.verdict.specs.Verdict.{Verdict, accepted, refused, isAccepted}
+use Rattle.verdict.proofs.Verdicts.{ask-then-accepted}
 use Rattle.word.specs.Field.{headDesks, headTransactions, partitioningField}
 use Rattle.plan.specs.Plan.{Transaction}
 use Rattle.plan.specs.Decode.{planOf, headOf, partBy}
-use Rattle.plan.specs.Admission.{Verdict, accepted, refused, planVerdict}
+use Rattle.plan.specs.Admission.{planVerdict}
 use Rattle.plan.specs.Place.{StandsAt, transactionPlace, transactionPlaces, transactionFrom}
-use Rattle.plan.proofs.Accepted.{yes-of, accepted-gives, transaction-count, desk-count}
+use Rattle.plan.proofs.Accepted.{accepted-gives, transaction-count, desk-count}
 use Rattle.plan.proofs.Places.{stands-at, transaction-is}
 use Rattle.plan.proofs.Placing.{place-found}
 use Rattle.operation.specs.Operation.{transactionOf, deskBy, deskOf}
@@ -22,7 +24,7 @@ use Rattle.conflict.specs.Class.{classBy, classOf}
 use Rattle.queue.specs.Queue.{paramsOf}
 use Rattle.queue.specs.declared.record.Request.{Request}
 use Rattle.desk.specs.Queueing.{operationOf}
-use Rattle.desk.specs.Admission.{isAccepted, Admitted}
+use Rattle.desk.specs.Admission.{Admitted}
 use Rattle.desk.specs.Place.{Place, standsAt, isRefused, placeBy, Placed}
 
 module _ (ws : List ℕ) (r : Request) where
@@ -63,7 +65,7 @@ module _ (ws : List ℕ) (r : Request) where
   module _ (a : Admitted ws r) where
     pub there : transactionExists (planOf ws) (r .transaction) ≡ true
     unfolding operationVerdict
-    there = yes-of (transactionExists (planOf ws) (r .transaction)) _ 7 (a .passed) .0
+    there = ask-then-accepted (transactionExists (planOf ws) (r .transaction)) _ 7 (a .passed) .0
 
   module _ (a : Admitted ws r) (at : ℕ) (i : at ≡ transactionPlace ws (r .transaction)) where
     pub admitted-stands : StandsAt ws at
@@ -78,7 +80,7 @@ module _ (ws : List ℕ) (r : Request) where
     module _ (ps : List ℕ) (q : ps ≡ paramsOf r) where
       pub parameters-passed : parametersPass (transactionFrom ws at) ps ≡ true
       parameters-passed =
-          yes-of (parametersPass (transactionFrom ws at) ps) _ 8 (sym (verdict-here (a .planned) (there a) at i ps q) ∙ a .passed) .0
+          ask-then-accepted (parametersPass (transactionFrom ws at) ps) _ 8 (sym (verdict-here (a .planned) (there a) at i ps q) ∙ a .passed) .0
 
       pub desk-asked : deskBy (headDesks (headOf ws)) (partBy (partitioningField (getD ws at 0))) ps ≡ deskOf (planOf ws) (operationOf r)
       desk-asked = rw (transaction-asked, desk-count ws, q)

@@ -9,10 +9,11 @@ use lib.Dec.{eqb}
 use lib.ListN.{length, getD, take, drop, length-take}
 use lib.Seq.{getD-take}
 use borrow.Author.Tests.{lt-ltb, le-ltb, lt-leb, le-leb, eq-eqb, ne-eqb}
+use Rattle.verdict.specs.Verdict.{accepted, refused}
 use Rattle.word.specs.Field.{headDesks}
 use Rattle.plan.specs.Plan.{Plan}
 use Rattle.plan.specs.Decode.{planOf, headOf}
-use Rattle.plan.specs.Admission.{every, accepted, refused}
+use Rattle.plan.specs.Admission.{every}
 use Rattle.plan.proofs.Accepted.{desk-count}
 use Rattle.plan.proofs.Every.{every-here, every-past}
 use Rattle.operation.specs.Operation.{deskOf}

@@ -5,9 +5,10 @@ use mathlib.Core.Bool.{Bool, true, false, _&&_}
 use mathlib.Core.List.{List}
 use lib.Dec.{ltb, leb, eqb}
 use lib.ListN.{length}
+use Rattle.verdict.specs.Verdict.{Verdict, accepted, refused}
 use Rattle.plan.specs.Plan.{Plan}
 use Rattle.plan.specs.Decode.{planOf}
-use Rattle.plan.specs.Admission.{every, Verdict, accepted, refused, planVerdict}
+use Rattle.plan.specs.Admission.{every, planVerdict}
 use Rattle.operation.specs.Operation.{deskOf}
 use Rattle.operation.specs.Admission.{operationVerdict}
 use Rattle.conflict.specs.Class.{isGlobal, classOf}

@@ -3,9 +3,9 @@ use Prim.Native.Nat.{ℕ}
 use mathlib.Core.Bool.{cond}
 use mathlib.Core.List.{List}
 use lib.Dec.{ltb}
+use Rattle.verdict.specs.Verdict.{Verdict, accepted, refused, _then_}
 use Rattle.plan.specs.Decode.{planOf}
-use Rattle.plan.specs.Admission.{Verdict, accepted, refused, planVerdict}
-use Rattle.token.specs.Admission.{andThen}
+use Rattle.plan.specs.Admission.{planVerdict}
 use Rattle.desk.specs.declared.state.Desk.{Desk}
 use Rattle.desk.specs.declared.state.DeskAnswer.{DeskAnswer}
 use Rattle.desk.specs.declared.state.DeskAnswer.the-variants as desk
@@ -25,4 +25,4 @@ openedBy (refused question) p = isRefused question
 
 -- "New desk: 1–4, and 6 for its desk." "A new desk p awaits p with none waiting"
 unfoldable pub newDeskResult : List ℕ → ℕ → Opened
-newDeskResult ws p = openedBy (andThen (planVerdict ws) (cond (ltb p (planOf ws .desks)) accepted (refused 6))) p
+newDeskResult ws p = openedBy (_then_ (planVerdict ws) (cond (ltb p (planOf ws .desks)) accepted (refused 6))) p

@@ -3,8 +3,8 @@ use Prim.Native.Nat.{ℕ}
 use mathlib.Core.Path.{_≡_}
 use mathlib.Core.Bool.{true}
 use mathlib.Core.List.{List}
+use Rattle.verdict.specs.Verdict.{Verdict, accepted, refused}
 use Rattle.plan.specs.Decode.{planOf}
-use Rattle.plan.specs.Admission.{Verdict, accepted, refused}
 use Rattle.plan.specs.Place.{transactionPlace}
 use Rattle.conflict.specs.Touch.{maskTable}
 use Rattle.queue.specs.declared.record.Request.{Request}

@@ -11,24 +11,24 @@ use lib.Dec.{eqb}
 use lib.ListN.{length, getD, set, take, drop, length-map}
 use lib.Seq.{take-append-seam, length-take-le}
 use borrow.Author.Tests.{eqb-true}
+use Rattle.verdict.specs.Verdict.{Verdict, accepted, refused, isAccepted}
+use Rattle.verdict.proofs.Verdicts.{ask-then-accepted, then-accepted, isAccepted-accepted}
 use Rattle.plan.specs.Decode.{planOf}
-use Rattle.plan.specs.Admission.{Verdict, accepted, refused, planVerdict}
+use Rattle.plan.specs.Admission.{planVerdict}
 use Rattle.plan.proofs.Bool.{and-fst, and-snd}
 use Rattle.plan.proofs.Every.{every-member}
-use Rattle.plan.proofs.Accepted.{yes-of}
 use Rattle.operation.specs.Admission.{operationVerdict}
 use Rattle.operation.specs.Run.{Store, applyUpdate, run}
 use Rattle.operation.proofs.Words.{AllWords}
 use Rattle.token.specs.Frame.{overwritten}
 use Rattle.token.specs.Admission.{frameVerdict, frameVisit, frameUpdates, readVerdict}
 use Rattle.token.proofs.OneWord.{one-word}
-use Rattle.token.proofs.Verdicts.{both, read-after}
+use Rattle.token.proofs.Verdicts.{read-after}
 use Rattle.queue.specs.Queue.{paramsOf}
 use Rattle.queue.specs.declared.record.Request.{Request}
 use Rattle.desk.specs.declared.state.Desk.{Desk}
 use Rattle.desk.specs.Queueing.{operationOf, waitingIn}
-use Rattle.desk.specs.Admission.{isAccepted, deskBuffersFit, waitsHere, deskStands}
-use Rattle.desk.proofs.Asked.{accepted-is}
+use Rattle.desk.specs.Admission.{deskBuffersFit, waitsHere, deskStands}
 use Rattle.passing.specs.Admission.{visitBuffersFit}
 use Rattle.passing.specs.Visit.{forwarded, isRefused, Visited, caughtUp, outgoingUpdates, outgoingFrame, visitedBy, visitVerdict}
 use Rattle.passing.specs.Visit.{visitResult}
@@ -87,16 +87,16 @@ module _ (plan : List ℕ) (d : Desk) (cells : List ℕ) (queue : List Request) 
 
     plan-of : planVerdict plan ≡ accepted
     unfolding visitVerdict
-    plan-of = both (planVerdict plan) _ verdict-of .0
+    plan-of = then-accepted (planVerdict plan) _ verdict-of .0
 
     rest-of : (deskBuffersFit cells queue && visitBuffersFit out replies ≡ true) × (deskStands (planOf plan) d queue ≡ true)
     unfolding visitVerdict
     rest-of =
-        let a = both (planVerdict plan) _ verdict-of .1 in
-        let b = both (cond (deskBuffersFit cells queue && visitBuffersFit out replies) accepted (refused 5)) _ a in
-        let c = both (cond (deskStands (planOf plan) d queue) accepted (refused 6)) _ (b .1) in (
-          yes-of (deskBuffersFit cells queue && visitBuffersFit out replies) accepted 5 (b .0) .0,
-          yes-of (deskStands (planOf plan) d queue) accepted 6 (c .0) .0,
+        let a = then-accepted (planVerdict plan) _ verdict-of .1 in
+        let b = then-accepted (cond (deskBuffersFit cells queue && visitBuffersFit out replies) accepted (refused 5)) _ a in
+        let c = then-accepted (cond (deskStands (planOf plan) d queue) accepted (refused 6)) _ (b .1) in (
+          ask-then-accepted (deskBuffersFit cells queue && visitBuffersFit out replies) accepted 5 (b .0) .0,
+          ask-then-accepted (deskStands (planOf plan) d queue) accepted 6 (c .0) .0,
         )
 
     abbrev h : Holding
@@ -165,7 +165,7 @@ module _ (plan : List ℕ) (d : Desk) (cells : List ℕ) (queue : List Request) 
         record {
           four = refl;
           words = fit r (mem-take (d .waiting) queue r m);
-          passes = accepted-is (operationVerdict (planOf plan) (operationOf r))
+          passes = isAccepted-accepted (operationVerdict (planOf plan) (operationOf r))
               (and-fst (isAccepted (operationVerdict (planOf plan) (operationOf r))) _ e);
         }
 

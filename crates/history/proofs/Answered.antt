@@ -5,8 +5,9 @@ use mathlib.Core.Path.{_≡_, sym, subst}
 use mathlib.Core.Bool.{true}
 use mathlib.Core.List.{List, [], _∷_, List·Memᴰ}
 use lib.ListN.{length}
+use Rattle.verdict.specs.Verdict.{accepted}
 use Rattle.plan.specs.Decode.{planOf}
-use Rattle.plan.specs.Admission.{accepted, planVerdict}
+use Rattle.plan.specs.Admission.{planVerdict}
 use Rattle.operation.specs.Run.{Store, run}
 use Rattle.conflict.specs.Class.{classOf}
 use Rattle.queue.specs.declared.record.Request.{Request}

@@ -6,9 +6,10 @@ use mathlib.Core.Bool.{true}
 use mathlib.Core.List.{List, [], _∷_, _++_, map}
 use native.Mathlib.Omega.{arith}
 use lib.ListN.{length}
+use Rattle.verdict.specs.Verdict.{accepted, isAccepted}
 use Rattle.plan.specs.Plan.{Plan}
 use Rattle.plan.specs.Decode.{planOf}
-use Rattle.plan.specs.Admission.{every, planVerdict, accepted}
+use Rattle.plan.specs.Admission.{every, planVerdict}
 use Rattle.plan.proofs.Bool.{and-true}
 use Rattle.operation.specs.Run.{Store}
 use Rattle.token.specs.Frame.{SentUpdate, sent}
@@ -16,7 +17,6 @@ use Rattle.token.specs.WellFormed.{WellFormed}
 use Rattle.token.specs.Forward.{foreign}
 use Rattle.token.proofs.Foreign.{forwarded-fits}
 use Rattle.queue.specs.declared.record.Request.{Request}
-use Rattle.desk.specs.Admission.{isAccepted}
 use Rattle.passing.specs.Waiting.{updatesOf}
 use Rattle.passing.specs.Running.{isOperation}
 use Rattle.passing.proofs.OwnUpdates.{updates-count, all-fit}

@@ -6,8 +6,9 @@ use mathlib.Core.Logic.{inl, inr}
 use mathlib.Core.Bool.{Bool, true, false, cond}
 use mathlib.Core.List.{List}
 use lib.Dec.{eqb, eqb→eq}
+use Rattle.verdict.specs.Verdict.{accepted}
 use Rattle.plan.specs.Decode.{planOf}
-use Rattle.plan.specs.Admission.{planVerdict, accepted}
+use Rattle.plan.specs.Admission.{planVerdict}
 use Rattle.plan.proofs.Bool.{and-fst}
 use Rattle.operation.specs.Operation.{Operation, transactionOf, deskOf, MayRead, MayWrite, MayTouch}
 use Rattle.operation.specs.Admission.{IsOperation}

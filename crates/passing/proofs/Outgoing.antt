@@ -6,8 +6,8 @@ use Prim.Native.Nat.{ℕ, _+_, _-_, _%_, _≤_}
 use native.Mathlib.Omega.{arith}
 use lib.ListN.{length, take, drop, length-take, length-drop}
 use lib.Seq.{length-take-le}
+use Rattle.verdict.specs.Verdict.{accepted}
 use Rattle.plan.specs.Decode.{planOf}
-use Rattle.plan.specs.Admission.{accepted}
 use Rattle.plan.proofs.Accepted.{accepted-gives, desk-count}
 use Rattle.operation.specs.Run.{Store}
 use Rattle.token.specs.Frame.{sent, updatesWords, frameAround, overwritten}

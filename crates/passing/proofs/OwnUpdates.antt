@@ -7,9 +7,10 @@ use Prim.Native.Nat.{ℕ, _<_}
 use native.Mathlib.Omega.{arith}
 use lib.ListN.{length}
 use borrow.Author.Tests.{lt-ltb, le-leb}
+use Rattle.verdict.specs.Verdict.{accepted}
 use Rattle.plan.specs.Plan.{Plan, writes}
 use Rattle.plan.specs.Decode.{planOf}
-use Rattle.plan.specs.Admission.{every, planVerdict, accepted}
+use Rattle.plan.specs.Admission.{every, planVerdict}
 use Rattle.plan.specs.Place.{transactionPlace, transactionFrom}
 use Rattle.plan.proofs.Bool.{and-fst, and-snd, and-true}
 use Rattle.plan.proofs.Every.{member-every}

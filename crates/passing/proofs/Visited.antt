@@ -7,12 +7,12 @@ use Prim.Native.Nat.{ℕ}
 use lib.Dec.{eqb}
 use lib.ListN.{length}
 use borrow.Author.Tests.{eqb-true}
+use Rattle.verdict.specs.Verdict.{Verdict, accepted, refused, _then_}
+use Rattle.verdict.proofs.Verdicts.{ask-then-accepted, then-accepted, then-associates, then-only-after-yes}
 use Rattle.plan.specs.Decode.{planOf}
-use Rattle.plan.specs.Admission.{Verdict, accepted, refused, planVerdict}
-use Rattle.plan.proofs.Accepted.{yes-of}
+use Rattle.plan.specs.Admission.{planVerdict}
 use Rattle.plan.proofs.Bool.{and-fst, and-snd}
-use Rattle.token.specs.Admission.{andThen, frameVerdict}
-use Rattle.token.proofs.Verdicts.{both, then-associates, behind}
+use Rattle.token.specs.Admission.{frameVerdict}
 use Rattle.queue.specs.Queue.{recordsOf}
 use Rattle.queue.specs.declared.record.Request.{Request}
 use Rattle.queue.proofs.Copying.{records-whole}
@@ -39,12 +39,12 @@ module _ (ws cells : List ℕ) (size : ℕ) (out replies : List ℕ) where
   module _ (e : openingVerdict ws cells size out replies ≡ accepted) where
     pub plan-passes : planVerdict ws ≡ accepted
     unfolding openingVerdict
-    plan-passes = both (planVerdict ws) _ e .0
+    plan-passes = then-accepted (planVerdict ws) _ e .0
 
     pub queue-long : size ≡ 32
     unfolding openingVerdict
     queue-long =
-        let fit = yes-of buffersFit accepted 5 (both (planVerdict ws) _ e .1) .0 in
+        let fit = ask-then-accepted buffersFit accepted 5 (then-accepted (planVerdict ws) _ e .1) .0 in
         eqb-true size 32 (and-snd (eqb (length cells) 1024) _ (and-fst (eqb (length cells) 1024 && eqb size 32) _ fit))
 
 -- ---- questions 6 and 10 to 15
@@ -69,13 +69,13 @@ module _ (ws : List ℕ) (d : Desk) (records : List Request) (frame : List ℕ) 
 module _ (ws : List ℕ) (d : Desk) (cells : List ℕ) (size : ℕ) (records : List Request) (frame out replies : List ℕ) where
   handed : (queue : List Request) → length queue ≡ size → recordsOf queue ≡ records
       → visitVerdict ws d cells queue frame out replies
-      ≡ andThen (openingVerdict ws cells size out replies) (passageVerdict ws d records frame)
+      ≡ _then_ (openingVerdict ws cells size out replies) (passageVerdict ws d records frame)
   unfolding visitVerdict openingVerdict passageVerdict deskBuffersFit
   handed queue l q =
       let fit : ℕ → Bool = λ (n : ℕ). (eqb (length cells) 1024 && eqb n 32) && visitBuffersFit out replies in
-      ap (andThen (planVerdict ws))
-      (ap (λ (n : ℕ). andThen (cond (fit n) accepted (refused 5)) (passageVerdict ws d queue frame)) l
-      ∙ behind (fit size) 5 (passageVerdict ws d queue frame) (passageVerdict ws d records frame) (λ (h : fit size ≡ true).
+      ap (_then_ (planVerdict ws))
+      (ap (λ (n : ℕ). _then_ (cond (fit n) accepted (refused 5)) (passageVerdict ws d queue frame)) l
+      ∙ then-only-after-yes (fit size) 5 (passageVerdict ws d queue frame) (passageVerdict ws d records frame) (λ (h : fit size ≡ true).
       ap (λ (rs : List Request). passageVerdict ws d rs frame) (sym (records-whole queue
       (l ∙ eqb-true size 32 (and-snd (eqb (length cells) 1024) _ (and-fst (eqb (length cells) 1024 && eqb size 32) _ h)))) ∙ q)))
       ∙ then-associates (planVerdict ws) _ (passageVerdict ws d records frame)
@@ -91,11 +91,11 @@ module _ (ws : List ℕ) (d : Desk) (cells : List ℕ) (size : ℕ) (records : L
         → _≡_ {A = Visited} (record { answer = isRefused question; state = d; cells = cells; out = out; replies = replies })
         (visitResult ws d cells queue frame out replies)
     opening-refused question e =
-        left-refused question (handed queue l q ∙ ap (λ (v : Verdict). andThen v (passageVerdict ws d records frame)) e)
+        left-refused question (handed queue l q ∙ ap (λ (v : Verdict). _then_ v (passageVerdict ws d records frame)) e)
 
     module _ (e : openingVerdict ws cells size out replies ≡ accepted) where
       opened : visitVerdict ws d cells queue frame out replies ≡ passageVerdict ws d records frame
-      opened = handed queue l q ∙ ap (λ (v : Verdict). andThen v (passageVerdict ws d records frame)) e
+      opened = handed queue l q ∙ ap (λ (v : Verdict). _then_ v (passageVerdict ws d records frame)) e
 
       pub passage-refused : (question : ℕ) → passageVerdict ws d records frame ≡ refused question
           → _≡_ {A = Visited} (record { answer = isRefused question; state = d; cells = cells; out = out; replies = replies })

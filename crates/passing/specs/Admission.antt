@@ -4,9 +4,9 @@ use mathlib.Core.Bool.{Bool, _&&_, cond}
 use mathlib.Core.List.{List}
 use lib.Dec.{ltb, leb, eqb}
 use lib.ListN.{length}
+use Rattle.verdict.specs.Verdict.{Verdict, accepted, refused}
 use Rattle.word.specs.Field.{addressedDesk}
 use Rattle.plan.specs.Decode.{headOf}
-use Rattle.plan.specs.Admission.{Verdict, accepted, refused}
 use Rattle.token.specs.Admission.{frameVisit}
 use Rattle.desk.specs.declared.state.Desk.{Desk}
 

@@ -3,12 +3,13 @@ use Prim.Native.Nat.{ℕ, _+_}
 use mathlib.Core.Bool.{_&&_, cond}
 use mathlib.Core.List.{List, _++_, map}
 use lib.ListN.{length}
+use Rattle.verdict.specs.Verdict.{Verdict, accepted, refused, _then_}
 use Rattle.plan.specs.Plan.{Plan}
 use Rattle.plan.specs.Decode.{planOf}
-use Rattle.plan.specs.Admission.{Verdict, accepted, refused, planVerdict}
+use Rattle.plan.specs.Admission.{planVerdict}
 use Rattle.operation.specs.Run.{Store}
 use Rattle.token.specs.Frame.{SentUpdate, sent, frameWords, overwritten}
-use Rattle.token.specs.Admission.{andThen, frameVerdict, frameVisit, frameUpdates}
+use Rattle.token.specs.Admission.{frameVerdict, frameVisit, frameUpdates}
 use Rattle.token.specs.Forward.{foreign, applyAll}
 use Rattle.queue.specs.declared.record.Request.{Request}
 use Rattle.desk.specs.declared.state.Desk.{Desk}
@@ -63,10 +64,10 @@ module _ (p : Plan) (d : Desk) (cells : List ℕ) (queue : List Request) (frame 
 -- "Visit: 1–6, 10–15."
 unfoldable pub visitVerdict : List ℕ → Desk → List ℕ → List Request → List ℕ → List ℕ → List ℕ → Verdict
 visitVerdict ws d cells queue frame out replies =
-    andThen (planVerdict ws)
-    (andThen (cond (deskBuffersFit cells queue && visitBuffersFit out replies) accepted (refused 5))
-    (andThen (cond (deskStands (planOf ws) d queue) accepted (refused 6))
-    (andThen (frameVerdict (planOf ws .desks) frame) (turnVerdict d frame))))
+    _then_ (planVerdict ws)
+    (_then_ (cond (deskBuffersFit cells queue && visitBuffersFit out replies) accepted (refused 5))
+    (_then_ (cond (deskStands (planOf ws) d queue) accepted (refused 6))
+    (_then_ (frameVerdict (planOf ws .desks) frame) (turnVerdict d frame))))
 
 unfoldable pub visitResult : List ℕ → Desk → List ℕ → List Request → List ℕ → List ℕ → List ℕ → Visited
 visitResult ws d cells queue frame out replies =

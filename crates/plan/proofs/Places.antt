@@ -12,10 +12,11 @@ use lib.Dec.{leb, ltb}
 use lib.ListN.{length, getD, take, drop, length-drop, drop-of-length-le}
 use lib.Seq.{drop-cons, drop-drop, getD-drop}
 use borrow.Author.Tests.{leb-true, ltb-true, ltb-false}
+use Rattle.verdict.specs.Verdict.{accepted}
 use Rattle.word.specs.Field.{stepCount, headTransactions}
 use Rattle.plan.specs.Plan.{Transaction, noTransaction, transactionAt}
 use Rattle.plan.specs.Decode.{transactionsOf, planOf, headOf}
-use Rattle.plan.specs.Admission.{wellFormed, transactionFormed, stepFormed, every, planVerdict, accepted}
+use Rattle.plan.specs.Admission.{wellFormed, transactionFormed, stepFormed, every, planVerdict}
 use Rattle.plan.specs.Place.{transactionPlace, transactionFrom, StandsAt}
 use Rattle.plan.proofs.Bool.{and-fst, and-snd}
 use Rattle.plan.proofs.Accepted.{accepted-gives}

@@ -12,24 +12,23 @@ use native.Mathlib.Omega.{arith}
 use lib.Dec.{ltb, leb, leb·zero, leb·suc-suc, leb·suc-zero}
 use lib.ListN.{length, getD, take, drop, drop-of-length-le}
 use lib.Seq.{drop-cons}
+use Rattle.verdict.specs.Verdict.{Verdict, accepted, refused, ask, _then_}
 use Rattle.word.specs.Field.{parameterCount, stepCount, partitioningField}
 use Rattle.plan.specs.Decode.{transactionsOf, stepOf, partBy}
-use Rattle.plan.specs.Admission.{Verdict, accepted, refused, every, wellFormed, parametersExist, transactionFormed, stepFormed}
+use Rattle.plan.specs.Admission.{every, wellFormed, parametersExist, transactionFormed, stepFormed}
 use Rattle.plan.specs.Admission.{stepExists, partExists}
 use Rattle.plan.specs.Admission.{transactionsVerdict}
 use Rattle.plan.proofs.Places.{left-suc}
 
 -- the verdict when n transactions are still to come in the words ws; m: a parameter was missing already
 rest : ℕ → List ℕ → Bool → Verdict
-rest n ws m = cond (wellFormed n ws) (cond (not m && every parametersExist (transactionsOf n ws)) accepted (refused 4)) (refused 3)
+rest n ws m = ask 3 (wellFormed n ws) then ask 4 (not m && every parametersExist (transactionsOf n ws))
 
 -- the same inside a transaction with p parameters, of which k steps are still to come, and n transactions behind it
 restIn : ℕ → ℕ → ℕ → List ℕ → Bool → Verdict
 restIn k p n ws m =
-    cond (leb k (length ws) && (every stepFormed (take k ws) && wellFormed n (drop k ws)))
-    (cond (not m && (every (stepExists p) (map stepOf (take k ws)) && every parametersExist (transactionsOf n (drop k ws)))) accepted
-    (refused 4))
-    (refused 3)
+    ask 3 (leb k (length ws) && (every stepFormed (take k ws) && wellFormed n (drop k ws)))
+    then ask 4 (not m && (every (stepExists p) (map stepOf (take k ws)) && every parametersExist (transactionsOf n (drop k ws))))
 
 -- ---- one word of a list
 

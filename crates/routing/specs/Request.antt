@@ -4,14 +4,14 @@ use mathlib.Core.Bool.{Bool, true, false, cond}
 use mathlib.Core.List.{List}
 use lib.Dec.{ltb, eqb}
 use lib.ListN.{getD, set}
+use Rattle.verdict.specs.Verdict.{Verdict, accepted, refused, _then_}
 use Rattle.plan.specs.Plan.{Plan}
 use Rattle.plan.specs.Decode.{planOf}
-use Rattle.plan.specs.Admission.{Verdict, accepted, refused, planVerdict}
+use Rattle.plan.specs.Admission.{planVerdict}
 use Rattle.operation.specs.Operation.{Operation, operation, deskOf}
 use Rattle.operation.specs.Admission.{operationVerdict}
 use Rattle.operation.specs.Run.{Reply, applyUpdate, run}
 use Rattle.conflict.specs.Class.{Class, free, local, global, classOf}
-use Rattle.token.specs.Admission.{andThen}
 use Rattle.queue.specs.declared.record.Request.{Request}
 use Rattle.desk.specs.declared.state.Desk.{Desk}
 use Rattle.desk.specs.Queueing.{operationOf}
@@ -75,9 +75,9 @@ recordOf client k ps =
 -- "Request: 1–8, then "elsewhere", then 9."
 unfoldable pub requestVerdict : List ℕ → Desk → List ℕ → List Request → Request → Verdict
 requestVerdict ws d cells queue r =
-    andThen (planVerdict ws)
-    (andThen (cond (deskBuffersFit cells queue) accepted (refused 5))
-    (andThen (cond (deskStands (planOf ws) d queue) accepted (refused 6))
+    _then_ (planVerdict ws)
+    (_then_ (cond (deskBuffersFit cells queue) accepted (refused 5))
+    (_then_ (cond (deskStands (planOf ws) d queue) accepted (refused 6))
     (operationVerdict (planOf ws) (operationOf r))))
 
 unfoldable pub requestResult : List ℕ → Desk → List ℕ → List Request → Request → Requested

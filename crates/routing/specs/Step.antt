@@ -5,8 +5,8 @@ use mathlib.Core.Bool.{_&&_, cond}
 use mathlib.Core.List.{List}
 use lib.Dec.{eqb}
 use lib.ListN.{length, set}
-use Rattle.plan.specs.Admission.{Verdict, accepted, refused, planVerdict}
-use Rattle.token.specs.Admission.{andThen}
+use Rattle.verdict.specs.Verdict.{Verdict, accepted, refused, _then_}
+use Rattle.plan.specs.Admission.{planVerdict}
 use Rattle.queue.specs.declared.record.Request.{Request}
 use Rattle.routing.specs.declared.asking.RequestStep.{RequestStep}
 use Rattle.routing.specs.Request.{Requested}
@@ -19,4 +19,4 @@ steppedOf s cells queue = requestedOf (s .result) cells (set queue (s .place) (s
 -- questions 1 to 5
 unfoldable pub openingVerdict : List ℕ → List ℕ → ℕ → Verdict
 openingVerdict ws cells size =
-    andThen (planVerdict ws) (cond (eqb (length cells) 1024 && eqb size 32) accepted (refused 5))
+    _then_ (planVerdict ws) (cond (eqb (length cells) 1024 && eqb size 32) accepted (refused 5))

@@ -36,6 +36,7 @@ use terminal::memory::on;
 use terminal::memory::part;
 use terminal::memory::put;
 use terminal::memory::wide;
+use verdict::Verdict;
 
 // Copies words from memory.
 fn load(m: &Memory, place: usize, into: &mut [u32]) {
@@ -235,8 +236,8 @@ fn begin_frame(m: &Memory, out: &mut [u32]) -> u32 {
     let size = get(m, LENT_OUTGOING) as usize;
     mark(out);
     match token::starting_frame(front(out, size)) {
-        token::StartAnswer::Written => 0,
-        token::StartAnswer::Refused(question) => question,
+        token::Verdict::Accepted => 0,
+        Verdict::Refused(question) => question,
     }
 }
 

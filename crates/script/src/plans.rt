@@ -8,7 +8,6 @@ use crate::layout::WORDS;
 use crate::layout::parts;
 use crate::texts;
 use conflict::ClassAnswer;
-use plan::PlanAnswer;
 use terminal::Memory;
 use terminal::memory;
 use terminal::memory::INDEX;
@@ -21,12 +20,13 @@ use terminal::memory::put;
 use terminal::memory::wide;
 use terminal::output::say;
 use terminal::output::say_each;
+use verdict::Verdict;
 
 // The plan reader's answer: 0, or the question.
 fn verdict(m: &Memory) -> u32 {
     match plan::read_plan(counted(m, PLAN)) {
-        PlanAnswer::Accepted => 0,
-        PlanAnswer::Refused(question) => question,
+        Verdict::Accepted => 0,
+        Verdict::Refused(question) => question,
     }
 }
 

@@ -8,13 +8,15 @@ use native.Mathlib.Omega.{arith}
 use lib.Dec.{leb, eqb}
 use lib.ListN.{length}
 use borrow.Author.Tests.{leb-true, eqb-true}
+use Rattle.verdict.specs.Verdict.{Verdict, accepted, refused, _then_}
+use Rattle.verdict.proofs.Verdicts.{ask-then-accepted}
 use Rattle.word.specs.Field.{kindOf, frameLength, headDesks}
 use Rattle.word.specs.Reserved.{reservedZero}
 use Rattle.plan.specs.Decode.{headOf, planOf}
-use Rattle.plan.specs.Admission.{Verdict, accepted, refused, planVerdict}
+use Rattle.plan.specs.Admission.{planVerdict}
 use Rattle.plan.proofs.Bool.{and-fst, and-snd}
-use Rattle.plan.proofs.Accepted.{accepted-gives, yes-of}
-use Rattle.token.specs.Admission.{frameHeaded, sumsRight, updatesRight, frameVerdict, andThen, readVerdict}
+use Rattle.plan.proofs.Accepted.{accepted-gives}
+use Rattle.token.specs.Admission.{frameHeaded, sumsRight, updatesRight, frameVerdict, readVerdict}
 
 -- 10
 pub record Headed (ws : List ℕ) : Type 0 where
@@ -47,24 +49,24 @@ pub record Admitted (n : ℕ) (ws : List ℕ) : Type 0 where
 pub admitted : (n : ℕ) (ws : List ℕ) → frameVerdict n ws ≡ accepted → Admitted n ws
 unfolding frameVerdict
 admitted n ws e =
-    let q10 = yes-of (frameHeaded ws) _ 10 e in
-    let q11 = yes-of (sumsRight ws) _ 11 (q10 .1) in
-    let q12 = yes-of (updatesRight n ws) _ 12 (q11 .1) in
+    let q10 = ask-then-accepted (frameHeaded ws) _ 10 e in
+    let q11 = ask-then-accepted (sumsRight ws) _ 11 (q10 .1) in
+    let q12 = ask-then-accepted (updatesRight n ws) _ 12 (q11 .1) in
     record { head = q10 .0; sums = q11 .0; updates = q12 .0 }
 
 -- both of two questions are answered with yes
-pub both : (v w : Verdict) → andThen v w ≡ accepted → (v ≡ accepted) × (w ≡ accepted)
+pub both : (v w : Verdict) → _then_ v w ≡ accepted → (v ≡ accepted) × (w ≡ accepted)
 both accepted w e = (refl, e)
 both (refused q) w e = let z : _≡_ {A = ℕ} 0 1 = cc in absurd (omega arith)
 
 -- questions one after another, in either grouping
-pub then-associates : (u v w : Verdict) → andThen u (andThen v w) ≡ andThen (andThen u v) w
+pub then-associates : (u v w : Verdict) → _then_ u (_then_ v w) ≡ _then_ (_then_ u v) w
 then-associates accepted v w = refl
 then-associates (refused question) v w = refl
 
 -- behind a question answered with no, the next do not matter
 pub behind : (yes : Bool) (question : ℕ) (v w : Verdict) → (yes ≡ true → v ≡ w)
-    → andThen (cond yes accepted (refused question)) v ≡ andThen (cond yes accepted (refused question)) w
+    → _then_ (cond yes accepted (refused question)) v ≡ _then_ (cond yes accepted (refused question)) w
 behind true question v w h = h refl
 behind false question v w h = refl
 

@@ -5,10 +5,11 @@ use mathlib.Core.Bool.{Bool, true, false, _&&_, cond}
 use mathlib.Core.List.{List, [], _∷_}
 use lib.ListN.{length, getD, take, drop}
 use lib.Dec.{ltb, leb, eqb}
+use Rattle.verdict.specs.Verdict.{Verdict, accepted, refused}
 use Rattle.word.specs.Field.{kindOf, addressedDesk, frameLength, updateDesk, cellCount, cellField}
 use Rattle.word.specs.Reserved.{reservedZero}
 use Rattle.plan.specs.Decode.{headOf, planOf}
-use Rattle.plan.specs.Admission.{every, Verdict, accepted, refused, planVerdict}
+use Rattle.plan.specs.Admission.{every, planVerdict}
 use Rattle.operation.specs.Run.{Update}
 use Rattle.token.specs.Frame.{SentUpdate, sent, sumsOf}
 

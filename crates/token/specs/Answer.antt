@@ -4,7 +4,7 @@ use mathlib.Core.Bool.{cond}
 use mathlib.Core.List.{List, []}
 use lib.Dec.{leb}
 use lib.ListN.{length}
-use Rattle.plan.specs.Admission.{Verdict, accepted, refused}
+use Rattle.verdict.specs.Verdict.{Verdict, accepted, refused}
 use Rattle.token.specs.Frame.{startingFrame, overwritten}
 use Rattle.token.specs.Admission.{updatesPart, frameVisit}
 use Rattle.token.specs.declared.reader.FrameCheck.{FrameCheck}

@@ -3,8 +3,8 @@
 use mathlib.Core.Path.{_≡_, _∙_, sym, ap, ap₂}
 use mathlib.Core.Bool.{Bool, true, cond}
 use borrow.Author.Tests.{not-true, not-false}
+use Rattle.verdict.specs.Verdict.{Verdict, accepted, refused}
 use Rattle.plan.specs.Decode.{planOf}
-use Rattle.plan.specs.Admission.{Verdict, accepted, refused}
 use Rattle.plan.specs.Place.{transactionPlace}
 use Rattle.operation.specs.Admission.{transactionExists, operationVerdict}
 use Rattle.desk.specs.Queueing.{operationOf}

@@ -2,8 +2,8 @@
 -- Assumes nothing.
 use mathlib.Core.Path.{_≡_, _∙_, sym, ap}
 use mathlib.Core.Bool.{Bool, cond}
-use Rattle.plan.specs.Admission.{accepted, refused}
-use Rattle.plan.specs.Answer.{verdictOf}
+use Rattle.verdict.specs.Verdict.{accepted, refused}
+use Rattle.verdict.specs.Answer.{verdictOf}
 use Rattle.passing.specs.Core.{openingVerdict}
 use Rattle.passing.proofs.Visited.{plan-refused, by-buffers}
 use borrow.Author.Needs.{needs}

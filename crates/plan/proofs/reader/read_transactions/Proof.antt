@@ -7,7 +7,8 @@ use borrow.Author.Tests.{not-true, not-false}
 use mathlib.Core.Logic.{⊎-elim}
 use native.Mathlib.Omega.{arith}
 use lib.ListN.{length, drop}
-use Rattle.plan.specs.Admission.{transactionsVerdict, accepted, refused, transactionFormed, stepFormed}
+use Rattle.verdict.specs.Verdict.{accepted, refused}
+use Rattle.plan.specs.Admission.{transactionsVerdict, transactionFormed, stepFormed}
 use Rattle.plan.proofs.Rest.{there, stands, restAt, restInAt, walk-start, tx-fault, tx-step, end-more, end-done, step-fault}
 use Rattle.plan.proofs.Rest.{step-step, steps-done}
 use borrow.Author.Needs.{needs}

@@ -1,7 +1,8 @@
 -- Questions 1 to 4, then 10 to 12: the plan's refusal stands, and an accepted plan has 1 to 8 desks.
 -- Assumes nothing.
 use mathlib.Core.Path.{_≡_, _∙_, sym, ap}
-use Rattle.plan.specs.Admission.{planVerdict, accepted}
+use Rattle.verdict.specs.Verdict.{accepted}
+use Rattle.plan.specs.Admission.{planVerdict}
 use Rattle.plan.specs.Answer as plans
 use Prim.Native.Nat.{ℕ}
 use Rattle.token.specs.Admission.{frameVerdict}
