@@ -1,14 +1,14 @@
 -- The operation that a request asks for, by the words of the plan at its transaction's place: questions 7 and 8, desk, class and run.
 -- Assumes nothing.
 use mathlib.Core.Path.{_≡_, refl, _∙_, sym, ap, ap₂, subst}
-use mathlib.Core.Bool.{true, false, cond, false≢true}
+use mathlib.Core.Bool.{true, false}
 use mathlib.Core.List.{List}
 use Prim.Native.Nat.{ℕ, _<_}
 use native.Mathlib.Omega.{arith}
 use lib.ListN.{length, getD}
 use borrow.Author.Tests.{ltb-true}
-use Rattle.verdict.specs.Verdict.{Verdict, accepted, refused, isAccepted}
-use Rattle.verdict.proofs.Verdicts.{ask-then-accepted}
+use Rattle.verdict.specs.Verdict.{Verdict, accepted, refused, ask, isAccepted}
+use Rattle.verdict.proofs.Verdicts.{ask-accepted, ask-then-accepted, isAccepted-accepted}
 use Rattle.word.specs.Field.{headDesks, headTransactions, partitioningField}
 use Rattle.plan.specs.Plan.{Transaction}
 use Rattle.plan.specs.Decode.{planOf, headOf, partBy}
@@ -25,7 +25,7 @@ use Rattle.queue.specs.Queue.{paramsOf}
 use Rattle.queue.specs.declared.record.Request.{Request}
 use Rattle.desk.specs.Queueing.{operationOf}
 use Rattle.desk.specs.Admission.{Admitted}
-use Rattle.desk.specs.Place.{Place, standsAt, isRefused, placeBy, Placed}
+use Rattle.desk.specs.Place.{standsAt, isRefused, placeBy, Placed}
 
 module _ (ws : List ℕ) (r : Request) where
   -- a transaction that exists is one of the plan's, of which there are at most 32
@@ -57,30 +57,30 @@ module _ (ws : List ℕ) (r : Request) where
 
     -- 8
     pub verdict-here : (ps : List ℕ) → ps ≡ paramsOf r
-        → operationVerdict (planOf ws) (operationOf r) ≡ cond (parametersPass (transactionFrom ws at) ps) accepted (refused 8)
+        → operationVerdict (planOf ws) (operationOf r) ≡ ask 8 (parametersPass (transactionFrom ws at) ps)
     unfolding operationVerdict
     verdict-here ps q = rw (h, transaction-here, q)
 
   -- 7 and 8 are answered with yes
   module _ (a : Admitted ws r) where
-    pub there : transactionExists (planOf ws) (r .transaction) ≡ true
+    pub admitted-exists : transactionExists (planOf ws) (r .transaction) ≡ true
     unfolding operationVerdict
-    there = ask-then-accepted (transactionExists (planOf ws) (r .transaction)) _ 7 (a .passed) .0
+    admitted-exists = ask-then-accepted 7 (transactionExists (planOf ws) (r .transaction)) _ (a .passed) .0
 
   module _ (a : Admitted ws r) (at : ℕ) (i : at ≡ transactionPlace ws (r .transaction)) where
     pub admitted-stands : StandsAt ws at
-    admitted-stands = stands (a .planned) (there a) at i
+    admitted-stands = stands (a .planned) (admitted-exists a) at i
 
     pub inside : at < length ws
     inside = let s = admitted-stands .room in omega arith
 
     pub transaction-asked : transactionOf (planOf ws) (operationOf r) ≡ transactionFrom ws at
-    transaction-asked = transaction-here (a .planned) (there a) at i
+    transaction-asked = transaction-here (a .planned) (admitted-exists a) at i
 
     module _ (ps : List ℕ) (q : ps ≡ paramsOf r) where
       pub parameters-passed : parametersPass (transactionFrom ws at) ps ≡ true
       parameters-passed =
-          ask-then-accepted (parametersPass (transactionFrom ws at) ps) _ 8 (sym (verdict-here (a .planned) (there a) at i ps q) ∙ a .passed) .0
+          ask-accepted 8 (parametersPass (transactionFrom ws at) ps) (sym (verdict-here (a .planned) (admitted-exists a) at i ps q) ∙ a .passed)
 
       pub desk-asked : deskBy (headDesks (headOf ws)) (partBy (partitioningField (getD ws at 0))) ps ≡ deskOf (planOf ws) (operationOf r)
       desk-asked = rw (transaction-asked, desk-count ws, q)
@@ -94,11 +94,7 @@ module _ (ws : List ℕ) (r : Request) where
 -- ---- by the answer of questions 7 and 8
 
 found-at : (v : Verdict) (place at : ℕ) → standsAt at ≡ placeBy v place → (v ≡ accepted) × (at ≡ place)
-found-at accepted place at e = (refl, ap placed e)
-  where
-    placed : Place → ℕ
-    placed (standsAt n) = n
-    placed (isRefused n) = n
+found-at accepted place at e = (refl, (cc))
 found-at (refused question) place at e = let z : _≡_ {A = ℕ} 0 1 = cc in absurd (omega arith)
 
 pub placed-at : (ws : List ℕ) (r : Request) → planVerdict ws ≡ accepted → (at : ℕ)
@@ -109,17 +105,9 @@ placed-at ws r e at h =
 
 pub found-lacking : (v : Verdict) (place question : ℕ) → isRefused question ≡ placeBy v place → v ≡ refused question
 found-lacking accepted place question e = let z : _≡_ {A = ℕ} 0 1 = cc in absurd (omega arith)
-found-lacking (refused n) place question e = ap (λ (m : ℕ). refused m) (sym (ap number e))
-  where
-    number : Place → ℕ
-    number (standsAt n) = n
-    number (isRefused n) = n
-
-pub accepted-is : (v : Verdict) → isAccepted v ≡ true → v ≡ accepted
-accepted-is accepted e = refl
-accepted-is (refused question) e = absurd (false≢true e)
+found-lacking (refused n) place question e = cc
 
 -- a record that is an operation is admitted
 pub operation-admitted : (ws : List ℕ) (r : Request) → planVerdict ws ≡ accepted
     → isAccepted (operationVerdict (planOf ws) (operationOf r)) ≡ true → Admitted ws r
-operation-admitted ws r e h = record { planned = e; passed = accepted-is (operationVerdict (planOf ws) (operationOf r)) h }
+operation-admitted ws r e h = record { planned = e; passed = isAccepted-accepted (operationVerdict (planOf ws) (operationOf r)) h }

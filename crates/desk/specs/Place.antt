@@ -3,7 +3,7 @@ use Prim.Native.Nat.{ℕ}
 use mathlib.Core.Path.{_≡_}
 use mathlib.Core.Bool.{true}
 use mathlib.Core.List.{List}
-use Rattle.verdict.specs.Verdict.{Verdict, accepted, refused}
+use Rattle.verdict.specs.Verdict.{Verdict, ifAccepted}
 use Rattle.plan.specs.Decode.{planOf}
 use Rattle.plan.specs.Place.{transactionPlace}
 use Rattle.conflict.specs.Touch.{maskTable}
@@ -24,8 +24,7 @@ placeOf (located.At at) = standsAt at
 placeOf (located.Refused question) = isRefused question
 
 abbrev pub placeBy : Verdict → ℕ → Place
-placeBy accepted at = standsAt at
-placeBy (refused question) at = isRefused question
+placeBy v at = ifAccepted v (standsAt at) isRefused
 
 -- the request's operation is admitted, and its transaction stands there
 pub record Placed (ws : List ℕ) (r : Request) (at : ℕ) : Type 0 where
