@@ -3,7 +3,7 @@ use Prim.Native.Nat.{ℕ, _+_}
 use mathlib.Core.Bool.{_&&_, cond}
 use mathlib.Core.List.{List, _++_, map}
 use lib.ListN.{length}
-use Rattle.verdict.specs.Verdict.{Verdict, accepted, refused, _then_}
+use Rattle.verdict.specs.Verdict.{Verdict, ask, _then_, ifAccepted}
 use Rattle.plan.specs.Plan.{Plan}
 use Rattle.plan.specs.Decode.{planOf}
 use Rattle.plan.specs.Admission.{planVerdict}
@@ -57,17 +57,21 @@ module _ (p : Plan) (d : Desk) (cells : List ℕ) (queue : List Request) (frame 
     replies = overwritten replyingWords replies;
   }
 
+  -- "nothing lent and no state changes"
+  abbrev pub unchanged : ℕ → Visited
+  unchanged question = record { answer = isRefused question; state = d; cells = cells; out = out; replies = replies }
+
   abbrev pub visitedBy : Verdict → Visited
-  visitedBy accepted = passed
-  visitedBy (refused question) = record { answer = isRefused question; state = d; cells = cells; out = out; replies = replies }
+  visitedBy v = ifAccepted v passed unchanged
 
 -- "Visit: 1–6, 10–15."
 unfoldable pub visitVerdict : List ℕ → Desk → List ℕ → List Request → List ℕ → List ℕ → List ℕ → Verdict
 visitVerdict ws d cells queue frame out replies =
-    _then_ (planVerdict ws)
-    (_then_ (cond (deskBuffersFit cells queue && visitBuffersFit out replies) accepted (refused 5))
-    (_then_ (cond (deskStands (planOf ws) d queue) accepted (refused 6))
-    (_then_ (frameVerdict (planOf ws .desks) frame) (turnVerdict d frame))))
+    planVerdict ws
+    then ask 5 (deskBuffersFit cells queue && visitBuffersFit out replies)
+    then ask 6 (deskStands (planOf ws) d queue)
+    then frameVerdict (planOf ws .desks) frame
+    then turnVerdict d frame
 
 unfoldable pub visitResult : List ℕ → Desk → List ℕ → List Request → List ℕ → List ℕ → List ℕ → Visited
 visitResult ws d cells queue frame out replies =
