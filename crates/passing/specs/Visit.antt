@@ -1,6 +1,6 @@
 -- A visit of the token at a desk: everything that the call leaves, for good and bad input alike.
 use Prim.Native.Nat.{ℕ, _+_}
-use mathlib.Core.Bool.{_&&_, cond}
+use mathlib.Core.Bool.{_&&_}
 use mathlib.Core.List.{List, _++_, map}
 use lib.ListN.{length}
 use Rattle.verdict.specs.Verdict.{Verdict, ask, _then_, ifAccepted}
@@ -31,6 +31,11 @@ pub record Visited : Type 0 where
   pub out : List ℕ
   pub replies : List ℕ
 
+-- "nothing lent and no state changes"
+abbrev pub unchanged : Desk → List ℕ → List ℕ → List ℕ → ℕ → Visited
+unchanged d cells out replies question =
+    record { answer = isRefused question; state = d; cells = cells; out = out; replies = replies }
+
 module _ (p : Plan) (d : Desk) (cells : List ℕ) (queue : List Request) (frame out replies : List ℕ) where
   abbrev pub caughtUp : Store
   caughtUp = applyAll (foreign (d .desk) (frameUpdates frame)) cells
@@ -57,12 +62,8 @@ module _ (p : Plan) (d : Desk) (cells : List ℕ) (queue : List Request) (frame 
     replies = overwritten replyingWords replies;
   }
 
-  -- "nothing lent and no state changes"
-  abbrev pub unchanged : ℕ → Visited
-  unchanged question = record { answer = isRefused question; state = d; cells = cells; out = out; replies = replies }
-
   abbrev pub visitedBy : Verdict → Visited
-  visitedBy v = ifAccepted v passed unchanged
+  visitedBy v = ifAccepted v passed (unchanged d cells out replies)
 
 -- "Visit: 1–6, 10–15."
 unfoldable pub visitVerdict : List ℕ → Desk → List ℕ → List Request → List ℕ → List ℕ → List ℕ → Verdict
