@@ -4,7 +4,7 @@
 use Prim.Native.Nat.{ℕ, zero, suc, _+_, _^_, _≤_, _<_}
 use mathlib.Core.Path.{_≡_, refl, sym, _∙_, ap}
 use mathlib.Core.Logic.{_⊎_, inl, inr, ⊎-elim}
-use mathlib.Core.Bool.{true, _&&_, cond}
+use mathlib.Core.Bool.{true, _&&_}
 use mathlib.Core.List.{List, [], _∷_, map, List·Memᴰ, List·Memᴰ·head, List·Memᴰ·tail, List·Memᴰ·not-nil}
 use native.Mathlib.Omega.{arith}
 use lib.Dec.{eqb}
@@ -93,11 +93,8 @@ module _ (plan : List ℕ) (d : Desk) (cells : List ℕ) (queue : List Request) 
     unfolding visitVerdict
     rest-of =
         let a = then-accepted (planVerdict plan) _ verdict-of .1 in
-        let b = then-accepted (cond (deskBuffersFit cells queue && visitBuffersFit out replies) accepted (refused 5)) _ a in
-        let c = then-accepted (cond (deskStands (planOf plan) d queue) accepted (refused 6)) _ (b .1) in (
-          ask-then-accepted (deskBuffersFit cells queue && visitBuffersFit out replies) accepted 5 (b .0) .0,
-          ask-then-accepted (deskStands (planOf plan) d queue) accepted 6 (c .0) .0,
-        )
+        let b = ask-then-accepted 5 (deskBuffersFit cells queue && visitBuffersFit out replies) _ a in
+        (b .0, ask-then-accepted 6 (deskStands (planOf plan) d queue) _ (b .1) .0)
 
     abbrev h : Holding
     h = record { state = d; cells = cells; queue = queue }

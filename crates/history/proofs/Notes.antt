@@ -7,7 +7,7 @@ use mathlib.Core.List.{List, [], _∷_, _++_, map}
 use lib.Dec.{eqb}
 use lib.ListN.{length, getD}
 use Rattle.verdict.specs.Verdict.{Verdict, accepted, refused}
-use Rattle.verdict.proofs.Verdicts.{then-accepted}
+use Rattle.verdict.proofs.Verdicts.{then-accepted, ask-then-accepted}
 use Rattle.plan.specs.Plan.{Plan}
 use Rattle.plan.specs.Decode.{planOf}
 use Rattle.plan.specs.Admission.{planVerdict}
@@ -85,8 +85,8 @@ module _ (ws : List ℕ) where
   accepted-runs h client k ps words e =
       let v = not-refused (h .state) (h .cells) (h .queue) (recordOf client k ps) _ e in
       let a = then-accepted (planVerdict ws) _ v .1 in
-      let b = then-accepted (cond (deskBuffersFit (h .cells) (h .queue)) accepted (refused 5)) _ a .1 in
-      let c = then-accepted (cond (deskStands (planOf ws) (h .state) (h .queue)) accepted (refused 6)) _ b .1 in
+      let b = ask-then-accepted 5 (deskBuffersFit (h .cells) (h .queue)) _ a .1 in
+      let c = ask-then-accepted 6 (deskStands (planOf ws) (h .state) (h .queue)) _ b .1 in
       record-runs ws client k ps words c
 
   module _ (class : Operation → Class) where

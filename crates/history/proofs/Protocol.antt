@@ -5,7 +5,7 @@ use mathlib.Core.Bool.{Bool, true, false, _&&_, cond}
 use mathlib.Core.List.{List}
 use lib.Dec.{ltb, eqb}
 use lib.ListN.{length}
-use Rattle.verdict.specs.Verdict.{Verdict, accepted, refused, _then_, isAccepted}
+use Rattle.verdict.specs.Verdict.{Verdict, ask, _then_, isAccepted}
 use Rattle.plan.specs.Plan.{Plan}
 use Rattle.plan.specs.Decode.{planOf}
 use Rattle.operation.specs.Operation.{Operation, deskOf, MayRead, MayWrite}
@@ -52,13 +52,14 @@ module _ (ws : List ℕ) (class : Operation → Class) (records : ℕ → ℕ) w
 
   -- 5, 7 and 8. Question 6 holds throughout a history
   abbrev pub requestAsked : Store → ℕ → Operation → Verdict
-  requestAsked s p o = _then_ (cond (sizesFit s p) accepted (refused 5)) (operationVerdict thePlan o)
+  requestAsked s p o = ask 5 (sizesFit s p) then operationVerdict thePlan o
 
   -- 5 and 10 to 15
   abbrev pub visitAsked : Store → ℕ → ℕ → Brought → Verdict
   visitAsked s p awaited x =
-      _then_ (cond (sizesFit s p && visitBuffersFit (x .out) (x .replies)) accepted (refused 5))
-      (_then_ (frameVerdict (thePlan .desks) (x .frame)) (turnVerdict (record { desk = p; waiting = 0; awaited = awaited }) (x .frame)))
+      ask 5 (sizesFit s p && visitBuffersFit (x .out) (x .replies))
+      then frameVerdict (thePlan .desks) (x .frame)
+      then turnVerdict (record { desk = p; waiting = 0; awaited = awaited }) (x .frame)
 
   abbrev pub admission : Desk Operation → Call Operation Brought → Bool
   admission d (request p r x) =

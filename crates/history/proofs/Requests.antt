@@ -11,7 +11,7 @@ use lib.ListN.{length, getD, set, take, length-map, length-set}
 use lib.Seq.{take-suc-set, length-take-le}
 use borrow.Author.Tests.{ltb-true, eqb-true, le-leb, eq-eqb}
 use Rattle.verdict.specs.Verdict.{Verdict, accepted, refused, isAccepted}
-use Rattle.verdict.proofs.Verdicts.{ask-then-accepted, then-accepted}
+use Rattle.verdict.proofs.Verdicts.{ask-then-accepted}
 use Rattle.plan.specs.Decode.{planOf}
 use Rattle.plan.specs.Admission.{every, planVerdict}
 use Rattle.plan.proofs.Bool.{and-snd, and-true}
@@ -93,8 +93,8 @@ module _ (ws : List ℕ) (accept : planVerdict ws ≡ accepted) (class : Operati
 
   pub passes : asking ≡ accepted → Passes
   passes e =
-      let b = then-accepted (cond (sizesFit ws class records (h .cells) (d .desk)) accepted (refused 5)) _ (sym asking-is ∙ e) in
-      let s = ask-then-accepted (sizesFit ws class records (h .cells) (d .desk)) accepted 5 (b .0) .0 in
+      let b = ask-then-accepted 5 (sizesFit ws class records (h .cells) (d .desk)) _ (sym asking-is ∙ e) in
+      let s = b .0 in
       record {
         runs = record-runs ws client k ps words (b .1);
         whole = ok .size ∙ eqb-true (records (d .desk)) 32 (and-snd (eqb (length (h .cells)) 1024) _ s);

@@ -60,13 +60,13 @@ pub turn-of : (ws : List ℕ) (d : Desk) (cells : List ℕ) (queue : List Reques
 unfolding visitVerdict turnVerdict
 turn-of ws d cells queue ft out replies e =
     let a = then-accepted (planVerdict ws) _ e .1 in
-    let b = then-accepted (cond (deskBuffersFit cells queue && visitBuffersFit out replies) accepted (refused 5)) _ a .1 in
-    let c = then-accepted (cond (deskStands (planOf ws) d queue) accepted (refused 6)) _ b .1 in
+    let b = ask-then-accepted 5 (deskBuffersFit cells queue && visitBuffersFit out replies) _ a .1 in
+    let c = ask-then-accepted 6 (deskStands (planOf ws) d queue) _ b .1 in
     let f = then-accepted (frameVerdict (planOf ws .desks) ft) _ c in
-    let t = ask-then-accepted (eqb (addressedDesk (headOf ft)) (d .desk)) _ 13 (f .1) .1 in
+    let t = ask-then-accepted 13 (eqb (addressedDesk (headOf ft)) (d .desk)) _ (f .1) .1 in
     record {
       reads = f .0;
-      number = eqb-true (frameVisit ft) (d .awaited) (ask-then-accepted (eqb (frameVisit ft) (d .awaited)) _ 14 t .0);
+      number = eqb-true (frameVisit ft) (d .awaited) (ask-then-accepted 14 (eqb (frameVisit ft) (d .awaited)) _ t .0);
     }
 
 module _ (ws : List ℕ) (accept : planVerdict ws ≡ accepted) (records : ℕ → ℕ) (h : Holding)

@@ -236,7 +236,7 @@ fn begin_frame(m: &Memory, out: &mut [u32]) -> u32 {
     let size = get(m, LENT_OUTGOING) as usize;
     mark(out);
     match token::starting_frame(front(out, size)) {
-        token::Verdict::Accepted => 0,
+        Verdict::Accepted => 0,
         Verdict::Refused(question) => question,
     }
 }
