@@ -11,19 +11,19 @@ use lib.Count.{ones}
 use lib.Dec.{eqb}
 use borrow.Author.Tests.{eq-eqb, eqb-true}
 use Rattle.verdict.specs.Verdict.{accepted}
+use Rattle.lists.proofs.Every.{every-member, member-every}
+use Rattle.lists.specs.Some.{some}
+use Rattle.lists.proofs.Some.{member-some, some-member}
 use Rattle.plan.specs.Plan.{Source, reads, writes, Step, cell, operand, Plan}
 use Rattle.plan.specs.Decode.{planOf}
 use Rattle.plan.specs.Admission.{planVerdict}
-use Rattle.plan.proofs.Every.{every-member, member-every}
 use Rattle.operation.specs.Operation.{Operation, transactionOf, deskOf, readSet, writeSet, MayRead, MayWrite, MayTouch}
 use Rattle.operation.specs.Admission.{IsOperation}
 use Rattle.operation.proofs.Cells.{names-of, of-names}
-use Rattle.conflict.specs.Mask.{some}
 use Rattle.conflict.specs.Touch.{deskMask}
 use Rattle.conflict.specs.Written.{written}
 use Rattle.conflict.specs.Class.{OtherDesk, Free, Local, Global, WriteConflict, ReadsFrom, Class, free, local, global, isWrite}
 use Rattle.conflict.specs.Class.{oneDeskEach, classBy, classOf}
-use Rattle.conflict.proofs.Some.{member-some, some-member}
 use Rattle.conflict.proofs.MaskMeaning.{desk-low, one-desk}
 use Rattle.conflict.proofs.WrittenMeaning.{written-gives, gives-written}
 use Rattle.conflict.proofs.Touching.{some-desk}

@@ -12,10 +12,10 @@ use lib.Dec.{ltb, eqb}
 use lib.ListN.{length, getD, set, length-set}
 use lib.Seq.{getD-set-same, getD-set-other}
 use borrow.Author.Tests.{eq-eqb, lt-ltb, le-ltb, le-leb, lt-leb, eqb-true, eqb-false}
+use Rattle.lists.proofs.Tests.{lt-or-ge}
 use Rattle.word.specs.Field.{kindOf, tableField, columnField}
 use Rattle.plan.specs.Plan.{Partitioning}
 use Rattle.plan.specs.Decode.{stepOf, rowOf}
-use Rattle.plan.proofs.Places.{lt-or-ge}
 use Rattle.conflict.specs.Mask.{maskOf}
 use Rattle.conflict.specs.Touch.{rowTouched, cellTouched, stepTouches, Joined}
 use Rattle.conflict.proofs.Masks.{mask-ext, mask-none}

@@ -12,11 +12,12 @@ use lib.Dec.{ltb, eqb}
 use lib.ListN.{length, getD, drop, List·getD-eq-default}
 use lib.Seq.{getD-drop}
 use borrow.Author.Tests.{eq-eqb, ne-eqb, eqb-true, ltb-true, le-leb}
+use Rattle.lists.specs.Every.{every}
+use Rattle.lists.proofs.Bool.{and-fst, and-snd, and-true}
+use Rattle.lists.proofs.Every.{member-every}
+use Rattle.lists.proofs.Tests.{lt-or-ge}
 use Rattle.plan.specs.Plan.{Source, param, fixed, Step, cell, operand, Partitioning, byParam, unpartitioned, Transaction}
-use Rattle.plan.specs.Admission.{every, sourceExists, partExists}
-use Rattle.plan.proofs.Bool.{and-fst, and-snd, and-true}
-use Rattle.plan.proofs.Every.{member-every}
-use Rattle.plan.proofs.Places.{lt-or-ge}
+use Rattle.plan.specs.Admission.{sourceExists, partExists}
 use Rattle.operation.specs.Operation.{valueOf, deskBy}
 use Rattle.operation.specs.Admission.{unusedZero, rowInRange, parametersPass}
 use Rattle.conflict.specs.Touch.{rowTouched}

@@ -13,14 +13,15 @@ use lib.Seq.{take-append-seam, length-take-le}
 use borrow.Author.Tests.{eqb-true}
 use Rattle.verdict.specs.Verdict.{Verdict, accepted, refused, isAccepted}
 use Rattle.verdict.proofs.Verdicts.{ask-then-accepted, then-accepted, isAccepted-accepted}
+use Rattle.lists.proofs.Bool.{and-fst, and-snd}
+use Rattle.lists.proofs.Every.{every-member}
+use Rattle.lists.specs.Overwritten.{overwritten}
+use Rattle.lists.proofs.All.{mem-All}
 use Rattle.plan.specs.Decode.{planOf}
 use Rattle.plan.specs.Admission.{planVerdict}
-use Rattle.plan.proofs.Bool.{and-fst, and-snd}
-use Rattle.plan.proofs.Every.{every-member}
 use Rattle.operation.specs.Admission.{operationVerdict}
 use Rattle.operation.specs.Run.{Store, applyUpdate, run}
 use Rattle.operation.proofs.Words.{AllWords}
-use Rattle.token.specs.Frame.{overwritten}
 use Rattle.token.specs.Admission.{frameVerdict, frameVisit, frameUpdates, readVerdict}
 use Rattle.token.proofs.OneWord.{one-word}
 use Rattle.token.proofs.Verdicts.{read-after}
@@ -33,7 +34,6 @@ use Rattle.passing.specs.Admission.{visitBuffersFit}
 use Rattle.passing.specs.Visit.{forwarded, isRefused, Visited, caughtUp, outgoingUpdates, outgoingFrame, visitedBy, visitVerdict}
 use Rattle.passing.specs.Visit.{visitResult}
 use Rattle.passing.specs.Waiting.{Answered, repliesOf, repliesWords}
-use Rattle.serial.proofs.Lists.{mem-All}
 use Rattle.history.specs.History.{Holding}
 use Rattle.history.proofs.Operations.{Runs}
 use Rattle.history.proofs.Standing.{Stands, Six, six}

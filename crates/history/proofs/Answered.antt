@@ -6,6 +6,8 @@ use mathlib.Core.Bool.{true}
 use mathlib.Core.List.{List, [], _∷_, List·Memᴰ}
 use lib.ListN.{length}
 use Rattle.verdict.specs.Verdict.{accepted}
+use Rattle.lists.proofs.Tests.{by-same, eqb-yes, eqb-no, eqb-self}
+use Rattle.lists.specs.All.{All}
 use Rattle.plan.specs.Decode.{planOf}
 use Rattle.plan.specs.Admission.{planVerdict}
 use Rattle.operation.specs.Run.{Store, run}
@@ -16,8 +18,6 @@ use Rattle.routing.specs.Request.{recordOf, requestResult}
 use Rattle.routing.specs.Request as asked
 use Rattle.passing.specs.Visit.{forwarded, caughtUp, visitResult}
 use Rattle.passing.specs.Waiting.{repliesOf}
-use Rattle.serial.proofs.Tests.{by-same, eqb-yes, eqb-no, eqb-self}
-use Rattle.serial.proofs.Lists.{All}
 use Rattle.history.specs.History.{Holding, Call, request, visit, deskCalled, isRefused}
 use Rattle.history.specs.History.{assign, outcomeAt, stepAt, holdingsAfter, start, WordsFit}
 use Rattle.history.proofs.Standing.{Stands, start-stands}

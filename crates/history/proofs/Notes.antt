@@ -8,6 +8,8 @@ use lib.Dec.{eqb}
 use lib.ListN.{length, getD}
 use Rattle.verdict.specs.Verdict.{Verdict, accepted, refused}
 use Rattle.verdict.proofs.Verdicts.{then-accepted, ask-then-accepted}
+use Rattle.lists.specs.All.{All}
+use Rattle.lists.proofs.All.{All-append}
 use Rattle.plan.specs.Plan.{Plan}
 use Rattle.plan.specs.Decode.{planOf}
 use Rattle.plan.specs.Admission.{planVerdict}
@@ -18,7 +20,6 @@ use Rattle.desk.specs.declared.state.Desk.{Desk}
 use Rattle.desk.specs.Queueing.{operationOf}
 use Rattle.desk.specs.Admission.{deskBuffersFit, deskStands}
 use Rattle.routing.specs.Request.{recordOf, served, requestVerdict, requestResult}
-use Rattle.serial.proofs.Lists.{All, All-append}
 use Rattle.history.specs.History.{Holding, Call, request, visit, deskCalled, responseRefused, isRefused, outcomeAt, stepAt, outcomes}
 use Rattle.history.specs.History.{written, WordsFit, Proper}
 use Rattle.history.specs.SerialRun.{Serial, noteNothing, noteRun, noteJoin, noteRequest, ranked, noteVisit, note, noteAll}

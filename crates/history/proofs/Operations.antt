@@ -10,9 +10,9 @@ use lib.ListN.{length, getD}
 use borrow.Author.Tests.{ltb-true, lt-ltb, eqb-true, eq-eqb}
 use Rattle.verdict.specs.Verdict.{isAccepted}
 use Rattle.verdict.proofs.Verdicts.{isAccepted-accepted}
+use Rattle.lists.specs.Every.{every}
+use Rattle.lists.proofs.Bool.{and-fst, and-snd, and-true}
 use Rattle.plan.specs.Plan.{Plan}
-use Rattle.plan.specs.Admission.{every}
-use Rattle.plan.proofs.Bool.{and-fst, and-snd, and-true}
 use Rattle.operation.specs.Operation.{Operation}
 use Rattle.operation.specs.Admission.{IsOperation, operationVerdict}
 use Rattle.queue.specs.declared.record.Request.{Request}

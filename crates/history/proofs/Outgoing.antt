@@ -7,10 +7,12 @@ use mathlib.Core.List.{List, [], _∷_, _++_, map}
 use native.Mathlib.Omega.{arith}
 use lib.ListN.{length}
 use Rattle.verdict.specs.Verdict.{accepted, isAccepted}
+use Rattle.lists.specs.Every.{every}
+use Rattle.lists.proofs.Bool.{and-true}
+use Rattle.lists.specs.All.{All}
 use Rattle.plan.specs.Plan.{Plan}
 use Rattle.plan.specs.Decode.{planOf}
-use Rattle.plan.specs.Admission.{every, planVerdict}
-use Rattle.plan.proofs.Bool.{and-true}
+use Rattle.plan.specs.Admission.{planVerdict}
 use Rattle.operation.specs.Run.{Store}
 use Rattle.token.specs.Frame.{SentUpdate, sent}
 use Rattle.token.specs.WellFormed.{WellFormed}
@@ -20,7 +22,6 @@ use Rattle.queue.specs.declared.record.Request.{Request}
 use Rattle.passing.specs.Waiting.{updatesOf}
 use Rattle.passing.specs.Running.{isOperation}
 use Rattle.passing.proofs.OwnUpdates.{updates-count, all-fit}
-use Rattle.serial.proofs.Lists.{All}
 use Rattle.history.proofs.Operations.{Runs}
 
 -- requests that run pass questions 7 and 8

@@ -2,7 +2,7 @@
 -- Assumes nothing.
 use Prim.Native.Nat.{ℕ}
 use mathlib.Core.Bool.{Bool, true, false, _&&_, cond}
-use mathlib.Core.List.{List}
+use mathlib.Core.List.{List, [], _∷_, _++_}
 use lib.Dec.{ltb, eqb}
 use lib.ListN.{length}
 use Rattle.verdict.specs.Verdict.{Verdict, ask, _then_, isAccepted}
@@ -17,7 +17,6 @@ use Rattle.passing.specs.Admission.{visitBuffersFit, turnVerdict}
 use Rattle.serial.specs.Desk.{Desk, Call, request, visit}
 use Rattle.serial.specs.System.{System}
 use Rattle.serial.specs.System as protocol
-use Rattle.serial.proofs.Example.{joinLast}
 use Rattle.history.proofs.Operations.{isOperation}
 
 -- what a visit brings besides the visit's number and the updates
@@ -80,6 +79,6 @@ module _ (ws : List ℕ) (class : Operation → Class) (records : ℕ → ℕ) w
         Writes = λ o c. IsOperation thePlan o × MayWrite thePlan o c;
         reply = λ o s. ran o s .reply;
         update = λ o s. ran o s .update;
-        join = joinLast;
+        join = λ q r. q ++ (r ∷ []);
         admits = admission;
       }

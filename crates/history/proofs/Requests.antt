@@ -12,10 +12,13 @@ use lib.Seq.{take-suc-set, length-take-le}
 use borrow.Author.Tests.{ltb-true, eqb-true, le-leb, eq-eqb}
 use Rattle.verdict.specs.Verdict.{Verdict, accepted, refused, isAccepted}
 use Rattle.verdict.proofs.Verdicts.{ask-then-accepted}
+use Rattle.lists.specs.Every.{every}
+use Rattle.lists.proofs.Bool.{and-snd, and-true}
+use Rattle.lists.proofs.Every.{every-last}
+use Rattle.lists.specs.All.{All}
+use Rattle.lists.proofs.All.{All-append}
 use Rattle.plan.specs.Decode.{planOf}
-use Rattle.plan.specs.Admission.{every, planVerdict}
-use Rattle.plan.proofs.Bool.{and-snd, and-true}
-use Rattle.plan.proofs.Every.{every-last}
+use Rattle.plan.specs.Admission.{planVerdict}
 use Rattle.operation.specs.Operation.{Operation, deskOf}
 use Rattle.operation.specs.Admission.{IsOperation, operationVerdict}
 use Rattle.operation.specs.Run.{Store, Outcome, Reply}
@@ -30,7 +33,6 @@ use Rattle.routing.specs.Request as asked
 use Rattle.serial.specs.System.{System}
 use Rattle.serial.specs.Desk as desk
 use Rattle.serial.specs.Step as step
-use Rattle.serial.proofs.Lists.{All, All-append}
 use Rattle.history.specs.History.{Holding, requested, holdingAfter}
 use Rattle.history.specs.SerialRun.{Is, Classifies}
 use Rattle.history.proofs.Operations.{Runs}

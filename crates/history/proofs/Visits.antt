@@ -13,10 +13,11 @@ use lib.Seq.{take-append-seam, length-take-le}
 use borrow.Author.Tests.{ltb-true, eqb-true, eq-eqb}
 use Rattle.verdict.specs.Verdict.{Verdict, accepted, refused, isAccepted}
 use Rattle.verdict.proofs.Verdicts.{ask-then-accepted, then-accepted}
+use Rattle.lists.specs.Every.{every}
+use Rattle.lists.proofs.Bool.{and-true}
 use Rattle.word.specs.Field.{addressedDesk}
 use Rattle.plan.specs.Decode.{headOf, planOf}
-use Rattle.plan.specs.Admission.{every, planVerdict}
-use Rattle.plan.proofs.Bool.{and-true}
+use Rattle.plan.specs.Admission.{planVerdict}
 use Rattle.plan.proofs.Accepted.{accepted-gives, desk-count}
 use Rattle.operation.specs.Operation.{Operation}
 use Rattle.operation.specs.Run.{Store, Update, Reply}

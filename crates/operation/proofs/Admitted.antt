@@ -8,9 +8,9 @@ use lib.Dec.{ltb}
 use lib.ListN.{length, getD}
 use borrow.Author.Tests.{ltb-true, lt-ltb}
 use Rattle.verdict.proofs.Verdicts.{ask-accepted, ask-then-accepted}
+use Rattle.lists.specs.Every.{every}
+use Rattle.lists.proofs.Bool.{and-snd}
 use Rattle.plan.specs.Plan.{Plan, transactionAt}
-use Rattle.plan.specs.Admission.{every}
-use Rattle.plan.proofs.Bool.{and-snd}
 use Rattle.operation.specs.Operation.{Operation, operation, transactionOf}
 use Rattle.operation.specs.Admission.{IsOperation, operationVerdict, transactionExists, parametersPass, unusedZero, rowInRange}
 

@@ -9,12 +9,13 @@ use lib.ListN.{length}
 use borrow.Author.Tests.{leb-true, ltb-true, eqb-true}
 use Rattle.verdict.specs.Verdict.{accepted}
 use Rattle.verdict.proofs.Verdicts.{then-accepted, ask-accepted, ask-then-accepted}
+use Rattle.lists.specs.Every.{every}
+use Rattle.lists.proofs.Bool.{and-fst, and-snd}
+use Rattle.lists.proofs.Every.{every-member, member-every}
 use Rattle.word.specs.Field.{addressedDesk}
 use Rattle.plan.specs.Plan.{Plan}
 use Rattle.plan.specs.Decode.{headOf, planOf}
-use Rattle.plan.specs.Admission.{every, planVerdict}
-use Rattle.plan.proofs.Bool.{and-fst, and-snd}
-use Rattle.plan.proofs.Every.{every-member, member-every}
+use Rattle.plan.specs.Admission.{planVerdict}
 use Rattle.token.specs.Admission.{frameVerdict, frameVisit}
 use Rattle.queue.specs.declared.record.Request.{Request}
 use Rattle.desk.specs.declared.state.Desk.{Desk}

@@ -9,9 +9,9 @@ use lib.ListN.{length}
 use borrow.Author.Tests.{eqb-true}
 use Rattle.verdict.specs.Verdict.{Verdict, accepted, refused, ask, _then_}
 use Rattle.verdict.proofs.Verdicts.{then-accepted, ask-accepted, then-associates, then-only-after-yes}
+use Rattle.lists.proofs.Bool.{and-fst, and-snd}
 use Rattle.plan.specs.Decode.{planOf}
 use Rattle.plan.specs.Admission.{planVerdict}
-use Rattle.plan.proofs.Bool.{and-fst, and-snd}
 use Rattle.token.specs.Admission.{frameVerdict}
 use Rattle.queue.specs.Queue.{recordsOf}
 use Rattle.queue.specs.declared.record.Request.{Request}

@@ -4,11 +4,12 @@ use mathlib.Core.Bool.{_&&_}
 use mathlib.Core.List.{List, _++_, map}
 use lib.ListN.{length}
 use Rattle.verdict.specs.Verdict.{Verdict, ask, _then_, ifAccepted}
+use Rattle.lists.specs.Overwritten.{overwritten}
 use Rattle.plan.specs.Plan.{Plan}
 use Rattle.plan.specs.Decode.{planOf}
 use Rattle.plan.specs.Admission.{planVerdict}
 use Rattle.operation.specs.Run.{Store}
-use Rattle.token.specs.Frame.{SentUpdate, sent, frameWords, overwritten}
+use Rattle.token.specs.Frame.{SentUpdate, sent, frameWords}
 use Rattle.token.specs.Admission.{frameVerdict, frameVisit, frameUpdates}
 use Rattle.token.specs.Forward.{foreign, applyAll}
 use Rattle.queue.specs.declared.record.Request.{Request}

@@ -11,11 +11,11 @@ use lib.Dec.{ltb}
 use lib.ListN.{length, getD, set, length-set, replicate, length-replicate, getD-replicate}
 use lib.Seq.{getD-set-same, getD-set-other}
 use borrow.Author.Tests.{lt-ltb, le-ltb}
+use Rattle.lists.proofs.Tests.{lt-or-ge}
+use Rattle.lists.proofs.Tabulate.{length-tabulate, getD-tabulate, whole-table}
 use Rattle.word.specs.Field.{headTransactions}
 use Rattle.plan.specs.Decode.{headOf}
 use Rattle.plan.specs.Place.{transactionPlace, transactionPlaces}
-use Rattle.plan.proofs.Places.{lt-or-ge}
-use Rattle.plan.proofs.Tables.{length-tabulate, getD-tabulate, whole-table}
 
 later : (j n : ℕ) → (j ≡ n → ⊥) → ltb j n ≡ ltb j (n + 1)
 later j n s =
@@ -47,7 +47,7 @@ module _ (ws : List ℕ) (n : ℕ) (l : List ℕ) (p : Placing ws n l) where
       go j k (no s) = getD-set-other l n j at 0 s ∙ p .entries j k ∙ ap (λ (b : Bool). cond b (transactionPlace ws j) 0) (later j n s)
 
   pub placing-done : n ≡ headTransactions (headOf ws) → l ≡ transactionPlaces ws
-  placing-done e = whole-table 32 (placeBefore ws (headTransactions (headOf ws))) l (p .long)
+  placing-done e = whole-table 32 (placeBefore ws (headTransactions (headOf ws))) l 0 (p .long)
       (λ j h. p .entries j h ∙ ap (λ (m : ℕ). placeBefore ws m j) e)
 
 -- ---- the table, looked up
@@ -58,5 +58,5 @@ module _ (ws l : List ℕ) (t : l ≡ transactionPlaces ws) where
 
   pub place-found : (k : ℕ) → k < headTransactions (headOf ws) → k < 32 → getD l k 0 ≡ transactionPlace ws k
   place-found k h f =
-      ap (λ (m : List ℕ). getD m k 0) t ∙ getD-tabulate 32 (placeBefore ws (headTransactions (headOf ws))) k f
+      ap (λ (m : List ℕ). getD m k 0) t ∙ getD-tabulate 32 (placeBefore ws (headTransactions (headOf ws))) k 0 f
       ∙ ap (λ (b : Bool). cond b (transactionPlace ws k) 0) (lt-ltb k (headTransactions (headOf ws)) h)

@@ -5,14 +5,11 @@ use mathlib.Core.List.{List, [], _∷_}
 use lib.ListN.{length, take, drop}
 use lib.Dec.{ltb, leb, eqb}
 use Rattle.verdict.specs.Verdict.{Verdict, ask, _then_}
+use Rattle.lists.specs.Every.{every}
 use Rattle.word.specs.Field.{kindOf, headDesks, headTransactions, headWords, parameterCount, stepCount, partitioningField}
 use Rattle.word.specs.Reserved.{sourceField, reservedZero}
 use Rattle.plan.specs.Plan.{Source, param, fixed, Step, cell, operand, Partitioning, byParam, unpartitioned, Transaction}
 use Rattle.plan.specs.Decode.{headOf, transactionsOf}
-
-unfoldable pub every : {A : Type 0} → (A → Bool) → List A → Bool
-every f [] = true
-every f (x ∷ xs) = f x && every f xs
 
 -- 1: "Has the plan a head word of kind 1 whose count is the words handed in, 1–417?"
 unfoldable pub hasHead : List ℕ → Bool

@@ -9,8 +9,8 @@ use native.Mathlib.Omega.{arith}
 use lib.Dec.{ltb, leb, eqb}
 use lib.ListN.{length, length-append}
 use borrow.Author.Tests.{ltb-true, leb-true, eqb-false}
-use Rattle.plan.specs.Admission.{every}
-use Rattle.plan.proofs.Bool.{and-fst, and-snd}
+use Rattle.lists.specs.Every.{every}
+use Rattle.lists.proofs.Bool.{and-fst, and-snd}
 use Rattle.token.specs.Frame.{SentUpdate, updateWords, updatesWords}
 use Rattle.token.specs.Admission.{deskCount}
 use Rattle.token.specs.WellFormed.{updateFits, WellFormed}

@@ -10,9 +10,9 @@ use lib.Dec.{ltb, leb, eqb}
 use lib.ListN.{length, getD, set}
 use lib.Seq.{getD-set-same, getD-set-other}
 use borrow.Author.Tests.{leb-true, le-leb, lt-leb, lt-ltb, ltb-true, ltb-false, eqb-true, eqb-false}
-use Rattle.plan.specs.Admission.{every}
-use Rattle.plan.proofs.Bool.{and-fst, and-snd}
-use Rattle.plan.proofs.Every.{every-same, member-every}
+use Rattle.lists.specs.Every.{every}
+use Rattle.lists.proofs.Bool.{and-fst, and-snd}
+use Rattle.lists.proofs.Every.{every-same, member-every}
 use Rattle.token.specs.Frame.{SentUpdate}
 use Rattle.token.specs.Admission.{deskCount, fewPerDesk}
 

@@ -9,11 +9,11 @@ use lib.ListN.{length}
 use borrow.Author.Tests.{leb-true, eqb-true}
 use Rattle.verdict.specs.Verdict.{Verdict, accepted, refused}
 use Rattle.verdict.proofs.Verdicts.{then-accepted, ask-accepted, ask-then-accepted}
+use Rattle.lists.proofs.Bool.{and-fst, and-snd}
 use Rattle.word.specs.Field.{kindOf, frameLength, headDesks}
 use Rattle.word.specs.Reserved.{reservedZero}
 use Rattle.plan.specs.Decode.{headOf, planOf}
 use Rattle.plan.specs.Admission.{planVerdict}
-use Rattle.plan.proofs.Bool.{and-fst, and-snd}
 use Rattle.plan.proofs.Accepted.{accepted-gives}
 use Rattle.token.specs.Admission.{frameHeaded, sumsRight, updatesRight, frameVerdict, readVerdict}
 

@@ -1,42 +1,21 @@
--- Words written one after another into the front of a list, and what stood behind them.
+-- The words of an update, written pair by pair into the front of a list.
 -- Assumes nothing.
-use mathlib.Core.Path.{_≡_, refl, _∙_, sym, ap, ap₂}
+use mathlib.Core.Path.{_≡_, refl, _∙_, sym, ap}
 use mathlib.Core.Bool.{Bool, true, false}
-use mathlib.Core.List.{List, [], _∷_, _++_, append-assoc}
+use mathlib.Core.List.{List, [], _∷_, _++_}
 use Prim.Native.Nat.{ℕ, zero, suc, _+_, _*_, _≤_, _<_, min}
 use native.Mathlib.Nat.{not-suc-le-zero, le-of-suc-le-suc}
-use native.Mathlib.Numerals.{add-one}
 use native.Mathlib.Omega.{arith}
 use lib.Dec.{leb}
 use borrow.Author.Tests.{leb-true, leb-false}
-use lib.ListN.{length, getD, set, drop, length-append, length-drop}
-use lib.Seq.{drop-cons, set-at, append-snoc, drop-set-lt}
+use lib.ListN.{length, getD, set}
+use lib.Seq.{drop-set-lt}
+use Rattle.lists.specs.Overwritten.{overwritten}
+use Rattle.lists.proofs.Overwritten.{write-two}
 use Rattle.operation.specs.Run.{Update}
 use Rattle.operation.specs.Answer.{pairs}
 use Rattle.operation.proofs.Updates.{pairs-next, pairs-past}
-use Rattle.token.specs.Frame.{SentUpdate, sent, cellWord, updateHead, writeWords, updateWords, overwritten}
-
--- one word more
-pub write-next : (p o : List ℕ) (x : ℕ) → length p < length o → set (overwritten p o) (length p) x ≡ overwritten (p ++ (x ∷ [])) o
-write-next p o x h =
-    ap (λ (t : List ℕ). set (p ++ t) (length p) x) (drop-cons o (length p) 0 h)
-    ∙ set-at p (getD o (length p) 0) (drop (suc (length p)) o) x (length p) refl
-    ∙ sym (append-snoc p x (drop (suc (length p)) o))
-    ∙ ap (λ (k : ℕ). (p ++ (x ∷ [])) ++ drop k o) (sym (length-append p (x ∷ []) ∙ add-one (length p)))
-
--- two words more
-pub write-two : (p o : List ℕ) (k x y : ℕ) → length p ≡ k → k + 1 < length o
-    → set (set (overwritten p o) k x) (k + 1) y ≡ overwritten (p ++ (x ∷ y ∷ [])) o
-write-two p o k x y e h =
-    let q = p ++ (x ∷ []) in
-    let m : k + 1 ≡ length q = omega (arith, length-append p (x ∷ [])) in
-    ap₂ (λ (i j : ℕ). set (set (overwritten p o) i x) j y) (sym e) m
-    ∙ ap (λ (t : List ℕ). set t (length q) y) (write-next p o x (omega arith))
-    ∙ write-next q o y (omega arith)
-    ∙ ap (λ (t : List ℕ). overwritten t o) (append-assoc p (x ∷ []) (y ∷ []))
-
-pub overwritten-length : (p o : List ℕ) → length p ≤ length o → length (overwritten p o) ≡ length o
-overwritten-length p o h = simp (length-append, length-drop) (omega arith)
+use Rattle.token.specs.Frame.{SentUpdate, sent, cellWord, updateHead, writeWords, updateWords}
 
 -- ---- the words of an update, pair by pair
 

@@ -6,10 +6,11 @@ use mathlib.Core.List.{List, [], _∷_}
 use lib.ListN.{length, getD, take, drop}
 use lib.Dec.{ltb, leb, eqb}
 use Rattle.verdict.specs.Verdict.{Verdict, accepted, ask, _then_}
+use Rattle.lists.specs.Every.{every}
 use Rattle.word.specs.Field.{kindOf, addressedDesk, frameLength, updateDesk, cellCount, cellField}
 use Rattle.word.specs.Reserved.{reservedZero}
 use Rattle.plan.specs.Decode.{headOf, planOf}
-use Rattle.plan.specs.Admission.{every, planVerdict}
+use Rattle.plan.specs.Admission.{planVerdict}
 use Rattle.operation.specs.Run.{Update}
 use Rattle.token.specs.Frame.{SentUpdate, sent, sumsOf}
 

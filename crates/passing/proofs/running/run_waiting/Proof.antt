@@ -5,10 +5,10 @@ use Prim.Native.Nat.{_+_, _-_, _*_, _≤_, _<_}
 use native.Mathlib.Omega.{arith}
 use lib.ListN.{length, take, length-drop, getD}
 use lib.Seq.{length-take-le, getD-take}
+use Rattle.lists.proofs.Every.{every-index}
+use Rattle.lists.proofs.Filling.{fill-length}
 use Rattle.plan.specs.Decode.{planOf}
-use Rattle.plan.proofs.Every.{every-index}
 use Rattle.plan.proofs.Placing.{places-long}
-use Rattle.token.proofs.Filling.{fill-length}
 use Rattle.queue.specs.Queue.{noRequest}
 use Rattle.desk.specs.Admission.{Admitted}
 use Rattle.desk.proofs.Asked.{below-32, admitted-exists, place-looked-up, operation-admitted}
