@@ -12,12 +12,8 @@ use lib.Dec.{leb}
 use lib.ListN.{length, getD, take, drop, replicate, length-replicate, getD-replicate}
 use borrow.Author.Tests.{leb-true}
 use Rattle.verdict.specs.Verdict.{accepted}
-use Rattle.lists.specs.Every.{every}
-use Rattle.lists.proofs.Bool.{and-fst, and-snd}
-use Rattle.lists.proofs.Tests.{left-suc}
-use Rattle.lists.proofs.Places.{drop-cases}
-use Rattle.lists.specs.Some.{some}
-use Rattle.lists.proofs.Tabulate.{whole-table}
+use Rattle.lists.specs.Lists.{every, some}
+use Rattle.lists.proofs.Laws.{and-fst, and-snd, left-suc, drop-cases, whole-table}
 use Rattle.word.specs.Field.{stepCount, partitioningField, headDesks, headTransactions}
 use Rattle.plan.specs.Plan.{Partitioning}
 use Rattle.plan.specs.Decode.{partBy, stepOf, transactionsOf, planOf, headOf}

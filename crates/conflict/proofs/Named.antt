@@ -9,9 +9,8 @@ use lib.Count.{ones}
 use lib.Dec.{leb, eqb}
 use lib.ListN.{getD}
 use borrow.Author.Tests.{eqb-true, eqb-false, leb-true, leb-false, eq-eqb, ne-eqb, le-leb}
-use Rattle.lists.specs.Every.{every}
-use Rattle.lists.proofs.Bool.{and-snd}
-use Rattle.lists.specs.Some.{some}
+use Rattle.lists.specs.Lists.{every, some}
+use Rattle.lists.proofs.Laws.{and-snd}
 use Rattle.word.specs.Field.{kindOf, stepCount, tableField, columnField}
 use Rattle.plan.specs.Plan.{reads, writes, Step}
 use Rattle.plan.specs.Decode.{accessBy, stepOf, rowOf}

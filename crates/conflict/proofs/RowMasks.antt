@@ -8,7 +8,7 @@ use native.Mathlib.Omega.{arith}
 use lib.Dec.{T, ltb, leb, eqb, eqb→eq}
 use lib.ListN.{getD}
 use borrow.Author.Tests.{eq-eqb, ne-eqb, lt-leb}
-use Rattle.lists.proofs.Below.{below, below-at}
+use Rattle.lists.proofs.Laws.{below, below-at}
 use Rattle.plan.specs.Plan.{Partitioning, byParam, unpartitioned, param, fixed}
 use Rattle.conflict.specs.Mask.{maskOf}
 use Rattle.conflict.specs.Touch.{rowTouched}

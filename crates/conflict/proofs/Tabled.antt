@@ -7,11 +7,8 @@ use Prim.Native.Nat.{ℕ}
 use lib.Count.{ones}
 use lib.Dec.{eqb}
 use lib.ListN.{getD}
-use Rattle.lists.specs.Every.{every}
-use Rattle.lists.proofs.Bool.{and-snd}
-use Rattle.lists.proofs.Every.{every-same}
-use Rattle.lists.specs.Some.{some}
-use Rattle.lists.proofs.Tabulate.{getD-tabulate}
+use Rattle.lists.specs.Lists.{every, some}
+use Rattle.lists.proofs.Laws.{and-snd, every-same, getD-tabulate}
 use Rattle.plan.specs.Plan.{reads, writes, Step, cell, operand, Plan}
 use Rattle.plan.specs.Place.{transactionFrom}
 use Rattle.operation.specs.Operation.{cellsNamed}

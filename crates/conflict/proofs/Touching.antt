@@ -10,9 +10,7 @@ use lib.Dec.{ltb, eqb}
 use lib.ListN.{length, getD}
 use borrow.Author.Tests.{eq-eqb, lt-ltb, eqb-true, leb-true}
 use Rattle.verdict.specs.Verdict.{accepted}
-use Rattle.lists.proofs.Bool.{and-fst, and-snd}
-use Rattle.lists.proofs.Every.{every-index, every-member}
-use Rattle.lists.proofs.Some.{member-some, some-member, index-some, some-index}
+use Rattle.lists.proofs.Laws.{and-fst, and-snd, every-index, every-member, member-some, some-member, index-some, some-index}
 use Rattle.word.specs.Field.{headTransactions}
 use Rattle.plan.specs.Plan.{Source, param, fixed, Access, Step, cell, operand, Partitioning, byParam, unpartitioned, Transaction, Plan}
 use Rattle.plan.specs.Plan.{noTransaction, transactionAt}

@@ -7,10 +7,8 @@ use Prim.Native.Nat.{ℕ, _/_, _%_, _≤_, _<_}
 use lib.Dec.{ltb, eqb}
 use borrow.Author.Tests.{eq-eqb, lt-ltb, eqb-true}
 use Rattle.verdict.specs.Verdict.{accepted}
-use Rattle.lists.proofs.Bool.{and-fst, and-snd, and-true}
-use Rattle.lists.proofs.Every.{every-member}
-use Rattle.lists.specs.Some.{some}
-use Rattle.lists.proofs.Some.{member-some, some-member, index-some, some-index}
+use Rattle.lists.proofs.Laws.{and-fst, and-snd, and-true, every-member, member-some, some-member, index-some, some-index}
+use Rattle.lists.specs.Lists.{some}
 use Rattle.plan.specs.Plan.{Source, param, fixed, reads, writes, Step, cell, operand, Partitioning, byParam, unpartitioned}
 use Rattle.plan.specs.Plan.{Transaction, noTransaction, transactionAt}
 use Rattle.plan.specs.Decode.{planOf}

@@ -6,8 +6,7 @@ use mathlib.Core.Bool.{Bool, true, false, cond}
 use mathlib.Core.List.{List}
 use lib.Count.{ones}
 use lib.Dec.{eqb}
-use Rattle.lists.specs.Every.{every}
-use Rattle.lists.specs.Some.{some}
+use Rattle.lists.specs.Lists.{every, some}
 use Rattle.plan.specs.Plan.{reads, writes, Step, cell, operand, Transaction, Plan}
 use Rattle.operation.specs.Operation.{Operation, transactionOf, deskOf, cellsNamed, MayRead, MayWrite, MayTouch}
 use Rattle.operation.specs.Admission.{IsOperation}

@@ -6,8 +6,7 @@ use mathlib.Core.List.{List}
 use lib.Bits.{bitOr}
 use lib.ListN.{length, getD}
 use lib.Dec.{ltb, eqb}
-use Rattle.lists.specs.Tabulate.{tabulate}
-use Rattle.lists.specs.Some.{some}
+use Rattle.lists.specs.Lists.{tabulate, some}
 use Rattle.plan.specs.Plan.{Source, param, fixed, Step, cell, operand, Partitioning, byParam, unpartitioned}
 use Rattle.plan.specs.Plan.{Transaction, Plan}
 use Rattle.conflict.specs.Mask.{maskOf}

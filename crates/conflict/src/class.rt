@@ -4,7 +4,7 @@ ghost use mathlib.Core.Bool.{true};
 ghost use lib.Count.{ones};
 ghost use lib.ListN.{length, getD};
 ghost use Rattle.verdict.specs.Verdict.{accepted};
-ghost use Rattle.lists.specs.Some.{some};
+ghost use Rattle.lists.specs.Lists.{some};
 ghost use Rattle.plan.specs.Plan.{writes};
 ghost use Rattle.plan.specs.Decode.{planOf};
 ghost use Rattle.plan.specs.Admission.{planVerdict};

@@ -2,7 +2,7 @@
 ghost use mathlib.Core.Path.{_≡_};
 ghost use mathlib.Core.Bool.{true};
 ghost use Rattle.verdict.specs.Verdict.{accepted};
-ghost use Rattle.lists.specs.Some.{some};
+ghost use Rattle.lists.specs.Lists.{some};
 ghost use Rattle.word.specs.Field.{kindOf, tableField, columnField};
 ghost use Rattle.plan.specs.Plan.{reads};
 ghost use Rattle.plan.specs.Decode.{planOf, stepOf, rowOf};

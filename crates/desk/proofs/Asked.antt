@@ -25,7 +25,7 @@ use Rattle.queue.specs.Queue.{paramsOf}
 use Rattle.queue.specs.declared.record.Request.{Request}
 use Rattle.desk.specs.Queueing.{operationOf}
 use Rattle.desk.specs.Admission.{Admitted}
-use Rattle.desk.specs.Place.{standsAt, isRefused, placeBy, Placed}
+use Rattle.desk.specs.Place.{standsAt, placeRefused, placeBy, Placed}
 
 module _ (ws : List ℕ) (r : Request) where
   -- a transaction that exists is one of the plan's, of which there are at most 32
@@ -80,7 +80,8 @@ module _ (ws : List ℕ) (r : Request) where
     module _ (ps : List ℕ) (q : ps ≡ paramsOf r) where
       pub parameters-passed : parametersPass (transactionFrom ws at) ps ≡ true
       parameters-passed =
-          ask-accepted 8 (parametersPass (transactionFrom ws at) ps) (sym (verdict-here (a .planned) (admitted-exists a) at i ps q) ∙ a .passed)
+          ask-accepted 8 (parametersPass (transactionFrom ws at) ps)
+          (sym (verdict-here (a .planned) (admitted-exists a) at i ps q) ∙ a .passed)
 
       pub desk-asked : deskBy (headDesks (headOf ws)) (partBy (partitioningField (getD ws at 0))) ps ≡ deskOf (planOf ws) (operationOf r)
       desk-asked = rw (transaction-asked, desk-count ws, q)
@@ -103,7 +104,7 @@ placed-at ws r e at h =
     let f = found-at (operationVerdict (planOf ws) (operationOf r)) (transactionPlace ws (r .transaction)) at h in
     record { admitted = record { planned = e; passed = f .0 }; place = f .1 }
 
-pub found-lacking : (v : Verdict) (place question : ℕ) → isRefused question ≡ placeBy v place → v ≡ refused question
+pub found-lacking : (v : Verdict) (place question : ℕ) → placeRefused question ≡ placeBy v place → v ≡ refused question
 found-lacking accepted place question e = let z : _≡_ {A = ℕ} 0 1 = cc in absurd (omega arith)
 found-lacking (refused n) place question e = cc
 

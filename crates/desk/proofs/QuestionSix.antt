@@ -7,7 +7,7 @@ use Prim.Native.Nat.{ℕ, _%_, _≤_, _<_}
 use lib.Dec.{eqb}
 use borrow.Author.Tests.{lt-ltb, le-ltb, lt-leb, le-leb, eq-eqb, ne-eqb}
 use Rattle.verdict.specs.Verdict.{accepted, refused}
-use Rattle.lists.specs.Every.{every}
+use Rattle.lists.specs.Lists.{every}
 use Rattle.word.specs.Field.{headDesks}
 use Rattle.plan.specs.Plan.{Plan}
 use Rattle.plan.specs.Decode.{planOf, headOf}

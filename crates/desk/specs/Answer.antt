@@ -12,11 +12,11 @@ use Rattle.desk.specs.declared.state.DeskAnswer.the-variants as desk
 -- a new desk, or the number of the question whose answer is no
 pub data Opened : Type 0 where
   opened : Desk → Opened
-  isRefused : ℕ → Opened
+  openingRefused : ℕ → Opened
 
 abbrev pub openedOf : DeskAnswer → Opened
 openedOf (desk.Opened d) = opened d
-openedOf (desk.Refused question) = isRefused question
+openedOf (desk.Refused question) = openingRefused question
 
 -- "A new desk p awaits p with none waiting"
 abbrev pub newDesk : ℕ → Desk
@@ -24,4 +24,4 @@ newDesk p = record { desk = p; waiting = 0; awaited = p }
 
 -- "New desk: 1–4, and 6 for its desk."
 unfoldable pub newDeskResult : List ℕ → ℕ → Opened
-newDeskResult ws p = ifAccepted (planVerdict ws then ask 6 (ltb p (planOf ws .desks))) (opened (newDesk p)) isRefused
+newDeskResult ws p = ifAccepted (planVerdict ws then ask 6 (ltb p (planOf ws .desks))) (opened (newDesk p)) openingRefused

@@ -17,14 +17,14 @@ use Rattle.desk.specs.Admission.{Admitted}
 
 pub data Place : Type 0 where
   standsAt : ℕ → Place
-  isRefused : ℕ → Place
+  placeRefused : ℕ → Place
 
 abbrev pub placeOf : Located → Place
 placeOf (located.At at) = standsAt at
-placeOf (located.Refused question) = isRefused question
+placeOf (located.Refused question) = placeRefused question
 
 abbrev pub placeBy : Verdict → ℕ → Place
-placeBy v at = ifAccepted v (standsAt at) isRefused
+placeBy v at = ifAccepted v (standsAt at) placeRefused
 
 -- the request's operation is admitted, and its transaction stands there
 pub record Placed (ws : List ℕ) (r : Request) (at : ℕ) : Type 0 where

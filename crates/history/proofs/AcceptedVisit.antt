@@ -13,10 +13,8 @@ use lib.Seq.{take-append-seam, length-take-le}
 use borrow.Author.Tests.{eqb-true}
 use Rattle.verdict.specs.Verdict.{Verdict, accepted, refused, isAccepted}
 use Rattle.verdict.proofs.Verdicts.{ask-then-accepted, then-accepted, isAccepted-accepted}
-use Rattle.lists.proofs.Bool.{and-fst, and-snd}
-use Rattle.lists.proofs.Every.{every-member}
-use Rattle.lists.specs.Overwritten.{overwritten}
-use Rattle.lists.proofs.All.{mem-All}
+use Rattle.lists.proofs.Laws.{and-fst, and-snd, every-member, mem-All}
+use Rattle.lists.specs.Lists.{overwritten}
 use Rattle.plan.specs.Decode.{planOf}
 use Rattle.plan.specs.Admission.{planVerdict}
 use Rattle.operation.specs.Admission.{operationVerdict}

@@ -6,8 +6,8 @@ use mathlib.Core.Bool.{true}
 use mathlib.Core.List.{List, [], _∷_, List·Memᴰ}
 use lib.ListN.{length}
 use Rattle.verdict.specs.Verdict.{accepted}
-use Rattle.lists.proofs.Tests.{by-same, eqb-yes, eqb-no, eqb-self}
-use Rattle.lists.specs.All.{All}
+use Rattle.lists.proofs.Laws.{by-same, eqb-yes, eqb-no, eqb-self}
+use Rattle.lists.specs.Lists.{All}
 use Rattle.plan.specs.Decode.{planOf}
 use Rattle.plan.specs.Admission.{planVerdict}
 use Rattle.operation.specs.Run.{Store, run}

@@ -7,9 +7,8 @@ use mathlib.Core.Bool.{Bool, true, false, cond}
 use mathlib.Core.List.{List, [], _∷_, List·Memᴰ, List·Memᴰ·not-nil}
 use native.Mathlib.Omega.{arith}
 use lib.Dec.{eqb, eqb→eq}
-use Rattle.lists.specs.Every.{every}
-use Rattle.lists.proofs.Every.{every-member}
-use Rattle.lists.proofs.Bool.{true-T}
+use Rattle.lists.specs.Lists.{every}
+use Rattle.lists.proofs.Laws.{every-member, true-T}
 use Rattle.conflict.proofs.Ones.{countOf, none-of-count, one-of-count}
 use Rattle.serial.specs.System.{Class, free, local, global}
 

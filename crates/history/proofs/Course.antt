@@ -8,8 +8,7 @@ use mathlib.Core.List.{List, [], _∷_, map, List·Memᴰ·head, List·Memᴰ·t
 use lib.Count.{ones}
 use native.Mathlib.Omega.{arith}
 use lib.ListN.{getD, replicate}
-use Rattle.lists.specs.Every.{every}
-use Rattle.lists.specs.Some.{some}
+use Rattle.lists.specs.Lists.{every, some}
 use Rattle.word.specs.Reserved.{reservedZero, sourceField}
 use Rattle.plan.specs.Decode.{stepOf, partBy, accessBy, actionBy, transactionsOf, planOf}
 use Rattle.plan.specs.Admission.{hasHead, countsInRange, transactionFormed, stepFormed, sourceExists, stepExists, partExists}

@@ -8,8 +8,8 @@ use mathlib.Core.List.{List, [], _∷_, _++_, List·Memᴰ, List·Memᴰ·eq-of-
 use native.Mathlib.Omega.{arith}
 use lib.ListN.{length}
 use lib.Dec.{eqb, ltb, eqb→eq}
-use Rattle.lists.specs.Every.{every}
-use Rattle.lists.proofs.Ends.{cons-in-snoc, snoc-in-cons}
+use Rattle.lists.specs.Lists.{every}
+use Rattle.lists.proofs.Laws.{cons-in-snoc, snoc-in-cons}
 use Rattle.plan.specs.Plan.{param, fixed, reads, writes, sets, cell, operand, Partitioning, byParam, unpartitioned, Transaction, Plan}
 use Rattle.operation.specs.Operation.{Operation, operation, deskOf, cellsNamed, readSet, writeSet, MayRead, MayWrite}
 use Rattle.operation.specs.Run.{Reply, run}

@@ -5,7 +5,7 @@ use mathlib.Core.Path.{_≡_, refl}
 use mathlib.Core.Bool.{Bool, true, false, true≢false}
 use mathlib.Core.List.{List, [], _∷_, map, List·Memᴰ·head, List·Memᴰ·tail}
 use native.Mathlib.Omega.{arith}
-use Rattle.lists.specs.Every.{every}
+use Rattle.lists.specs.Lists.{every}
 use Rattle.operation.specs.Operation.{cellsNamed}
 use Rattle.operation.specs.Run.{Reply, act, runFrom}
 use Rattle.conflict.proofs.Ones.{countOf}

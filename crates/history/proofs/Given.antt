@@ -7,7 +7,7 @@ use native.Mathlib.Nat.{add-zero}
 use native.Mathlib.Omega.{arith}
 use lib.ListN.{length, getD}
 use Rattle.verdict.specs.Verdict.{Verdict, accepted, refused}
-use Rattle.lists.specs.Overwritten.{overwritten}
+use Rattle.lists.specs.Lists.{overwritten}
 use Rattle.plan.specs.Decode.{planOf}
 use Rattle.plan.specs.Admission.{planVerdict}
 use Rattle.operation.specs.Operation.{Operation}

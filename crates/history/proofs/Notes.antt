@@ -8,8 +8,8 @@ use lib.Dec.{eqb}
 use lib.ListN.{length, getD}
 use Rattle.verdict.specs.Verdict.{Verdict, accepted, refused}
 use Rattle.verdict.proofs.Verdicts.{then-accepted, ask-then-accepted}
-use Rattle.lists.specs.All.{All}
-use Rattle.lists.proofs.All.{All-append}
+use Rattle.lists.specs.Lists.{All}
+use Rattle.lists.proofs.Laws.{All-append}
 use Rattle.plan.specs.Plan.{Plan}
 use Rattle.plan.specs.Decode.{planOf}
 use Rattle.plan.specs.Admission.{planVerdict}

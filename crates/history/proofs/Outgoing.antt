@@ -7,9 +7,8 @@ use mathlib.Core.List.{List, [], _∷_, _++_, map}
 use native.Mathlib.Omega.{arith}
 use lib.ListN.{length}
 use Rattle.verdict.specs.Verdict.{accepted, isAccepted}
-use Rattle.lists.specs.Every.{every}
-use Rattle.lists.proofs.Bool.{and-true}
-use Rattle.lists.specs.All.{All}
+use Rattle.lists.specs.Lists.{every, All}
+use Rattle.lists.proofs.Laws.{and-true}
 use Rattle.plan.specs.Plan.{Plan}
 use Rattle.plan.specs.Decode.{planOf}
 use Rattle.plan.specs.Admission.{planVerdict}

@@ -7,9 +7,7 @@ use mathlib.Core.Bool.{Bool, true, false, cond}
 use mathlib.Core.List.{List}
 use lib.Dec.{eqb, eqb→eq}
 use Rattle.verdict.specs.Verdict.{accepted}
-use Rattle.lists.proofs.Bool.{and-fst, T-true, true-T}
-use Rattle.lists.proofs.Ends.{cons-in-snoc, snoc-in-cons}
-use Rattle.lists.proofs.Tests.{by-same}
+use Rattle.lists.proofs.Laws.{and-fst, T-true, true-T, cons-in-snoc, snoc-in-cons, by-same}
 use Rattle.plan.specs.Decode.{planOf}
 use Rattle.plan.specs.Admission.{planVerdict}
 use Rattle.operation.specs.Operation.{Operation, transactionOf, deskOf, MayRead, MayWrite, MayTouch}

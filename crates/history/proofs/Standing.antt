@@ -9,9 +9,8 @@ use native.Mathlib.Omega.{arith}
 use lib.Dec.{ltb, leb, eqb}
 use lib.ListN.{length}
 use borrow.Author.Tests.{leb-true, eqb-true, lt-ltb, eq-eqb}
-use Rattle.lists.specs.Every.{every}
-use Rattle.lists.proofs.Bool.{and-fst, and-snd, and-true}
-use Rattle.lists.specs.All.{All}
+use Rattle.lists.specs.Lists.{every, All}
+use Rattle.lists.proofs.Laws.{and-fst, and-snd, and-true}
 use Rattle.plan.specs.Decode.{planOf}
 use Rattle.queue.specs.declared.record.Request.{Request}
 use Rattle.desk.specs.Queueing.{waitingIn}

@@ -13,8 +13,8 @@ use lib.Seq.{take-append-seam, length-take-le}
 use borrow.Author.Tests.{ltb-true, eqb-true, eq-eqb}
 use Rattle.verdict.specs.Verdict.{Verdict, accepted, refused, isAccepted}
 use Rattle.verdict.proofs.Verdicts.{ask-then-accepted, then-accepted}
-use Rattle.lists.specs.Every.{every}
-use Rattle.lists.proofs.Bool.{and-true}
+use Rattle.lists.specs.Lists.{every}
+use Rattle.lists.proofs.Laws.{and-true}
 use Rattle.word.specs.Field.{addressedDesk}
 use Rattle.plan.specs.Decode.{headOf, planOf}
 use Rattle.plan.specs.Admission.{planVerdict}

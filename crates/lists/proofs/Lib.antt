@@ -1,11 +1,1 @@
-pub mod Bool
-pub mod Tests
-pub mod Below
-pub mod Places
-pub mod Every
-pub mod Some
-pub mod All
-pub mod Ends
-pub mod Tabulate
-pub mod Overwritten
-pub mod Filling
+pub mod Laws

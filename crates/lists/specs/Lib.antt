@@ -1,5 +1,1 @@
-pub mod Every
-pub mod Some
-pub mod All
-pub mod Tabulate
-pub mod Overwritten
+pub mod Lists

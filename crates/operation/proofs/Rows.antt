@@ -5,7 +5,7 @@ use mathlib.Core.Bool.{true, false, _&&_}
 use mathlib.Core.List.{List}
 use Prim.Native.Nat.{ℕ, _+_, _≤_, _<_}
 use lib.ListN.{getD}
-use Rattle.lists.specs.Every.{every}
+use Rattle.lists.specs.Lists.{every}
 use Rattle.word.specs.Field.{parameterCount, stepCount}
 use Rattle.plan.specs.Decode.{stepOf}
 use Rattle.plan.specs.Place.{StandsAt, transactionFrom}

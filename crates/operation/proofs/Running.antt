@@ -6,8 +6,8 @@ use mathlib.Core.List.{List, _∷_}
 use Prim.Native.Nat.{ℕ, _+_, _≤_, _<_}
 use native.Mathlib.Omega.{arith}
 use lib.ListN.{length, getD, set, length-set}
-use Rattle.lists.specs.Every.{every}
-use Rattle.lists.proofs.Bool.{and-fst, and-snd}
+use Rattle.lists.specs.Lists.{every}
+use Rattle.lists.proofs.Laws.{and-fst, and-snd}
 use Rattle.word.specs.Field.{kindOf, stepCount, tableField, columnField, parameterCount}
 use Rattle.plan.specs.Plan.{Step, operand}
 use Rattle.plan.specs.Decode.{rowOf, operandOf, actionBy, stepOf}

@@ -6,7 +6,7 @@ use mathlib.Core.List.{List}
 use lib.ListN.{length, getD, drop}
 use lib.Dec.{ltb, leb, eqb}
 use Rattle.verdict.specs.Verdict.{Verdict, accepted, ask, _then_}
-use Rattle.lists.specs.Every.{every}
+use Rattle.lists.specs.Lists.{every}
 use Rattle.plan.specs.Plan.{param, fixed, Step, cell, operand, Transaction, Plan}
 use Rattle.operation.specs.Operation.{Operation, transactionOf}
 

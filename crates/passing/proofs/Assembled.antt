@@ -7,9 +7,8 @@ use native.Mathlib.Omega.{arith}
 use lib.ListN.{length, take, drop, length-append, take-append-drop}
 use lib.Seq.{length-take-le, take-at, drop-at}
 use borrow.Rule.Slice.PartMut.{putMid}
-use Rattle.lists.specs.Overwritten.{overwritten}
-use Rattle.lists.proofs.Overwritten.{overwritten-twice}
-use Rattle.lists.proofs.Filling.{Filling, fill-length, fill-part, fill-done, fill-same}
+use Rattle.lists.specs.Lists.{overwritten}
+use Rattle.lists.proofs.Laws.{overwritten-twice, Filling, fill-length, fill-part, fill-done, fill-same}
 use Rattle.token.specs.Frame.{frameHead, sumsOf, frameAround}
 use Rattle.passing.proofs.Remainders.{lent, back}
 

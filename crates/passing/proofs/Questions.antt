@@ -9,9 +9,8 @@ use lib.ListN.{length}
 use borrow.Author.Tests.{leb-true, ltb-true, eqb-true}
 use Rattle.verdict.specs.Verdict.{accepted}
 use Rattle.verdict.proofs.Verdicts.{then-accepted, ask-accepted, ask-then-accepted}
-use Rattle.lists.specs.Every.{every}
-use Rattle.lists.proofs.Bool.{and-fst, and-snd}
-use Rattle.lists.proofs.Every.{every-member, member-every}
+use Rattle.lists.specs.Lists.{every}
+use Rattle.lists.proofs.Laws.{and-fst, and-snd, every-member, member-every}
 use Rattle.word.specs.Field.{addressedDesk}
 use Rattle.plan.specs.Plan.{Plan}
 use Rattle.plan.specs.Decode.{headOf, planOf}

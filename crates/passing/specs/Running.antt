@@ -5,8 +5,7 @@ use mathlib.Core.Bool.{Bool, true}
 use mathlib.Core.List.{List, map}
 use lib.ListN.{length}
 use Rattle.verdict.specs.Verdict.{accepted, isAccepted}
-use Rattle.lists.specs.Every.{every}
-use Rattle.lists.specs.Overwritten.{overwritten}
+use Rattle.lists.specs.Lists.{every, overwritten}
 use Rattle.plan.specs.Plan.{Plan}
 use Rattle.plan.specs.Decode.{planOf}
 use Rattle.plan.specs.Admission.{planVerdict}

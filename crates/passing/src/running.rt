@@ -4,7 +4,7 @@ ghost use mathlib.Core.Path.{_≡_};
 ghost use mathlib.Core.List.{_∷_, []};
 ghost use Prim.Native.Nat.{_≤_};
 ghost use lib.ListN.{length, take};
-ghost use Rattle.lists.specs.Overwritten.{overwritten};
+ghost use Rattle.lists.specs.Lists.{overwritten};
 ghost use Rattle.plan.specs.Decode.{planOf};
 ghost use Rattle.plan.specs.Place.{transactionPlaces};
 ghost use Rattle.passing.specs.Waiting.{replyHead};

@@ -9,8 +9,8 @@ use lib.ListN.{length, take, drop}
 use borrow.Author.Tests.{leb-true}
 use Rattle.verdict.specs.Verdict.{accepted}
 use Rattle.verdict.proofs.Verdicts.{ask-accepted, ask-then-accepted}
-use Rattle.lists.specs.Every.{every}
-use Rattle.lists.proofs.Bool.{and-fst, and-snd}
+use Rattle.lists.specs.Lists.{every}
+use Rattle.lists.proofs.Laws.{and-fst, and-snd}
 use Rattle.word.specs.Field.{headDesks, headTransactions, stepCount}
 use Rattle.plan.specs.Decode.{headOf, transactionsOf, planOf}
 use Rattle.plan.specs.Admission.{hasHead, countsInRange, wellFormed, transactionFormed, stepFormed}

@@ -13,10 +13,8 @@ use lib.ListN.{length, getD, take, drop, length-drop}
 use lib.Seq.{drop-drop, getD-drop}
 use borrow.Author.Tests.{leb-true}
 use Rattle.verdict.specs.Verdict.{accepted}
-use Rattle.lists.specs.Every.{every}
-use Rattle.lists.proofs.Bool.{and-fst, and-snd}
-use Rattle.lists.proofs.Tests.{left-suc}
-use Rattle.lists.proofs.Places.{drop-cases}
+use Rattle.lists.specs.Lists.{every}
+use Rattle.lists.proofs.Laws.{and-fst, and-snd, left-suc, drop-cases}
 use Rattle.word.specs.Field.{stepCount, headTransactions}
 use Rattle.plan.specs.Plan.{Transaction, noTransaction, transactionAt}
 use Rattle.plan.specs.Decode.{transactionsOf, planOf, headOf}

@@ -12,10 +12,8 @@ use lib.Dec.{ltb, leb, leb·zero, leb·suc-suc, leb·suc-zero}
 use lib.ListN.{length, getD, take, drop, drop-of-length-le}
 use lib.Seq.{drop-cons}
 use Rattle.verdict.specs.Verdict.{Verdict, accepted, refused, ask, _then_}
-use Rattle.lists.specs.Every.{every}
-use Rattle.lists.proofs.Bool.{and-fst, and-snd}
-use Rattle.lists.proofs.Tests.{left-suc}
-use Rattle.lists.proofs.Places.{drop-here, drop-cases}
+use Rattle.lists.specs.Lists.{every}
+use Rattle.lists.proofs.Laws.{and-fst, and-snd, left-suc, drop-here, drop-cases}
 use Rattle.word.specs.Field.{parameterCount, stepCount, partitioningField}
 use Rattle.plan.specs.Decode.{transactionsOf, stepOf, partBy}
 use Rattle.plan.specs.Admission.{wellFormed, parametersExist, transactionFormed, stepFormed}

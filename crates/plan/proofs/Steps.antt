@@ -9,10 +9,8 @@ use native.Mathlib.Numerals.{add-one}
 use native.Mathlib.Omega.{arith}
 use lib.ListN.{length, getD, take, drop, length-drop}
 use lib.Seq.{drop-cons, getD-drop, getD-take, length-take-le}
-use Rattle.lists.specs.Every.{every}
-use Rattle.lists.proofs.Bool.{and-fst, and-snd}
-use Rattle.lists.proofs.Tests.{left-suc}
-use Rattle.lists.proofs.Every.{every-index}
+use Rattle.lists.specs.Lists.{every}
+use Rattle.lists.proofs.Laws.{and-fst, and-snd, left-suc, every-index}
 use Rattle.word.specs.Field.{stepCount}
 use Rattle.plan.specs.Plan.{Step}
 use Rattle.plan.specs.Decode.{stepOf}

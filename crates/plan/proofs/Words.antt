@@ -5,7 +5,7 @@ use mathlib.Core.Bool.{Bool, true, false, _||_}
 use Prim.Native.Nat.{ℕ, _≤_}
 use lib.Dec.{ltb, leb, eqb}
 use borrow.Author.Tests.{leb-true, le-leb, le-ltb}
-use Rattle.lists.proofs.Bool.{and-fst, and-snd}
+use Rattle.lists.proofs.Laws.{and-fst, and-snd}
 use Rattle.word.specs.Field.{kindOf, parameterCount, stepCount, rowSource, fixedRow, operandSource, fixedNumber}
 use Rattle.word.specs.Reserved.{sourceField}
 use Rattle.plan.specs.Decode.{sourceBy, stepOf}

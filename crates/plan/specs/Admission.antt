@@ -5,7 +5,7 @@ use mathlib.Core.List.{List, [], _∷_}
 use lib.ListN.{length, take, drop}
 use lib.Dec.{ltb, leb, eqb}
 use Rattle.verdict.specs.Verdict.{Verdict, ask, _then_}
-use Rattle.lists.specs.Every.{every}
+use Rattle.lists.specs.Lists.{every}
 use Rattle.word.specs.Field.{kindOf, headDesks, headTransactions, headWords, parameterCount, stepCount, partitioningField}
 use Rattle.word.specs.Reserved.{sourceField, reservedZero}
 use Rattle.plan.specs.Plan.{Source, param, fixed, Step, cell, operand, Partitioning, byParam, unpartitioned, Transaction}

@@ -5,8 +5,7 @@ use mathlib.Core.Bool.{true, cond}
 use mathlib.Core.List.{List}
 use lib.Dec.{ltb}
 use lib.ListN.{length, getD, take, drop}
-use Rattle.lists.specs.Tabulate.{tabulate}
-use Rattle.lists.specs.Every.{every}
+use Rattle.lists.specs.Lists.{tabulate, every}
 use Rattle.word.specs.Field.{stepCount, headTransactions}
 use Rattle.plan.specs.Plan.{Transaction}
 use Rattle.plan.specs.Decode.{transactionOf, headOf}

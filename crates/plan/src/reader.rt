@@ -3,7 +3,7 @@ ghost use mathlib.Core.Path.{_≡_};
 ghost use mathlib.Core.Bool.{_&&_};
 ghost use lib.ListN.{length, getD, drop};
 ghost use lib.Dec.{ltb};
-ghost use Rattle.verdict.specs.Answer.{verdictOf};
+ghost use Rattle.verdict.specs.Verdict.{verdictOf};
 ghost use Rattle.plan.specs.Admission.{planVerdict, transactionsVerdict, transactionFormed, stepFormed};
 use crate::form;
 use verdict::Verdict;

@@ -14,8 +14,7 @@ use lib.Dec.{eqb, ltb}
 use lib.ListN.{length, getD, set, length-set}
 use lib.Seq.{ext-getD, getD-set-same, getD-set-other, set-out}
 use borrow.Author.Tests.{eqb-true, ltb-true, ltb-false, eq-eqb, ne-eqb, lt-ltb, le-ltb}
-use Rattle.lists.proofs.Tests.{by-same, by-less}
-use Rattle.lists.proofs.Tabulate.{length-tabulate, getD-tabulate}
+use Rattle.lists.proofs.Laws.{by-same, by-less, length-tabulate, getD-tabulate}
 use Rattle.queue.specs.declared.record.Request.{Request}
 use Rattle.queue.specs.Queue.{noRequest}
 use Rattle.queue.specs.Words.{recordIn, recordsIn, queueIn, overRecord, storedIn, KeptUnlessRow}

@@ -9,7 +9,7 @@ use lib.ListN.{length}
 use borrow.Author.Tests.{eqb-true, eq-eqb, ne-eqb}
 use Rattle.verdict.specs.Verdict.{Verdict, accepted, refused, ask, _then_}
 use Rattle.verdict.proofs.Verdicts.{then-accepted, then-associates, then-only-after-yes}
-use Rattle.lists.proofs.Bool.{and-snd}
+use Rattle.lists.proofs.Laws.{and-snd}
 use Rattle.plan.specs.Decode.{planOf}
 use Rattle.plan.specs.Admission.{planVerdict}
 use Rattle.operation.specs.Admission.{operationVerdict}

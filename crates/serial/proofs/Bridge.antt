@@ -4,8 +4,8 @@
 use Prim.Native.Nat.{ℕ, _<_}
 use mathlib.Core.Path.{_≡_, refl, sym, _∙_, ap}
 use mathlib.Core.List.{List, [], _∷_, _++_, map, map-append, List·Memᴰ, Memᴰ·map}
-use Rattle.lists.proofs.Tests.{by-same, eqb-yes, eqb-no}
-use Rattle.lists.specs.All.{All}
+use Rattle.lists.proofs.Laws.{by-same, eqb-yes, eqb-no}
+use Rattle.lists.specs.Lists.{All}
 use Rattle.serial.proofs.Assign.{assign-map}
 use Rattle.serial.specs.Store.{Store}
 use Rattle.serial.specs.Frame.{Frame, startFrame}

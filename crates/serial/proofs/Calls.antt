@@ -5,10 +5,8 @@ use mathlib.Core.Path.{_≡_, refl, sym, _∙_, ap}
 use mathlib.Core.List.{List, [], _∷_, _++_, append-nil, List·Memᴰ}
 use native.Mathlib.Omega.{arith}
 use lib.ListN.{length, length-append}
-use Rattle.lists.proofs.Tests.{by-same, eqb-yes, eqb-no}
-use Rattle.lists.specs.All.{All}
-use Rattle.lists.proofs.All.{All-mem, mem-All}
-use Rattle.lists.proofs.Ends.{one-more, snoc-nil}
+use Rattle.lists.proofs.Laws.{by-same, eqb-yes, eqb-no, All-mem, mem-All, one-more, snoc-nil}
+use Rattle.lists.specs.Lists.{All}
 use Rattle.serial.proofs.Assign.{assign-map, assign-same, assign-self}
 use Rattle.serial.specs.Store.{Store}
 use Rattle.serial.specs.Frame.{Frame}

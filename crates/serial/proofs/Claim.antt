@@ -5,7 +5,7 @@ use mathlib.Core.Path.{_≡_, refl, sym, _∙_}
 use mathlib.Core.Logic.{inl, inr}
 use mathlib.Core.List.{List}
 use lib.ListN.{length, getD}
-use Rattle.lists.proofs.All.{All-part}
+use Rattle.lists.proofs.Laws.{All-part}
 use Rattle.serial.specs.Store.{Store}
 use Rattle.serial.specs.Frame.{Frame}
 use Rattle.serial.specs.Desk.{Desk}

@@ -6,7 +6,7 @@ use mathlib.Core.Bool.{Bool, true, false, cond}
 use mathlib.Core.List.{List, [], _∷_, _++_, map, append-assoc, append-nil}
 use native.Mathlib.Omega.{arith}
 use native.Mathlib.Nat.{le-refl, mod-eq-of-lt}
-use Rattle.lists.proofs.Bool.{true-T}
+use Rattle.lists.proofs.Laws.{true-T}
 use Rattle.serial.specs.Store.{Store}
 use Rattle.serial.specs.Frame.{Frame, startFrame}
 use Rattle.serial.specs.Desk.{Request, Desk, Call, request, visit, deskCalled, Answer, refused, isRefused, given, sent}

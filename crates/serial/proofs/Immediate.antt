@@ -7,9 +7,7 @@ use mathlib.Core.List.{List, [], _∷_, _++_}
 use native.Mathlib.Omega.{arith}
 use native.Mathlib.Nat.{le-refl}
 use lib.ListN.{length, getD, List·getD-eq-default}
-use Rattle.lists.proofs.Tests.{by-same, by-less, eqb-no, eqb-self}
-use Rattle.lists.proofs.All.{All-part}
-use Rattle.lists.proofs.Ends.{snoc-own, snoc-other}
+use Rattle.lists.proofs.Laws.{by-same, by-less, eqb-no, eqb-self, All-part, snoc-own, snoc-other}
 use Rattle.serial.specs.Store.{Store, Update, applyUpdate, applyAll, Same, Within}
 use Rattle.serial.specs.Frame.{Frame}
 use Rattle.serial.specs.Desk.{Request, Desk, given}

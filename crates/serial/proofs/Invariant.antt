@@ -6,8 +6,8 @@ use mathlib.Core.List.{List, []}
 use native.Mathlib.Omega.{arith}
 use native.Mathlib.Nat.{mul-le-mul-right}
 use lib.ListN.{getD}
-use Rattle.lists.specs.All.{All}
-use Rattle.lists.proofs.All.{All-part}
+use Rattle.lists.specs.Lists.{All}
+use Rattle.lists.proofs.Laws.{All-part}
 use Rattle.serial.specs.Store.{Store, applyAll, Same}
 use Rattle.serial.specs.Frame.{Frame}
 use Rattle.serial.specs.Desk.{Request}

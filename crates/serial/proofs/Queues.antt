@@ -4,8 +4,8 @@ use Prim.Native.Nat.{ℕ, suc}
 use mathlib.Core.Path.{_≡_, refl, ap}
 use mathlib.Core.Logic.{_≢_}
 use mathlib.Core.List.{List, [], _∷_}
-use Rattle.lists.proofs.Tests.{eqb-no, eqb-self}
-use Rattle.lists.specs.All.{All}
+use Rattle.lists.proofs.Laws.{eqb-no, eqb-self}
+use Rattle.lists.specs.Lists.{All}
 use Rattle.serial.specs.Store.{Store, applyAll, Same, Within}
 use Rattle.serial.specs.Desk.{Request}
 use Rattle.serial.specs.System.{System, Laws}

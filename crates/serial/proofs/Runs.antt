@@ -4,9 +4,8 @@ use Prim.Native.Nat.{ℕ}
 use mathlib.Core.Path.{_≡_, refl, sym, _∙_, ap}
 use mathlib.Core.Logic.{_≢_, inl, inr}
 use mathlib.Core.List.{List, [], _∷_, _++_}
-use Rattle.lists.proofs.Tests.{by-same, eqb-yes, eqb-no, eqb-self}
-use Rattle.lists.specs.All.{All}
-use Rattle.lists.proofs.Ends.{none-left, none-right}
+use Rattle.lists.proofs.Laws.{by-same, eqb-yes, eqb-no, eqb-self, none-left, none-right}
+use Rattle.lists.specs.Lists.{All}
 use Rattle.serial.specs.Store.{Store, Update, applyUpdate, Same, Within}
 use Rattle.serial.specs.System.{System, Laws, Touches}
 use Rattle.serial.specs.Step.{runOne}

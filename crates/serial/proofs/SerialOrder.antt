@@ -8,9 +8,8 @@ use mathlib.Core.List.{List, [], _∷_, _++_, Perm}
 use native.Mathlib.Omega.{arith}
 use native.Mathlib.Nat.{mul-le-mul-right, suc-mul, le-refl}
 use lib.ListN.{length, length-append}
-use Rattle.lists.proofs.Tests.{by-same, by-less}
-use Rattle.lists.specs.All.{All, Pairs}
-use Rattle.lists.proofs.All.{All-append, All-part, Pairs-append, Pairs-part}
+use Rattle.lists.proofs.Laws.{by-same, by-less, All-append, All-part, Pairs-append, Pairs-part}
+use Rattle.lists.specs.Lists.{All, Pairs}
 use Rattle.serial.specs.Desk.{Request, Call, request, visit, deskCalled}
 use Rattle.serial.specs.System.{System}
 use Rattle.serial.specs.Step.{Route, immediate, enqueue, redirect, route}

@@ -5,9 +5,8 @@ use mathlib.Core.Path.{_≡_, subst}
 use mathlib.Core.Logic.{_⊎_, inl, inr}
 use mathlib.Core.List.{List, [], _∷_, _++_, append-nil, Perm, Perm·refl, Perm·trans, Perm·symm, Perm·append-right, perm-middle}
 use native.Mathlib.Omega.{arith}
-use Rattle.lists.proofs.Tests.{by-less, by-same, ltb-yes, ltb-no}
-use Rattle.lists.specs.All.{All, Pairs}
-use Rattle.lists.proofs.All.{All-part}
+use Rattle.lists.proofs.Laws.{by-less, by-same, ltb-yes, ltb-no, All-part}
+use Rattle.lists.specs.Lists.{All, Pairs}
 use Rattle.serial.specs.Order.{upto, beyond, insert, sortOnto}
 use Rattle.serial.proofs.Sorting
 

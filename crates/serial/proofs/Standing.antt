@@ -6,8 +6,8 @@ use mathlib.Core.Path.{_≡_, sym, _∙_, ap}
 use mathlib.Core.Logic.{_≢_}
 use mathlib.Core.Bool.{true}
 use mathlib.Core.List.{List, [], _∷_, List·Memᴰ}
-use Rattle.lists.proofs.Bool.{true-T}
-use Rattle.lists.specs.All.{All}
+use Rattle.lists.proofs.Laws.{true-T}
+use Rattle.lists.specs.Lists.{All}
 use Rattle.serial.specs.Store.{Store, applyAll, Same}
 use Rattle.serial.specs.Frame.{Frame}
 use Rattle.serial.specs.Desk.{Call, visit}

@@ -7,7 +7,7 @@ use mathlib.Core.List.{List, [], _∷_, _++_}
 use native.Mathlib.Omega.{arith}
 use lib.ListN.{length, getD, set, length-set}
 use lib.Seq.{getD-set-same, getD-set-other, set-out, set-comm}
-use Rattle.lists.proofs.Tests.{eq-or-ne, lt-or-ge}
+use Rattle.lists.proofs.Laws.{eq-or-ne, lt-or-ge}
 use Rattle.serial.specs.Store.{Store, Update, applyUpdate, applyAll, Same, Within}
 
 -- ---- Two stores that agree

@@ -9,7 +9,7 @@ use mathlib.Core.List.{List, [], _∷_, _++_, append-assoc, append-nil, List·Me
 use native.Mathlib.Omega.{arith}
 use lib.ListN.{length, drop, getD, length-append}
 use lib.Seq.{drop-nil}
-use Rattle.lists.proofs.Bool.{true-T}
+use Rattle.lists.proofs.Laws.{true-T}
 use Rattle.serial.specs.Store.{Store}
 use Rattle.serial.specs.Frame.{Frame, foreign}
 use Rattle.serial.specs.Desk.{Desk, Call, visit}

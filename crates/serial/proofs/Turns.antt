@@ -5,8 +5,8 @@ use mathlib.Core.Path.{_≡_, refl, sym, _∙_, ap}
 use mathlib.Core.Logic.{_⊎_, inl, inr}
 use mathlib.Core.Bool.{Bool, true, false, cond}
 use mathlib.Core.List.{List, [], _∷_, _++_}
-use Rattle.lists.proofs.Bool.{true-T}
-use Rattle.lists.specs.All.{All}
+use Rattle.lists.proofs.Laws.{true-T}
+use Rattle.lists.specs.Lists.{All}
 use Rattle.serial.specs.Store.{Store, Update}
 use Rattle.serial.specs.Frame.{Frame, foreign, tag}
 use Rattle.serial.specs.Desk.{Desk, Call, request, visit, deskCalled, Answer, refused, isRefused}

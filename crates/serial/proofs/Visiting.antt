@@ -7,10 +7,8 @@ use mathlib.Core.List.{List, [], _∷_, _++_, append-nil}
 use native.Mathlib.Omega.{arith}
 use native.Mathlib.Nat.{add-mod-right, le-refl}
 use lib.ListN.{length, getD, List·getD-eq-default}
-use Rattle.lists.proofs.Tests.{by-same, by-less, eqb-yes, eqb-no, eqb-self}
-use Rattle.lists.specs.All.{All}
-use Rattle.lists.proofs.All.{All-append, All-part}
-use Rattle.lists.proofs.Ends.{snoc-own, snoc-other}
+use Rattle.lists.proofs.Laws.{by-same, by-less, eqb-yes, eqb-no, eqb-self, All-append, All-part, snoc-own, snoc-other}
+use Rattle.lists.specs.Lists.{All}
 use Rattle.serial.specs.Store.{Store, Update, applyAll, Same, Within}
 use Rattle.serial.specs.Frame.{Frame, foreign, tag}
 use Rattle.serial.specs.Desk.{Request, Desk, given, sent}

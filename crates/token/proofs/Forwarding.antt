@@ -13,9 +13,8 @@ use native.Mathlib.Omega.{arith}
 use lib.Dec.{eqb, leb}
 use lib.ListN.{length, getD, set, drop, drop-of-length-le}
 use borrow.Author.Tests.{leb-true, leb-false, not-true, not-false}
-use Rattle.lists.specs.Overwritten.{overwritten}
-use Rattle.lists.proofs.Places.{drop-here}
-use Rattle.lists.proofs.Filling.{Filling, fill-none, fill-same, fill-word, fill-done}
+use Rattle.lists.specs.Lists.{overwritten}
+use Rattle.lists.proofs.Laws.{drop-here, Filling, fill-none, fill-same, fill-word, fill-done}
 use Rattle.word.specs.Field.{updateDesk, cellCount, cellField}
 use Rattle.operation.specs.Run.{Store, applyUpdate}
 use Rattle.token.specs.Frame.{updateHead, cellWord, writeWords, updateWords, updatesWords}
@@ -187,8 +186,8 @@ module _ {desk : ℕ} {ws s₀ o s t : List ℕ} {kept : Bool} {left end i : ℕ
     module _ (z : left ≡ 0 → ⊥) where
       at-value : Stands desk ws s₀ o s t kept (suc (left - 1)) end (getD ws i 0 ∷ getD ws (i + 1) 0 ∷ drop (i + 1 + 1) ws)
       at-value =
-          subst (λ (r : List ℕ). Stands desk ws s₀ o s t kept (suc (left - 1)) end (getD ws i 0 ∷ r)) (drop-here ws (i + 1) 0 (forward-more z))
-          (at-cell z)
+          subst (λ (r : List ℕ). Stands desk ws s₀ o s t kept (suc (left - 1)) end (getD ws i 0 ∷ r))
+          (drop-here ws (i + 1) 0 (forward-more z)) (at-cell z)
 
       pub forward-past : kept ≡ false → Forwarded desk ws s₀ o s t kept (left - 1) end (i + 1 + 1)
       forward-past e =

@@ -10,7 +10,7 @@ use lib.Dec.{eqb}
 use lib.ListN.{length, getD, take}
 use borrow.Author.Tests.{eqb-true, eq-eqb, le-leb}
 use Rattle.verdict.specs.Verdict.{accepted}
-use Rattle.lists.proofs.Bool.{and-fst, and-snd, and-true}
+use Rattle.lists.proofs.Laws.{and-fst, and-snd, and-true}
 use Rattle.word.specs.Field.{kindOf, addressedDesk, frameLength}
 use Rattle.plan.specs.Decode.{headOf}
 use Rattle.token.specs.Frame.{SentUpdate, frameHead, writeWords, updatesWords, sumsOf, frameAround, frameWords}

@@ -7,8 +7,8 @@ use native.Mathlib.Nat.{not-suc-le-zero}
 use native.Mathlib.Omega.{arith}
 use lib.ListN.{length, set, take, drop, length-take, length-drop, take-append-drop}
 use lib.Seq.{take-at}
-use Rattle.lists.specs.Overwritten.{overwritten}
-use Rattle.lists.proofs.Overwritten.{write-two}
+use Rattle.lists.specs.Lists.{overwritten}
+use Rattle.lists.proofs.Laws.{write-two}
 use Rattle.token.specs.Frame.{frameHead, sumsOf, sealed, frameAround}
 
 -- two words in front of those that stand there already

@@ -9,7 +9,7 @@ use lib.ListN.{length}
 use borrow.Author.Tests.{leb-true, eqb-true}
 use Rattle.verdict.specs.Verdict.{Verdict, accepted, refused}
 use Rattle.verdict.proofs.Verdicts.{then-accepted, ask-accepted, ask-then-accepted}
-use Rattle.lists.proofs.Bool.{and-fst, and-snd}
+use Rattle.lists.proofs.Laws.{and-fst, and-snd}
 use Rattle.word.specs.Field.{kindOf, frameLength, headDesks}
 use Rattle.word.specs.Reserved.{reservedZero}
 use Rattle.plan.specs.Decode.{headOf, planOf}

@@ -8,10 +8,8 @@ use native.Mathlib.Omega.{arith}
 use lib.Dec.{ltb, leb, eqb}
 use lib.ListN.{length, getD, set, drop, replicate, length-set, drop-of-length-le}
 use borrow.Author.Tests.{le-ltb, lt-ltb, ltb-true, ne-eqb}
-use Rattle.lists.specs.Every.{every}
-use Rattle.lists.proofs.Places.{drop-here}
-use Rattle.lists.proofs.Bool.{and-fst, and-snd}
-use Rattle.lists.proofs.Every.{every-same}
+use Rattle.lists.specs.Lists.{every}
+use Rattle.lists.proofs.Laws.{drop-here, and-fst, and-snd, every-same}
 use Rattle.word.specs.Field.{kindOf, updateDesk, cellCount}
 use Rattle.word.specs.Reserved.{reservedZero}
 use Rattle.token.specs.Frame.{SentUpdate, sent}

@@ -1,17 +1,14 @@
 -- The words of an update, written pair by pair into the front of a list.
 -- Assumes nothing.
 use mathlib.Core.Path.{_≡_, refl, _∙_, sym, ap}
-use mathlib.Core.Bool.{Bool, true, false}
 use mathlib.Core.List.{List, [], _∷_, _++_}
 use Prim.Native.Nat.{ℕ, zero, suc, _+_, _*_, _≤_, _<_, min}
 use native.Mathlib.Nat.{not-suc-le-zero, le-of-suc-le-suc}
 use native.Mathlib.Omega.{arith}
-use lib.Dec.{leb}
-use borrow.Author.Tests.{leb-true, leb-false}
 use lib.ListN.{length, getD, set}
 use lib.Seq.{drop-set-lt}
-use Rattle.lists.specs.Overwritten.{overwritten}
-use Rattle.lists.proofs.Overwritten.{write-two}
+use Rattle.lists.specs.Lists.{overwritten}
+use Rattle.lists.proofs.Laws.{write-two, by-less}
 use Rattle.operation.specs.Run.{Update}
 use Rattle.operation.specs.Answer.{pairs}
 use Rattle.operation.proofs.Updates.{pairs-next, pairs-past}
@@ -83,14 +80,9 @@ module _ (h : ℕ) (cs vs o : List ℕ) where
 
 module _ (d n k : ℕ) (cs vs : List ℕ) (a : length cs ≡ 12) (b : length vs ≡ 12) (e : k ≡ min n 12) where
   held : pairs k cs vs ≡ pairs n cs vs
-  held = go (leb n 12) refl
-    where
-      go : (q : Bool) → leb n 12 ≡ q → pairs k cs vs ≡ pairs n cs vs
-      go true q = let same : k ≡ n = omega (arith, leb-true n 12 q) in ap (λ (j : ℕ). pairs j cs vs) same
-      go false q =
-          let all : length cs ≤ k = omega (arith, leb-false n 12 q) in
-          let more : length cs ≤ n = omega (arith, leb-false n 12 q) in
-          pairs-past k cs vs all ∙ sym (pairs-past n cs vs more)
+  held =
+      by-less 12 n (λ h. pairs-past k cs vs (omega arith) ∙ sym (pairs-past n cs vs (omega arith)))
+      (λ h. let same : k ≡ n = omega arith in ap (λ (j : ℕ). pairs j cs vs) same)
 
   pub held-words : 1 + 2 * k ≡ length (updateWords (sent d (pairs n cs vs)))
   held-words = omega (arith, update-length (sent d (pairs n cs vs)), ap length held, pairs-length k cs vs (omega arith) (omega arith))

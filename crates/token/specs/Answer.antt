@@ -4,7 +4,7 @@ use mathlib.Core.List.{List, []}
 use lib.Dec.{leb}
 use lib.ListN.{length}
 use Rattle.verdict.specs.Verdict.{Verdict, ask, ifAccepted}
-use Rattle.lists.specs.Overwritten.{overwritten}
+use Rattle.lists.specs.Lists.{overwritten}
 use Rattle.token.specs.Frame.{startingFrame}
 use Rattle.token.specs.Admission.{updatesPart, frameVisit}
 use Rattle.token.specs.declared.reader.VisitAnswer.{VisitAnswer}

@@ -2,7 +2,7 @@
 use Prim.Native.Nat.{ℕ, _+_, _-_, _*_, _%_, _^_}
 use mathlib.Core.List.{List, [], _∷_, _++_}
 use lib.ListN.{length, take, drop}
-use Rattle.lists.specs.Overwritten.{overwritten}
+use Rattle.lists.specs.Lists.{overwritten}
 use Rattle.operation.specs.Run.{Update}
 
 -- an update as a frame carries it: the desk whose operation made it, and the cells and values that it wrote

@@ -2,7 +2,7 @@
 ghost use mathlib.Core.Path.{_≡_};
 ghost use Prim.Native.Nat.{_≤_};
 ghost use lib.ListN.{length};
-ghost use Rattle.verdict.specs.Answer.{verdictOf};
+ghost use Rattle.verdict.specs.Verdict.{verdictOf};
 ghost use Rattle.token.specs.Admission.{frameHeaded, sumsRight, updatesRight, frameVerdict, readVerdict};
 ghost use Rattle.token.specs.Answer.{visitOf, partRead, visitRead};
 use crate::sums;

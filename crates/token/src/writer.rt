@@ -2,8 +2,8 @@
 ghost use mathlib.Core.Path.{_≡_};
 ghost use Prim.Native.Nat.{_+_, _≤_, min};
 ghost use lib.ListN.{length};
-ghost use Rattle.verdict.specs.Answer.{verdictOf};
-ghost use Rattle.lists.specs.Overwritten.{overwritten};
+ghost use Rattle.verdict.specs.Verdict.{verdictOf};
+ghost use Rattle.lists.specs.Lists.{overwritten};
 ghost use Rattle.operation.specs.Answer.{updateOf};
 ghost use Rattle.token.specs.Frame.{sent, frameHead, updateHead, cellWord, updateWords, sealedAt};
 ghost use Rattle.token.specs.Answer.{startVerdict, startWords};

@@ -12,7 +12,7 @@ use lib.ListN.{getD}
 use lib.Bits.{bitAnd, and-high}
 use lib.Pow.{pow-pos}
 use borrow.Author.Tests.{eq-eqb, ne-eqb}
-use Rattle.lists.proofs.Below.{below, below-at}
+use Rattle.lists.proofs.Laws.{below, below-at}
 use Rattle.word.specs.Field.{kindOf, rowSource, operandSource}
 use Rattle.word.specs.Reserved.{reservedBits, zeroBits, sourceField}
 

@@ -5,7 +5,7 @@ use Prim.Native.Nat.{_+_, _-_, _<_}
 use native.Mathlib.Omega.{arith}
 use lib.ListN.{length, getD}
 use borrow.Author.Tests.{eq-eqb, ne-eqb}
-use Rattle.lists.specs.Some.{some}
+use Rattle.lists.specs.Lists.{some}
 use Rattle.word.specs.Field.{stepCount}
 use Rattle.plan.specs.Place.{transactionFrom}
 use Rattle.plan.proofs.Steps.{stepsFrom, steps-all, step-here}

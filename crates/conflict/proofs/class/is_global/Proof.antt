@@ -4,7 +4,7 @@ use mathlib.Core.Path.{_∙_, ap}
 use Prim.Native.Nat.{ℕ}
 use mathlib.Core.List.{List}
 use lib.ListN.{length}
-use Rattle.lists.proofs.Tabulate.{length-tabulate}
+use Rattle.lists.proofs.Laws.{length-tabulate}
 use Rattle.plan.specs.Decode.{planOf}
 use Rattle.conflict.specs.Touch.{deskMask}
 use Rattle.conflict.proofs.Tabled.{global-tabled}

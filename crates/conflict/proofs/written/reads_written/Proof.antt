@@ -4,7 +4,7 @@ use mathlib.Core.Path.{_≡_, _∙_, sym}
 use Prim.Native.Nat.{_-_}
 use native.Mathlib.Omega.{arith}
 use lib.ListN.{length}
-use Rattle.lists.specs.Some.{some}
+use Rattle.lists.specs.Lists.{some}
 use Rattle.plan.specs.Plan.{reads}
 use Rattle.plan.specs.Decode.{planOf}
 use Rattle.plan.specs.Place.{transactionFrom}

@@ -6,7 +6,7 @@ use mathlib.Core.List.{List}
 use Prim.Native.Nat.{_+_, _-_, _<_}
 use native.Mathlib.Omega.{arith}
 use lib.ListN.{length, getD}
-use Rattle.lists.specs.Some.{some}
+use Rattle.lists.specs.Lists.{some}
 use Rattle.word.specs.Field.{stepCount}
 use Rattle.plan.specs.Plan.{reads, Step}
 use Rattle.plan.specs.Decode.{stepOf}

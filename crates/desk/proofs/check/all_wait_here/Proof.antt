@@ -6,8 +6,8 @@ use Prim.Native.Nat.{ℕ, _+_, _≤_, _-_}
 use native.Mathlib.Omega.{arith}
 use lib.ListN.{length, take, drop}
 use borrow.Author.Tests.{not-true, not-false}
-use Rattle.lists.specs.Every.{every}
-use Rattle.lists.proofs.Every.{every-take-here, every-take-past}
+use Rattle.lists.specs.Lists.{every}
+use Rattle.lists.proofs.Laws.{every-take-here, every-take-past}
 use Rattle.plan.specs.Decode.{planOf}
 use Rattle.desk.specs.Admission.{waitsHere}
 use borrow.Author.Needs.{needs}

@@ -1,8 +1,8 @@
 -- Question 6: each answer is the branch of the definition that the tests before it chose.
 -- Assumes nothing.
 use mathlib.Core.Path.{_≡_, _∙_, sym}
-use Rattle.lists.specs.Every.{every}
-use Rattle.lists.proofs.Every.{every-take-none}
+use Rattle.lists.specs.Lists.{every}
+use Rattle.lists.proofs.Laws.{every-take-none}
 use Rattle.plan.specs.Decode.{planOf}
 use Rattle.plan.proofs.Accepted.{accepted-gives}
 use Rattle.desk.specs.Queueing.{waitingIn}

@@ -3,7 +3,7 @@
 use mathlib.Core.Path.{_≡_, _∙_, ap}
 use native.Mathlib.Omega.{arith}
 use lib.ListN.{length}
-use Rattle.lists.specs.Overwritten.{overwritten}
+use Rattle.lists.specs.Lists.{overwritten}
 use Rattle.plan.specs.Decode.{planOf}
 use Rattle.operation.specs.Answer.{outcomeOf}
 use Rattle.operation.specs.Run.{Outcome, run, applyUpdate}

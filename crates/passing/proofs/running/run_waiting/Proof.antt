@@ -5,8 +5,7 @@ use Prim.Native.Nat.{_+_, _-_, _*_, _≤_, _<_}
 use native.Mathlib.Omega.{arith}
 use lib.ListN.{length, take, length-drop, getD}
 use lib.Seq.{length-take-le, getD-take}
-use Rattle.lists.proofs.Every.{every-index}
-use Rattle.lists.proofs.Filling.{fill-length}
+use Rattle.lists.proofs.Laws.{every-index, fill-length}
 use Rattle.plan.specs.Decode.{planOf}
 use Rattle.plan.proofs.Placing.{places-long}
 use Rattle.queue.specs.Queue.{noRequest}
@@ -132,7 +131,8 @@ run-one-requires c κs =
     record {
       placed = record {
         admitted = e;
-        place = place-looked-up (s .args .plan .now) r (e .planned) (admitted-exists (s .args .plan .now) r e) (s .args .places .now) (s .pre .1);
+        place = place-looked-up (s .args .plan .now) r (e .planned) (admitted-exists (s .args .plan .now) r e) (s .args .places .now)
+            (s .pre .1);
       };
       room = omega (arith, room d, ap length (lent (l .out) (l .end)), length-drop (l .end) (l .out));
       replyRoom = omega (arith, reply-room d, ap length (lent (l .replies) (l .at * 3)), length-drop (l .at * 3) (l .replies));

@@ -5,7 +5,7 @@ use mathlib.Core.List.{_∷_, []}
 use native.Mathlib.Omega.{arith}
 use lib.ListN.{length-set, drop}
 use borrow.Author.Needs.{needs}
-use Rattle.lists.proofs.Filling.{fill-none, fill-word, fill-done}
+use Rattle.lists.proofs.Laws.{fill-none, fill-word, fill-done}
 use Rattle.passing.proofs.running.write_reply.Statement.{statement}
 use Rattle.passing.proofs.running.write_reply.Tie as tie
 

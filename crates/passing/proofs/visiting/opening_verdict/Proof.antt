@@ -1,8 +1,7 @@
 -- Questions 1 to 5: each answer is the branch of the definition that the questions before it chose.
 -- Assumes nothing.
 use mathlib.Core.Path.{_≡_, _∙_, sym, ap}
-use Rattle.verdict.specs.Verdict.{ask}
-use Rattle.verdict.specs.Answer.{verdictOf}
+use Rattle.verdict.specs.Verdict.{ask, verdictOf}
 use Rattle.passing.specs.Core.{openingVerdict}
 use Rattle.passing.proofs.Visited.{plan-refused, by-buffers}
 use borrow.Author.Needs.{needs}

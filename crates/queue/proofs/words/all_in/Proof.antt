@@ -6,7 +6,7 @@ use mathlib.Core.List.{List}
 use native.Mathlib.Omega.{arith}
 use lib.ListN.{set}
 use borrow.Author.Needs.{needs}
-use Rattle.lists.proofs.Tabulate.{getD-tabulate}
+use Rattle.lists.proofs.Laws.{getD-tabulate}
 use Rattle.queue.specs.declared.record.Request.{Request}
 use Rattle.queue.specs.Queue.{noRequest}
 use Rattle.queue.specs.Words.{recordIn, recordsIn}

@@ -1,8 +1,7 @@
 -- Questions 1 to 4, then 10 to 12: the plan's refusal stands, and an accepted plan has 1 to 8 desks.
 -- Assumes nothing.
 use mathlib.Core.Path.{_≡_, _∙_, sym, ap}
-use Rattle.verdict.specs.Verdict.{accepted}
-use Rattle.verdict.specs.Answer.{verdictOf}
+use Rattle.verdict.specs.Verdict.{accepted, verdictOf}
 use Rattle.plan.specs.Admission.{planVerdict}
 use Rattle.plan.proofs.Accepted.{desk-count}
 use Prim.Native.Nat.{ℕ}

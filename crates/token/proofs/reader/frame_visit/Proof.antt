@@ -2,8 +2,7 @@
 -- Assumes nothing.
 use mathlib.Core.Path.{_≡_, _∙_, sym, ap}
 use native.Mathlib.Omega.{arith}
-use Rattle.verdict.specs.Verdict.{accepted}
-use Rattle.verdict.specs.Answer.{verdictOf}
+use Rattle.verdict.specs.Verdict.{accepted, verdictOf}
 use Rattle.token.specs.Admission.{readVerdict}
 use Rattle.token.specs.Answer.{visitRead}
 use Rattle.token.proofs.Verdicts.{read-length}

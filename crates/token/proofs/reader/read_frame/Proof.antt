@@ -4,8 +4,7 @@ use mathlib.Core.Path.{_≡_, _∙_, sym, ap}
 use Prim.Native.Nat.{ℕ, _-_}
 use native.Mathlib.Omega.{arith}
 use lib.ListN.{length, take, drop}
-use Rattle.verdict.specs.Verdict.{accepted}
-use Rattle.verdict.specs.Answer.{verdictOf}
+use Rattle.verdict.specs.Verdict.{accepted, verdictOf}
 use Rattle.token.specs.Admission.{readVerdict}
 use Rattle.token.specs.Answer.{partRead}
 use Rattle.token.proofs.Verdicts.{read-length}

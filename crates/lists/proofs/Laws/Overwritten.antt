@@ -7,7 +7,7 @@ use native.Mathlib.Numerals.{add-one}
 use native.Mathlib.Omega.{arith}
 use lib.ListN.{length, getD, set, drop, length-append, length-drop}
 use lib.Seq.{drop-cons, set-at, append-snoc, drop-append-add, drop-drop}
-use Rattle.lists.specs.Overwritten.{overwritten}
+use Rattle.lists.specs.Lists.Overwritten.{overwritten}
 
 -- one word more
 pub write-next : (p o : List ℕ) (x : ℕ) → length p < length o → set (overwritten p o) (length p) x ≡ overwritten (p ++ (x ∷ [])) o

@@ -7,9 +7,9 @@ use Prim.Native.Nat.{ℕ, zero, suc, _+_, _≤_, _<_, suc-le-suc}
 use native.Mathlib.Nat.{not-suc-le-zero, le-of-suc-le-suc}
 use native.Mathlib.Omega.{arith}
 use lib.ListN.{length, getD, drop, drop-of-length-le}
-use Rattle.lists.specs.Some.{some}
-use Rattle.lists.proofs.Bool.{bool-ext}
-use Rattle.lists.proofs.Places.{drop-here}
+use Rattle.lists.specs.Lists.Some.{some}
+use Rattle.lists.proofs.Laws.Bool.{bool-ext}
+use Rattle.lists.proofs.Laws.Places.{drop-here}
 
 module _ {A : Type 0} (f : A → Bool) where
   pub member-some : (x : A) (xs : List A) → List·Memᴰ x xs → f x ≡ true → some f xs ≡ true

@@ -7,7 +7,7 @@ use Prim.Native.Nat.{ℕ, _+_, _<_}
 use native.Mathlib.Numerals.{add-one}
 use lib.ListN.{length, getD, drop, drop-of-length-le}
 use lib.Seq.{drop-cons}
-use Rattle.lists.proofs.Tests.{by-less}
+use Rattle.lists.proofs.Laws.Tests.{by-less}
 
 module _ {A : Type 0} (l : List A) (i : ℕ) (d : A) where
   pub drop-here : i < length l → drop i l ≡ getD l i d ∷ drop (i + 1) l

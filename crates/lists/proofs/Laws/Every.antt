@@ -8,9 +8,9 @@ use native.Mathlib.Nat.{not-suc-le-zero, le-of-suc-le-suc}
 use native.Mathlib.Omega.{arith}
 use lib.ListN.{length, getD, take, drop, drop-of-length-le}
 use lib.Seq.{getD-take, length-take-le}
-use Rattle.lists.specs.Every.{every}
-use Rattle.lists.proofs.Bool.{and-fst, and-snd, and-true}
-use Rattle.lists.proofs.Places.{drop-here}
+use Rattle.lists.specs.Lists.Every.{every}
+use Rattle.lists.proofs.Laws.Bool.{and-fst, and-snd, and-true}
+use Rattle.lists.proofs.Laws.Places.{drop-here}
 
 module _ {A : Type 0} (f : A → Bool) where
   pub every-here : (l : List A) (i : ℕ) (d : A) → i < length l → every f (drop i l) ≡ (f (getD l i d) && every f (drop (i + 1) l))

@@ -8,7 +8,7 @@ use mathlib.Core.List.{List·Memᴰ·eq-of-singleton, Memᴰ·append-left, Mem�
 use native.Mathlib.Omega.{arith}
 use lib.ListN.{length, getD, List·getD-append, List·getD-eq-default, length-append}
 use lib.Seq.{getD-append-seam}
-use Rattle.lists.proofs.Tests.{by-same, by-less}
+use Rattle.lists.proofs.Laws.Tests.{by-same, by-less}
 
 -- ---- nothing in a joined list
 
