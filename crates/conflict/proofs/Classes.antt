@@ -5,25 +5,23 @@ use mathlib.Core.Bool.{Bool, true, false, cond, false≢true}
 use mathlib.Core.List.{List, List·Memᴰ}
 use mathlib.Core.Logic.{inl, inr, ⊎-elim}
 use Prim.Native.Nat.{ℕ}
-use native.Mathlib.Decide.{ℕ-discrete}
 use native.Mathlib.Omega.{arith}
 use lib.Count.{ones}
 use lib.Dec.{eqb}
 use borrow.Author.Tests.{eq-eqb, eqb-true}
+use Rattle.verdict.specs.Verdict.{accepted}
+use Rattle.lists.proofs.Laws.{every-member, member-every, member-some, some-member, by-same}
+use Rattle.lists.specs.Lists.{some}
 use Rattle.plan.specs.Plan.{Source, reads, writes, Step, cell, operand, Plan}
 use Rattle.plan.specs.Decode.{planOf}
-use Rattle.plan.specs.Admission.{planVerdict, accepted}
-use Rattle.plan.proofs.Every.{every-member, member-every}
+use Rattle.plan.specs.Admission.{planVerdict}
 use Rattle.operation.specs.Operation.{Operation, transactionOf, deskOf, readSet, writeSet, MayRead, MayWrite, MayTouch}
 use Rattle.operation.specs.Admission.{IsOperation}
 use Rattle.operation.proofs.Cells.{names-of, of-names}
-use Rattle.conflict.specs.Mask.{some}
 use Rattle.conflict.specs.Touch.{deskMask}
 use Rattle.conflict.specs.Written.{written}
-use Rattle.conflict.specs.Class.{OtherDesk, Free, Local, Global, Class, free, local, global, isWrite}
-use Rattle.conflict.specs.Class.{oneDeskEach, classBy, classOf}
+use Rattle.conflict.specs.Class.{OtherDesk, Free, Local, Global, Class, free, local, global, isWrite, oneDeskEach, classBy, classOf}
 use Rattle.conflict.specs.Classification.{FreeMeans, LocalMeans, GlobalMeans, LocalByConflicts}
-use Rattle.conflict.proofs.Some.{member-some, some-member}
 use Rattle.conflict.proofs.MaskMeaning.{desk-low, one-desk}
 use Rattle.conflict.proofs.WrittenMeaning.{written-gives, gives-written}
 use Rattle.conflict.proofs.Touching.{some-desk}
@@ -72,24 +70,19 @@ module _ (ws : List ℕ) (e : planVerdict ws ≡ accepted) (o : Operation) (i : 
       let m = some-member (written (planOf ws)) (readSet (planOf ws) o) r in
       let w = written-gives ws e (m .0) (m .2) in h (m .0) (m .1) (w .0) (w .1) (w .2)
 
-  alone : oneDeskEach (deskMask (planOf ws)) (writeSet (planOf ws) o) ≡ true → Alone
-  alone h c m o′ i′ other t =
+  one-desk-alone : oneDeskEach (deskMask (planOf ws)) (writeSet (planOf ws) o) ≡ true → Alone
+  one-desk-alone h c m o′ i′ other t =
       let k = one-desk ws e c .0 (eqb-true _ _ (every-member (λ c. eqb (ones (deskMask (planOf ws) c)) 1)
       (writeSet (planOf ws) o) c h m)) in
       other (k .1 .1 o′ i′ t ∙ sym (k .1 .1 o i (inr m)))
 
-  of-alone : Alone → oneDeskEach (deskMask (planOf ws)) (writeSet (planOf ws) o) ≡ true
-  of-alone h =
+  alone-one-desk : Alone → oneDeskEach (deskMask (planOf ws)) (writeSet (planOf ws) o) ≡ true
+  alone-one-desk h =
       member-every (λ c. eqb (ones (deskMask (planOf ws) c)) 1) (writeSet (planOf ws) o)
       (λ c m. eq-eqb _ _ (one-desk ws e c .1 (
         deskOf (planOf ws) o,
-        ((o, i, refl, inr m), λ o′ i′ t. same c m o′ i′ t (ℕ-discrete (deskOf (planOf ws) o′) (deskOf (planOf ws) o))),
+        ((o, i, refl, inr m), λ o′ i′ t. by-same _ _ (λ q. q) (λ q. absurd (h c m o′ i′ q t))),
       )))
-    where
-      same : (c : ℕ) → MayWrite (planOf ws) o c → (o′ : Operation) → IsOperation (planOf ws) o′ → MayTouch (planOf ws) o′ c
-          → Dec (deskOf (planOf ws) o′ ≡ deskOf (planOf ws) o) → deskOf (planOf ws) o′ ≡ deskOf (planOf ws) o
-      same c m o′ i′ t (yes q) = q
-      same c m o′ i′ t (no q) = absurd (h c m o′ i′ q t)
 
   -- ---- what the class means
 
@@ -107,9 +100,9 @@ module _ (ws : List ℕ) (e : planVerdict ws ≡ accepted) (o : Operation) (i : 
       go : (w a q : Bool) → some isWrite (transactionOf (planOf ws) o .steps) ≡ w
           → oneDeskEach (deskMask (planOf ws)) (writeSet (planOf ws) o) ≡ a
           → some (written (planOf ws)) (readSet (planOf ws) o) ≡ q → Means (cond w (cond a local global) (cond q local free))
-      go true true q ew ea eq = (λ f. f .0 (writes-some (planOf ws) o ew .0) (writes-some (planOf ws) o ew .1), alone ea)
+      go true true q ew ea eq = (λ f. f .0 (writes-some (planOf ws) o ew .0) (writes-some (planOf ws) o ew .1), one-desk-alone ea)
       go true false q ew ea eq =
-          (λ f. f .0 (writes-some (planOf ws) o ew .0) (writes-some (planOf ws) o ew .1), λ l. false≢true (sym ea ∙ of-alone (l .1)))
+          (λ f. f .0 (writes-some (planOf ws) o ew .0) (writes-some (planOf ws) o ew .1), λ l. false≢true (sym ea ∙ alone-one-desk (l .1)))
       go false a false ew ea eq = (writes-none (planOf ws) o ew, unwritten eq)
       go false a true ew ea eq = (λ f. of-unwritten (f .1) eq, λ c m. absurd (writes-none (planOf ws) o ew c m))
 

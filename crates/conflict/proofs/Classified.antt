@@ -7,9 +7,10 @@ use Prim.Native.Nat.{ℕ, _<_}
 use native.Mathlib.Omega.{arith}
 use lib.ListN.{length, getD}
 use borrow.Author.Tests.{ltb-true}
+use Rattle.verdict.specs.Verdict.{accepted, refused}
 use Rattle.word.specs.Field.{headDesks, headTransactions, partitioningField}
 use Rattle.plan.specs.Decode.{planOf, headOf, partBy}
-use Rattle.plan.specs.Admission.{planVerdict, accepted, refused}
+use Rattle.plan.specs.Admission.{planVerdict}
 use Rattle.plan.specs.Place.{StandsAt, transactionPlace, transactionFrom}
 use Rattle.plan.proofs.Accepted.{transaction-count, desk-count}
 use Rattle.plan.proofs.Places.{stands-at, transaction-is}

@@ -3,27 +3,25 @@
 use mathlib.Core.Path.{_≡_, _∙_, sym, ap, subst}
 use mathlib.Core.Bool.{true, _||_, or-assoc}
 use mathlib.Core.List.{List, [], _∷_, map}
-use mathlib.Core.Logic.{_⊎_, inl, inr, ⊎-elim}
+use mathlib.Core.Logic.{_⊎_, ⊎-elim}
 use Prim.Native.Nat.{ℕ, suc, _+_, _-_, _≤_, _<_}
 use native.Mathlib.Nat.{le-of-suc-le-suc, sub-zero}
-use native.Mathlib.Numerals.{add-one}
 use native.Mathlib.Omega.{arith}
 use lib.Bits.{bitOr, or-zero-r, or-zero-l}
 use lib.Dec.{leb}
-use lib.ListN.{length, getD, take, drop, drop-of-length-le, replicate, length-replicate, getD-replicate}
-use lib.Seq.{drop-cons}
+use lib.ListN.{length, getD, take, drop, replicate, length-replicate, getD-replicate}
 use borrow.Author.Tests.{leb-true}
+use Rattle.verdict.specs.Verdict.{accepted}
+use Rattle.lists.specs.Lists.{every, some}
+use Rattle.lists.proofs.Laws.{and-fst, and-snd, left-suc, drop-cases, whole-table}
 use Rattle.word.specs.Field.{stepCount, partitioningField, headDesks, headTransactions}
 use Rattle.plan.specs.Plan.{Partitioning}
 use Rattle.plan.specs.Decode.{partBy, stepOf, transactionsOf, planOf, headOf}
-use Rattle.plan.specs.Admission.{wellFormed, every, stepFormed, transactionFormed, planVerdict, accepted}
-use Rattle.plan.proofs.Bool.{and-fst, and-snd}
+use Rattle.plan.specs.Admission.{wellFormed, stepFormed, transactionFormed, planVerdict}
 use Rattle.plan.proofs.Accepted.{accepted-gives}
-use Rattle.plan.proofs.Places.{lt-or-ge, left-suc}
-use Rattle.conflict.specs.Mask.{maskOf, some}
+use Rattle.conflict.specs.Mask.{maskOf}
 use Rattle.conflict.specs.Touch.{stepTouches, stepsTouch, transactionsTouch, deskMask, maskTable, Joined}
 use Rattle.conflict.proofs.Masks.{mask-ext, mask-none, mask-split}
-use Rattle.plan.proofs.Tables.{whole-table}
 
 -- ---- by the words that are left
 
@@ -97,12 +95,6 @@ pub record Filling (plan : List ℕ) (n txs t at : ℕ) (l : List ℕ) : Type 0 
 pub record FillingIn (plan : List ℕ) (n part steps s txs t at : ℕ) (l : List ℕ) : Type 0 where
   pub left : LeftIn n (partBy part) (steps - s) (txs - (t + 1)) (drop at plan) l (deskMask (planOf plan))
 
--- a place past the words, or the word there and those behind it
-at-place : (plan : List ℕ) (at : ℕ) → (drop at plan ≡ []) ⊎ ((at < length plan) × (drop at plan ≡ getD plan at 0 ∷ drop (at + 1) plan))
-at-place plan at =
-    ⊎-elim (λ (h : at < length plan). inr (h, rw (add-one, drop-cons plan at 0 h)))
-    (λ (h : length plan ≤ at). inl (drop-of-length-le plan h)) (lt-or-ge at (length plan))
-
 pub start : (plan : List ℕ) → planVerdict plan ≡ accepted
     → Filling plan (headDesks (headOf plan)) (headTransactions (headOf plan)) 0 1 (replicate 1024 0)
 unfolding deskMask planOf
@@ -127,7 +119,7 @@ module _ (plan : List ℕ) (n txs t at : ℕ) (l : List ℕ) (f : Filling plan n
         left-enter n (deskMask (planOf plan)) (txs - (t + 1)) (getD plan at 0) (drop (at + 1) plan) l
             (rw (left-suc txs t h, e .1) at (f .left)),
       ))
-      (at-place plan at)
+      (drop-cases plan at 0)
 
   pub enter-here : t < txs → at < length plan
   enter-here h = enter-both h .0
@@ -138,7 +130,7 @@ module _ (plan : List ℕ) (n txs t at : ℕ) (l : List ℕ) (f : Filling plan n
   pub done : txs ≤ t → l ≡ maskTable (planOf plan)
   done h =
       let e : txs - t ≡ 0 = omega arith in
-      whole-table 1024 (deskMask (planOf plan)) l (f .left .long)
+      whole-table 1024 (deskMask (planOf plan)) l 0 (f .left .long)
       (left-done n (deskMask (planOf plan)) (drop at plan) l (rw e at (f .left)))
 
 module _ (plan : List ℕ) (n part steps s txs t at : ℕ) (l : List ℕ) (f : FillingIn plan n part steps s txs t at l) where
@@ -150,7 +142,7 @@ module _ (plan : List ℕ) (n part steps s txs t at : ℕ) (l : List ℕ) (f : F
       (λ (e : drop at plan ≡ []). absurd (omega (arith, f .left .enough, ap length e)))
       (λ (e : (at < length plan) × (drop at plan ≡ getD plan at 0 ∷ drop (at + 1) plan)).
       (e .0, rw (left-suc steps s h, e .1) at (f .left)))
-      (at-place plan at)
+      (drop-cases plan at 0)
 
   pub step-here : s < steps → at < length plan
   step-here h = at-step h .0

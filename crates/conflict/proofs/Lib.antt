@@ -1,4 +1,3 @@
-pub mod Some
 pub mod Masks
 pub mod Ones
 pub mod RowMasks

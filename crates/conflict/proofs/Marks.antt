@@ -5,17 +5,16 @@ use mathlib.Core.Bool.{Bool, true, false, _&&_, and-false}
 use mathlib.Core.List.{List}
 use mathlib.Core.Logic.{_⊎_, ⊎-elim}
 use Prim.Native.Nat.{ℕ, _+_, _*_, _/_, _%_, _≤_, _<_}
-use native.Mathlib.Decide.{ℕ-discrete}
 use native.Mathlib.Omega.{arith}
 use lib.Bits.{bitOr, or-zero-r}
 use lib.Dec.{ltb, eqb}
 use lib.ListN.{length, getD, set, length-set}
 use lib.Seq.{getD-set-same, getD-set-other}
 use borrow.Author.Tests.{eq-eqb, lt-ltb, le-ltb, le-leb, lt-leb, eqb-true, eqb-false}
+use Rattle.lists.proofs.Laws.{lt-or-ge, by-same}
 use Rattle.word.specs.Field.{kindOf, tableField, columnField}
 use Rattle.plan.specs.Plan.{Partitioning}
 use Rattle.plan.specs.Decode.{stepOf, rowOf}
-use Rattle.plan.proofs.Places.{lt-or-ge}
 use Rattle.conflict.specs.Mask.{maskOf}
 use Rattle.conflict.specs.Touch.{rowTouched, cellTouched, stepTouches, Joined}
 use Rattle.conflict.proofs.Masks.{mask-ext, mask-none}
@@ -133,18 +132,13 @@ pub marked-more : (l₀ l : List ℕ) (n : ℕ) (q : Partitioning) (w row m : �
     → Marked l₀ (set l (cellAt w row) (bitOr (getD l (cellAt w row) 0) m)) n q w (row + 1)
 marked-more l₀ l n q w row m small e k = record {
   long = length-set l _ _ ∙ k .long;
-  cells = λ c h. here-or-not c h (ℕ-discrete c (cellAt w row));
+  cells = λ c h. by-same c (cellAt w row)
+      (λ s. ap (λ (i : ℕ). getD (set l (cellAt w row) (bitOr (getD l (cellAt w row) 0) m)) i 0) s
+      ∙ getD-set-same l (cellAt w row) (bitOr (getD l (cellAt w row) 0) m) 0 (omega (arith, k .long))
+      ∙ ap₂ bitOr
+      (ap (λ (i : ℕ). getD l i 0) (sym s) ∙ k .cells c h ∙ ap (bitOr (getD l₀ c 0)) (before-here n q w row c small h s)
+      ∙ or-zero-r (getD l₀ c 0))
+      (e ∙ sym (after-here n q w row c small h s)))
+      (λ s. getD-set-other l (cellAt w row) c (bitOr (getD l (cellAt w row) 0) m) 0 s
+      ∙ k .cells c h ∙ ap (bitOr (getD l₀ c 0)) (sym (elsewhere n q w row c small h s)));
 }
-  where
-    here-or-not : (c : ℕ) → c < 1024 → Dec (c ≡ cellAt w row)
-        → getD (set l (cellAt w row) (bitOr (getD l (cellAt w row) 0) m)) c 0 ≡ bitOr (getD l₀ c 0) (rowsMask n q w (row + 1) c)
-    here-or-not c h (yes s) =
-        ap (λ (i : ℕ). getD (set l (cellAt w row) (bitOr (getD l (cellAt w row) 0) m)) i 0) s
-        ∙ getD-set-same l (cellAt w row) (bitOr (getD l (cellAt w row) 0) m) 0 (omega (arith, k .long))
-        ∙ ap₂ bitOr
-        (ap (λ (i : ℕ). getD l i 0) (sym s) ∙ k .cells c h ∙ ap (bitOr (getD l₀ c 0)) (before-here n q w row c small h s)
-        ∙ or-zero-r (getD l₀ c 0))
-        (e ∙ sym (after-here n q w row c small h s))
-    here-or-not c h (no s) =
-        getD-set-other l (cellAt w row) c (bitOr (getD l (cellAt w row) 0) m) 0 s
-        ∙ k .cells c h ∙ ap (bitOr (getD l₀ c 0)) (sym (elsewhere n q w row c small h s))

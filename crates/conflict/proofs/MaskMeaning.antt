@@ -9,9 +9,10 @@ use native.Mathlib.Nat.{mod-lt}
 use native.Mathlib.Omega.{arith}
 use lib.Count.{ones}
 use lib.ListN.{getD}
+use Rattle.verdict.specs.Verdict.{accepted}
 use Rattle.plan.specs.Plan.{Access, reads, writes, Partitioning, byParam, unpartitioned, Plan}
 use Rattle.plan.specs.Decode.{planOf}
-use Rattle.plan.specs.Admission.{planVerdict, accepted}
+use Rattle.plan.specs.Admission.{planVerdict}
 use Rattle.operation.specs.Operation.{Operation, transactionOf, deskBy, deskOf, cellsNamed, MayRead, MayWrite, MayTouch}
 use Rattle.operation.specs.Admission.{IsOperation}
 use Rattle.conflict.specs.Mask.{bit}

@@ -9,18 +9,18 @@ use lib.Count.{ones}
 use lib.Dec.{leb, eqb}
 use lib.ListN.{getD}
 use borrow.Author.Tests.{eqb-true, eqb-false, leb-true, leb-false, eq-eqb, ne-eqb, le-leb}
+use Rattle.lists.specs.Lists.{every, some}
+use Rattle.lists.proofs.Laws.{and-snd}
 use Rattle.word.specs.Field.{kindOf, stepCount, tableField, columnField}
 use Rattle.plan.specs.Plan.{reads, writes, Step}
 use Rattle.plan.specs.Decode.{accessBy, stepOf, rowOf}
-use Rattle.plan.specs.Admission.{every, stepFormed}
+use Rattle.plan.specs.Admission.{stepFormed}
 use Rattle.plan.specs.Place.{StandsAt, transactionFrom}
-use Rattle.plan.proofs.Bool.{and-snd}
 use Rattle.plan.proofs.Words.{step-kind-low}
 use Rattle.plan.proofs.Steps.{stepsFrom, steps-none, steps-cons, step-formed, every-step}
 use Rattle.operation.specs.Operation.{sameAccess, valueOf, cellNumber, cellsNamed}
 use Rattle.operation.specs.Admission.{rowInRange, parametersPass, unusedZero}
 use Rattle.operation.proofs.StepKinds.{row-bound}
-use Rattle.conflict.specs.Mask.{some}
 use Rattle.conflict.specs.Class.{isWrite, oneDeskEach}
 
 -- ---- one step

@@ -11,7 +11,7 @@ use Rattle.conflict.specs.Mask.{bit, maskOf}
 use Rattle.conflict.proofs.Masks.{mask-lt}
 
 -- how many d below n pass f
-pub countOf : ℕ → (ℕ → Bool) → ℕ
+unfoldable pub countOf : ℕ → (ℕ → Bool) → ℕ
 countOf zero f = 0
 countOf (suc n) f = bit (f n) + countOf n f
 

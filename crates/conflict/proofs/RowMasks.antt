@@ -8,8 +8,8 @@ use native.Mathlib.Omega.{arith}
 use lib.Dec.{T, ltb, leb, eqb, eqb→eq}
 use lib.ListN.{getD}
 use borrow.Author.Tests.{eq-eqb, ne-eqb, lt-leb}
+use Rattle.lists.proofs.Laws.{below, below-at}
 use Rattle.plan.specs.Plan.{Partitioning, byParam, unpartitioned, param, fixed}
-use Rattle.word.proofs.Table.{below, at}
 use Rattle.conflict.specs.Mask.{maskOf}
 use Rattle.conflict.specs.Touch.{rowTouched}
 use Rattle.conflict.proofs.Masks.{mask-ext, mask-none}
@@ -25,7 +25,7 @@ zeroTest n = leb n 0 || eqb 1 (maskOf n (λ d. eqb d 0))
 pub zero-law : (n : ℕ) → 1 ≤ n → n ≤ 8 → 1 ≡ maskOf n (λ d. eqb d 0)
 unfolding maskOf
 zero-law n lo hi = eqb→eq _ _ (or-second (leb n 0) (eqb 1 (maskOf n (λ d. eqb d 0))) (lt-leb n 0 (omega arith))
-    (at 9 zeroTest tt n (omega arith)))
+    (below-at 9 zeroTest tt n (omega arith)))
 
 -- all desks below n, and one desk below n, in a table
 abbrev pub allTest : List ℕ → Bool
@@ -35,14 +35,14 @@ abbrev pub deskTest : List ℕ → Bool
 deskTest tab = below 9 (λ n. below 8 (λ r. leb n r || eqb (getD tab r 0) (maskOf n (λ d. eqb d r))))
 
 pub all-law : (tab : List ℕ) → T (allTest tab) → (n : ℕ) → n ≤ 8 → getD tab n 0 ≡ maskOf n (λ d. ltb d n)
-all-law tab t n hi = eqb→eq _ _ (at 9 (λ n. eqb (getD tab n 0) (maskOf n (λ d. ltb d n))) t n (omega arith))
+all-law tab t n hi = eqb→eq _ _ (below-at 9 (λ n. eqb (getD tab n 0) (maskOf n (λ d. ltb d n))) t n (omega arith))
 
 pub desk-law : (tab : List ℕ) → T (deskTest tab) → (n r : ℕ) → n ≤ 8 → r < n → getD tab r 0 ≡ maskOf n (λ d. eqb d r)
 desk-law tab t n r hi h =
     eqb→eq _ _
     (or-second (leb n r) (eqb (getD tab r 0) (maskOf n (λ d. eqb d r))) (lt-leb n r h)
-    (at 8 (λ r. leb n r || eqb (getD tab r 0) (maskOf n (λ d. eqb d r)))
-    (at 9 (λ n. below 8 (λ r. leb n r || eqb (getD tab r 0) (maskOf n (λ d. eqb d r)))) t n (omega arith)) r (omega arith)))
+    (below-at 8 (λ r. leb n r || eqb (getD tab r 0) (maskOf n (λ d. eqb d r)))
+    (below-at 9 (λ n. below 8 (λ r. leb n r || eqb (getD tab r 0) (maskOf n (λ d. eqb d r)))) t n (omega arith)) r (omega arith)))
 
 -- ---- what a row's mask is, by the partitioning and the source
 

@@ -7,19 +7,16 @@ use Prim.Native.Nat.{ℕ}
 use lib.Count.{ones}
 use lib.Dec.{eqb}
 use lib.ListN.{getD}
+use Rattle.lists.specs.Lists.{every, some}
+use Rattle.lists.proofs.Laws.{and-snd, every-same, getD-tabulate}
 use Rattle.plan.specs.Plan.{reads, writes, Step, cell, operand, Plan}
-use Rattle.plan.specs.Admission.{every}
 use Rattle.plan.specs.Place.{transactionFrom}
-use Rattle.plan.proofs.Bool.{and-snd}
-use Rattle.plan.proofs.Every.{every-same}
 use Rattle.operation.specs.Operation.{cellsNamed}
 use Rattle.operation.specs.Admission.{parametersPass, unusedZero}
 use Rattle.operation.proofs.Bounds.{transaction-fits, cells-low}
 use Rattle.conflict.specs.Touch.{deskMask, maskTable}
 use Rattle.conflict.specs.Written.{written}
-use Rattle.conflict.specs.Mask.{some}
 use Rattle.conflict.specs.Class.{oneDeskEach, isWrite, free, local, global, classBy, isFree, isGlobal}
-use Rattle.plan.proofs.Tables.{getD-tabulate}
 
 pub one-tabled : (p : Plan) (ws : List ℕ) (at : ℕ) (ps : List ℕ) → parametersPass (transactionFrom ws at) ps ≡ true
     → oneDeskEach (λ c. getD (maskTable p) c 0) (cellsNamed writes ps (transactionFrom ws at .steps))
@@ -28,7 +25,7 @@ unfolding parametersPass
 one-tabled p ws at ps e =
     every-same _ _ (cellsNamed writes ps (transactionFrom ws at .steps))
     (λ c m. ap (λ (x : ℕ). eqb (ones x) 1)
-    (getD-tabulate 1024 (deskMask p) c
+    (getD-tabulate 1024 (deskMask p) c 0
     (cells-low writes ps (transactionFrom ws at .steps) (transaction-fits ws at)
     (and-snd (unusedZero (transactionFrom ws at .params) ps) _ e) c m)))
 

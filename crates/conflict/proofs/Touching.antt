@@ -9,14 +9,14 @@ use native.Mathlib.Omega.{arith}
 use lib.Dec.{ltb, eqb}
 use lib.ListN.{length, getD}
 use borrow.Author.Tests.{eq-eqb, lt-ltb, eqb-true, leb-true}
+use Rattle.verdict.specs.Verdict.{accepted}
+use Rattle.lists.proofs.Laws.{and-fst, and-snd, every-index, every-member, member-some, some-member, index-some, some-index}
 use Rattle.word.specs.Field.{headTransactions}
 use Rattle.plan.specs.Plan.{Source, param, fixed, Access, Step, cell, operand, Partitioning, byParam, unpartitioned, Transaction, Plan}
 use Rattle.plan.specs.Plan.{noTransaction, transactionAt}
 use Rattle.plan.specs.Decode.{planOf, headOf}
-use Rattle.plan.specs.Admission.{accepted, planVerdict, parametersExist, partExists, stepExists, sourceExists}
+use Rattle.plan.specs.Admission.{planVerdict, parametersExist, partExists, stepExists, sourceExists}
 use Rattle.plan.specs.Place.{transactionPlace}
-use Rattle.plan.proofs.Bool.{and-fst, and-snd}
-use Rattle.plan.proofs.Every.{every-index, every-member}
 use Rattle.plan.proofs.Accepted.{accepted-gives, all-named, transaction-count, desk-count}
 use Rattle.plan.proofs.Places.{stands-at, transaction-is}
 use Rattle.plan.proofs.Words.{transaction-params}
@@ -26,7 +26,6 @@ use Rattle.operation.proofs.Admitted.{transaction-below, rows-passed, is-operat
 use Rattle.operation.proofs.Cells.{names-of, of-names}
 use Rattle.operation.proofs.Bounds.{FieldsFit, AllFit, transaction-fits}
 use Rattle.conflict.specs.Touch.{rowTouched, cellTouched, stepTouches, stepsTouch, transactionsTouch}
-use Rattle.conflict.proofs.Some.{member-some, some-member, index-some, some-index}
 use Rattle.conflict.proofs.Witness.{witness, witness-four, witness-low, witness-passes, desk-below, witness-row, witness-desk}
 
 -- an operation of desk d names the cell by this access

@@ -6,17 +6,15 @@ use mathlib.Core.List.{List, [], _∷_}
 use mathlib.Core.Logic.{⊎-elim}
 use Prim.Native.Nat.{ℕ, zero, suc, _+_, _%_, _≤_, _<_}
 use native.Mathlib.Nat.{mod-lt, mod-eq-of-lt}
-use native.Mathlib.Decide.{ℕ-discrete}
 use native.Mathlib.Omega.{arith}
 use lib.Dec.{ltb, eqb}
 use lib.ListN.{length, getD, drop, List·getD-eq-default}
 use lib.Seq.{getD-drop}
 use borrow.Author.Tests.{eq-eqb, ne-eqb, eqb-true, ltb-true, le-leb}
+use Rattle.lists.specs.Lists.{every}
+use Rattle.lists.proofs.Laws.{and-fst, and-snd, and-true, member-every, lt-or-ge, by-same}
 use Rattle.plan.specs.Plan.{Source, param, fixed, Step, cell, operand, Partitioning, byParam, unpartitioned, Transaction}
-use Rattle.plan.specs.Admission.{every, sourceExists, partExists}
-use Rattle.plan.proofs.Bool.{and-fst, and-snd, and-true}
-use Rattle.plan.proofs.Every.{member-every}
-use Rattle.plan.proofs.Places.{lt-or-ge}
+use Rattle.plan.specs.Admission.{sourceExists, partExists}
 use Rattle.operation.specs.Operation.{valueOf, deskBy}
 use Rattle.operation.specs.Admission.{unusedZero, rowInRange, parametersPass}
 use Rattle.conflict.specs.Touch.{rowTouched}
@@ -139,16 +137,11 @@ unfolding rowTouched partExists witness valueAt isRow isPart
 witness-desk n p (byParam j) (fixed v) row d few e h t =
     ap (λ (x : ℕ). x % n) (four-at (valueAt (byParam j) (fixed v) row d) j (omega (arith, ltb-true j p e)) ∙ simp (eq-eqb j j refl))
     ∙ mod-eq-of-lt (ltb-true d n (and-snd (eqb row v) _ t))
-witness-desk n p (byParam j) (param i) row d few e h t = go (ℕ-discrete i j)
-  where
-    go : Dec (i ≡ j) → getD (witness (byParam j) (param i) row d) j 0 % n ≡ d
-    go (yes s) =
-        ap (λ (x : ℕ). x % n) (four-at (valueAt (byParam j) (param i) row d) j (omega (arith, ltb-true j p e)) ∙ simp (eq-eqb j i (sym s)))
-        ∙ sym (eqb-true d (row % n) (simp (eq-eqb i j s) at t))
-    go (no s) =
-        ap (λ (x : ℕ). x % n)
-        (four-at (valueAt (byParam j) (param i) row d) j (omega (arith, ltb-true j p e))
-        ∙ simp (ne-eqb j i (λ k. s (sym k)), eq-eqb j j refl))
-        ∙ mod-eq-of-lt (ltb-true d n (simp (ne-eqb i j s) at t))
+witness-desk n p (byParam j) (param i) row d few e h t =
+    let place = four-at (valueAt (byParam j) (param i) row d) j (omega (arith, ltb-true j p e)) in
+    by-same i j
+    (λ s. ap (λ (x : ℕ). x % n) (place ∙ simp (eq-eqb j i (sym s))) ∙ sym (eqb-true d (row % n) (simp (eq-eqb i j s) at t)))
+    (λ s. ap (λ (x : ℕ). x % n) (place ∙ simp (ne-eqb j i (λ k. s (sym k)), eq-eqb j j refl))
+    ∙ mod-eq-of-lt (ltb-true d n (simp (ne-eqb i j s) at t)))
 witness-desk n p unpartitioned (fixed v) row d few e h t = sym (eqb-true d 0 (and-snd (eqb row v) _ t))
 witness-desk n p unpartitioned (param i) row d few e h t = sym (eqb-true d 0 t)

@@ -8,17 +8,17 @@ use native.Mathlib.Omega.{arith}
 use lib.Dec.{leb, eqb}
 use lib.ListN.{length, getD, take, drop, take-append-drop}
 use borrow.Author.Tests.{eq-eqb, ne-eqb, eqb-true, eqb-false, leb-true}
+use Rattle.verdict.specs.Verdict.{accepted}
+use Rattle.lists.specs.Lists.{every, some}
+use Rattle.lists.proofs.Laws.{and-fst, and-snd, some-here, some-past, some-append, some-swap, some-same}
 use Rattle.word.specs.Field.{kindOf, stepCount, tableField, columnField}
-use Rattle.plan.specs.Plan.{Step, cell}
+use Rattle.plan.specs.Plan.{Step}
 use Rattle.plan.specs.Decode.{accessBy, stepOf, rowOf, transactionsOf, planOf}
-use Rattle.plan.specs.Admission.{every, wellFormed, transactionFormed, stepFormed, planVerdict, accepted}
-use Rattle.plan.proofs.Bool.{and-fst, and-snd}
+use Rattle.plan.specs.Admission.{wellFormed, transactionFormed, stepFormed, planVerdict}
 use Rattle.plan.proofs.Words.{step-kind-low}
 use Rattle.plan.proofs.Accepted.{accepted-gives}
 use Rattle.operation.proofs.StepKinds.{step-writes}
-use Rattle.conflict.specs.Mask.{some}
 use Rattle.conflict.specs.Written.{cellGiven, stepWrites, written}
-use Rattle.conflict.proofs.Some.{some-here, some-past, some-append, some-swap, some-same}
 
 -- ---- one word
 

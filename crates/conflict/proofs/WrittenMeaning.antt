@@ -6,20 +6,19 @@ use mathlib.Core.List.{List, List·Memᴰ}
 use Prim.Native.Nat.{ℕ, _/_, _%_, _≤_, _<_}
 use lib.Dec.{ltb, eqb}
 use borrow.Author.Tests.{eq-eqb, lt-ltb, eqb-true}
+use Rattle.verdict.specs.Verdict.{accepted}
+use Rattle.lists.proofs.Laws.{and-fst, and-snd, and-true, every-member, member-some, some-member, index-some, some-index}
+use Rattle.lists.specs.Lists.{some}
 use Rattle.plan.specs.Plan.{Source, param, fixed, reads, writes, Step, cell, operand, Partitioning, byParam, unpartitioned}
 use Rattle.plan.specs.Plan.{Transaction, noTransaction, transactionAt}
 use Rattle.plan.specs.Decode.{planOf}
-use Rattle.plan.specs.Admission.{planVerdict, accepted}
-use Rattle.plan.proofs.Bool.{and-fst, and-snd, and-true}
-use Rattle.plan.proofs.Every.{every-member}
+use Rattle.plan.specs.Admission.{planVerdict}
 use Rattle.operation.specs.Operation.{Operation, transactionOf, valueOf, cellNumber, MayWrite}
 use Rattle.operation.specs.Admission.{IsOperation, rowInRange}
 use Rattle.operation.proofs.Admitted.{transaction-below, rows-passed}
 use Rattle.operation.proofs.Cells.{names-of}
-use Rattle.conflict.specs.Mask.{some}
 use Rattle.conflict.specs.Touch.{rowTouched}
 use Rattle.conflict.specs.Written.{rowGiven, cellGiven, stepWrites, written}
-use Rattle.conflict.proofs.Some.{member-some, some-member, index-some, some-index}
 use Rattle.conflict.proofs.Touching.{CellStep, sound-at, made, cell-parts, value-low, some-desk, few-desks}
 
 -- ---- a row that is given is given at some desk

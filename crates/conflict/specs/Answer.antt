@@ -1,8 +1,9 @@
 -- What the classifier answers, in the paper's classes, desks and numbers.
 use Prim.Native.Nat.{ℕ}
 use mathlib.Core.List.{List}
+use Rattle.verdict.specs.Verdict.{_then_, ifAccepted}
 use Rattle.plan.specs.Decode.{planOf}
-use Rattle.plan.specs.Admission.{Verdict, accepted, refused, planVerdict}
+use Rattle.plan.specs.Admission.{planVerdict}
 use Rattle.operation.specs.Operation.{operation, deskOf}
 use Rattle.operation.specs.Admission.{operationVerdict}
 use Rattle.conflict.specs.Class.{Class, free, local, global, classOf}
@@ -34,13 +35,9 @@ withDesk free d = isFree
 withDesk local d = isLocal d
 withDesk global d = isGlobal d
 
-abbrev pub unless : Verdict → Classified → Classified
-unless accepted a = a
-unless (refused question) a = isRefused question
-
 -- "Classifier: 1–4, 7, 8."
 unfoldable pub classifyResult : List ℕ → ℕ → List ℕ → Classified
 classifyResult ws k ps =
-    unless (planVerdict ws)
-    (unless (operationVerdict (planOf ws) (operation k ps))
-    (withDesk (classOf (planOf ws) (operation k ps)) (deskOf (planOf ws) (operation k ps))))
+    ifAccepted (planVerdict ws then operationVerdict (planOf ws) (operation k ps))
+    (withDesk (classOf (planOf ws) (operation k ps)) (deskOf (planOf ws) (operation k ps)))
+    isRefused

@@ -6,11 +6,10 @@ use mathlib.Core.Bool.{Bool, true, false, cond}
 use mathlib.Core.List.{List}
 use lib.Count.{ones}
 use lib.Dec.{eqb}
+use Rattle.lists.specs.Lists.{every, some}
 use Rattle.plan.specs.Plan.{reads, writes, Step, cell, operand, Transaction, Plan}
-use Rattle.plan.specs.Admission.{every}
 use Rattle.operation.specs.Operation.{Operation, transactionOf, deskOf, cellsNamed, MayRead, MayWrite, MayTouch}
 use Rattle.operation.specs.Admission.{IsOperation}
-use Rattle.conflict.specs.Mask.{some}
 use Rattle.conflict.specs.Touch.{deskMask}
 use Rattle.conflict.specs.Written.{written}
 

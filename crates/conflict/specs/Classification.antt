@@ -3,9 +3,10 @@ use mathlib.Core.Path.{_≡_}
 use mathlib.Core.Logic.{_↔_}
 use mathlib.Core.List.{List}
 use Prim.Native.Nat.{ℕ}
+use Rattle.verdict.specs.Verdict.{accepted}
 use Rattle.plan.specs.Plan.{Plan}
 use Rattle.plan.specs.Decode.{planOf}
-use Rattle.plan.specs.Admission.{planVerdict, accepted}
+use Rattle.plan.specs.Admission.{planVerdict}
 use Rattle.operation.specs.Operation.{Operation}
 use Rattle.operation.specs.Admission.{IsOperation}
 use Rattle.conflict.specs.Class.{OtherDesk, Free, Local, Global, WriteConflict, ReadsFrom, Class, free, local, global, classOf}

@@ -1,7 +1,6 @@
 -- A mask of desks as a number.
 use Prim.Native.Nat.{ℕ, zero, suc, _+_, _*_, _^_}
-use mathlib.Core.Bool.{Bool, true, false, _||_}
-use mathlib.Core.List.{List, [], _∷_}
+use mathlib.Core.Bool.{Bool, true, false}
 
 abbrev pub bit : Bool → ℕ
 bit true = 1
@@ -11,8 +10,3 @@ bit false = 0
 unfoldable pub maskOf : ℕ → (ℕ → Bool) → ℕ
 maskOf zero f = 0
 maskOf (suc n) f = bit (f n) * 2 ^ n + maskOf n f
-
--- f holds at an element
-unfoldable pub some : {A : Type 0} → (A → Bool) → List A → Bool
-some f [] = false
-some f (x ∷ xs) = f x || some f xs

@@ -6,10 +6,10 @@ use mathlib.Core.List.{List}
 use lib.Bits.{bitOr}
 use lib.ListN.{length, getD}
 use lib.Dec.{ltb, eqb}
+use Rattle.lists.specs.Lists.{tabulate, some}
 use Rattle.plan.specs.Plan.{Source, param, fixed, Step, cell, operand, Partitioning, byParam, unpartitioned}
 use Rattle.plan.specs.Plan.{Transaction, Plan}
-use Rattle.plan.specs.Table.{tabulate}
-use Rattle.conflict.specs.Mask.{maskOf, some}
+use Rattle.conflict.specs.Mask.{maskOf}
 
 -- with n desks, some operation of desk d gives this row to the source: with no partitioning desk 0 alone has operations; where the
 -- row is the partitioning parameter, row r is at desk r mod n; else every desk has one

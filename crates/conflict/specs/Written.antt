@@ -2,8 +2,8 @@
 use Prim.Native.Nat.{ℕ, _/_, _%_}
 use mathlib.Core.Bool.{Bool, true, false, _&&_}
 use lib.Dec.{eqb}
+use Rattle.lists.specs.Lists.{some}
 use Rattle.plan.specs.Plan.{Source, param, fixed, reads, writes, Step, cell, operand, Plan}
-use Rattle.conflict.specs.Mask.{some}
 
 -- some operation gives this row to the source: to a parameter any
 abbrev pub rowGiven : Source → ℕ → Bool

@@ -3,19 +3,20 @@ ghost use mathlib.Core.Path.{_≡_};
 ghost use mathlib.Core.Bool.{true};
 ghost use lib.Count.{ones};
 ghost use lib.ListN.{length, getD};
+ghost use Rattle.verdict.specs.Verdict.{accepted};
+ghost use Rattle.lists.specs.Lists.{some};
 ghost use Rattle.plan.specs.Plan.{writes};
 ghost use Rattle.plan.specs.Decode.{planOf};
-ghost use Rattle.plan.specs.Admission.{planVerdict, accepted};
+ghost use Rattle.plan.specs.Admission.{planVerdict};
 ghost use Rattle.plan.specs.Place.{StandsAt, transactionFrom};
 ghost use Rattle.operation.specs.Operation.{cellsNamed};
 ghost use Rattle.operation.specs.Admission.{parametersPass};
-ghost use Rattle.conflict.specs.Mask.{some};
 ghost use Rattle.conflict.specs.Touch.{maskTable};
 ghost use Rattle.conflict.specs.Class.{classBy, isWrite, oneDeskEach, isFree, isGlobal};
 ghost use Rattle.conflict.specs.Answer.{classOfCode, classifiedOf, classifyResult};
 use crate::mask;
 use crate::written;
-use plan::PlanAnswer;
+use verdict::Verdict;
 use word::fields;
 
 // The class of an operation, without its desk.
@@ -122,7 +123,7 @@ pub fn is_free(plan: &[u32], at: usize, params: [u32; 4]) -> bool
 pub fn classify(plan: &[u32], transaction: u32, params: [u32; 4]) -> ClassAnswer
     ensures { λ r. ⌜ classifiedOf r ≡ classifyResult (now (plan .entry)) transaction params ⌝ }
 {
-    if let PlanAnswer::Refused(question) = plan::read_plan(plan) {
+    if let Verdict::Refused(question) = plan::read_plan(plan) {
         return ClassAnswer::Refused(question);
     }
     if !operation::transaction_exists(plan, transaction) {

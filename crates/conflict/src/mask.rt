@@ -2,8 +2,9 @@
 ghost use mathlib.Core.Path.{_≡_};
 ghost use Prim.Native.Nat.{_≤_};
 ghost use lib.ListN.{length};
+ghost use Rattle.verdict.specs.Verdict.{accepted};
 ghost use Rattle.plan.specs.Decode.{planOf, stepOf, partBy};
-ghost use Rattle.plan.specs.Admission.{planVerdict, accepted};
+ghost use Rattle.plan.specs.Admission.{planVerdict};
 ghost use Rattle.conflict.specs.Mask.{maskOf};
 ghost use Rattle.conflict.specs.Touch.{stepTouches, Joined, maskTable};
 use crate::row;

@@ -1,14 +1,15 @@
 // Whether some operation of the plan may write a cell that one operation may read.
 ghost use mathlib.Core.Path.{_≡_};
 ghost use mathlib.Core.Bool.{true};
+ghost use Rattle.verdict.specs.Verdict.{accepted};
+ghost use Rattle.lists.specs.Lists.{some};
 ghost use Rattle.word.specs.Field.{kindOf, tableField, columnField};
 ghost use Rattle.plan.specs.Plan.{reads};
 ghost use Rattle.plan.specs.Decode.{planOf, stepOf, rowOf};
-ghost use Rattle.plan.specs.Admission.{planVerdict, accepted};
+ghost use Rattle.plan.specs.Admission.{planVerdict};
 ghost use Rattle.plan.specs.Place.{StandsAt, transactionFrom};
 ghost use Rattle.operation.specs.Operation.{cellsNamed};
 ghost use Rattle.operation.specs.Admission.{parametersPass};
-ghost use Rattle.conflict.specs.Mask.{some};
 ghost use Rattle.conflict.specs.Written.{cellGiven, stepWrites, written};
 use word::fields;
 

@@ -11,5 +11,6 @@ pub use passing::VisitAnswer;
 pub use passing::VisitResult;
 pub use routing::RequestAnswer;
 pub use routing::RequestResult;
+pub use verdict::Verdict;
 pub use words::request_on_words;
 pub use words::visit_on_words;

@@ -1,18 +1,20 @@
 -- The operation that a request asks for, by the words of the plan at its transaction's place: questions 7 and 8, desk, class and run.
 -- Assumes nothing.
 use mathlib.Core.Path.{_≡_, refl, _∙_, sym, ap, ap₂, subst}
-use mathlib.Core.Bool.{true, false, cond, false≢true}
+use mathlib.Core.Bool.{true, false}
 use mathlib.Core.List.{List}
 use Prim.Native.Nat.{ℕ, _<_}
 use native.Mathlib.Omega.{arith}
 use lib.ListN.{length, getD}
 use borrow.Author.Tests.{ltb-true}
+use Rattle.verdict.specs.Verdict.{Verdict, accepted, refused, ask, isAccepted}
+use Rattle.verdict.proofs.Verdicts.{ask-accepted, ask-then-accepted, isAccepted-accepted}
 use Rattle.word.specs.Field.{headDesks, headTransactions, partitioningField}
 use Rattle.plan.specs.Plan.{Transaction}
 use Rattle.plan.specs.Decode.{planOf, headOf, partBy}
-use Rattle.plan.specs.Admission.{Verdict, accepted, refused, planVerdict}
+use Rattle.plan.specs.Admission.{planVerdict}
 use Rattle.plan.specs.Place.{StandsAt, transactionPlace, transactionPlaces, transactionFrom}
-use Rattle.plan.proofs.Accepted.{yes-of, accepted-gives, transaction-count, desk-count}
+use Rattle.plan.proofs.Accepted.{accepted-gives, transaction-count, desk-count}
 use Rattle.plan.proofs.Places.{stands-at, transaction-is}
 use Rattle.plan.proofs.Placing.{place-found}
 use Rattle.operation.specs.Operation.{transactionOf, deskBy, deskOf}
@@ -22,8 +24,8 @@ use Rattle.conflict.specs.Class.{classBy, classOf}
 use Rattle.queue.specs.Queue.{paramsOf}
 use Rattle.queue.specs.declared.record.Request.{Request}
 use Rattle.desk.specs.Queueing.{operationOf}
-use Rattle.desk.specs.Admission.{isAccepted, Admitted}
-use Rattle.desk.specs.Place.{Place, standsAt, isRefused, placeBy, Placed}
+use Rattle.desk.specs.Admission.{Admitted}
+use Rattle.desk.specs.Place.{standsAt, placeRefused, placeBy, Placed}
 
 module _ (ws : List ℕ) (r : Request) where
   -- a transaction that exists is one of the plan's, of which there are at most 32
@@ -55,30 +57,31 @@ module _ (ws : List ℕ) (r : Request) where
 
     -- 8
     pub verdict-here : (ps : List ℕ) → ps ≡ paramsOf r
-        → operationVerdict (planOf ws) (operationOf r) ≡ cond (parametersPass (transactionFrom ws at) ps) accepted (refused 8)
+        → operationVerdict (planOf ws) (operationOf r) ≡ ask 8 (parametersPass (transactionFrom ws at) ps)
     unfolding operationVerdict
     verdict-here ps q = rw (h, transaction-here, q)
 
   -- 7 and 8 are answered with yes
   module _ (a : Admitted ws r) where
-    pub there : transactionExists (planOf ws) (r .transaction) ≡ true
+    pub admitted-exists : transactionExists (planOf ws) (r .transaction) ≡ true
     unfolding operationVerdict
-    there = yes-of (transactionExists (planOf ws) (r .transaction)) _ 7 (a .passed) .0
+    admitted-exists = ask-then-accepted 7 (transactionExists (planOf ws) (r .transaction)) _ (a .passed) .0
 
   module _ (a : Admitted ws r) (at : ℕ) (i : at ≡ transactionPlace ws (r .transaction)) where
     pub admitted-stands : StandsAt ws at
-    admitted-stands = stands (a .planned) (there a) at i
+    admitted-stands = stands (a .planned) (admitted-exists a) at i
 
     pub inside : at < length ws
     inside = let s = admitted-stands .room in omega arith
 
     pub transaction-asked : transactionOf (planOf ws) (operationOf r) ≡ transactionFrom ws at
-    transaction-asked = transaction-here (a .planned) (there a) at i
+    transaction-asked = transaction-here (a .planned) (admitted-exists a) at i
 
     module _ (ps : List ℕ) (q : ps ≡ paramsOf r) where
       pub parameters-passed : parametersPass (transactionFrom ws at) ps ≡ true
       parameters-passed =
-          yes-of (parametersPass (transactionFrom ws at) ps) _ 8 (sym (verdict-here (a .planned) (there a) at i ps q) ∙ a .passed) .0
+          ask-accepted 8 (parametersPass (transactionFrom ws at) ps)
+          (sym (verdict-here (a .planned) (admitted-exists a) at i ps q) ∙ a .passed)
 
       pub desk-asked : deskBy (headDesks (headOf ws)) (partBy (partitioningField (getD ws at 0))) ps ≡ deskOf (planOf ws) (operationOf r)
       desk-asked = rw (transaction-asked, desk-count ws, q)
@@ -92,11 +95,7 @@ module _ (ws : List ℕ) (r : Request) where
 -- ---- by the answer of questions 7 and 8
 
 found-at : (v : Verdict) (place at : ℕ) → standsAt at ≡ placeBy v place → (v ≡ accepted) × (at ≡ place)
-found-at accepted place at e = (refl, ap placed e)
-  where
-    placed : Place → ℕ
-    placed (standsAt n) = n
-    placed (isRefused n) = n
+found-at accepted place at e = (refl, (cc))
 found-at (refused question) place at e = let z : _≡_ {A = ℕ} 0 1 = cc in absurd (omega arith)
 
 pub placed-at : (ws : List ℕ) (r : Request) → planVerdict ws ≡ accepted → (at : ℕ)
@@ -105,19 +104,11 @@ placed-at ws r e at h =
     let f = found-at (operationVerdict (planOf ws) (operationOf r)) (transactionPlace ws (r .transaction)) at h in
     record { admitted = record { planned = e; passed = f .0 }; place = f .1 }
 
-pub found-lacking : (v : Verdict) (place question : ℕ) → isRefused question ≡ placeBy v place → v ≡ refused question
+pub found-lacking : (v : Verdict) (place question : ℕ) → placeRefused question ≡ placeBy v place → v ≡ refused question
 found-lacking accepted place question e = let z : _≡_ {A = ℕ} 0 1 = cc in absurd (omega arith)
-found-lacking (refused n) place question e = ap (λ (m : ℕ). refused m) (sym (ap number e))
-  where
-    number : Place → ℕ
-    number (standsAt n) = n
-    number (isRefused n) = n
-
-pub accepted-is : (v : Verdict) → isAccepted v ≡ true → v ≡ accepted
-accepted-is accepted e = refl
-accepted-is (refused question) e = absurd (false≢true e)
+found-lacking (refused n) place question e = cc
 
 -- a record that is an operation is admitted
 pub operation-admitted : (ws : List ℕ) (r : Request) → planVerdict ws ≡ accepted
     → isAccepted (operationVerdict (planOf ws) (operationOf r)) ≡ true → Admitted ws r
-operation-admitted ws r e h = record { planned = e; passed = accepted-is (operationVerdict (planOf ws) (operationOf r)) h }
+operation-admitted ws r e h = record { planned = e; passed = isAccepted-accepted (operationVerdict (planOf ws) (operationOf r)) h }

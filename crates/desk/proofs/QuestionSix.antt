@@ -1,20 +1,17 @@
 -- Question 6, by the tests that answer it: of one record, of the waiting records, and of the state.
 -- Assumes nothing.
-use mathlib.Core.Path.{_≡_, _∙_, sym, ap}
-use mathlib.Core.Bool.{Bool, true, false, _&&_, false≢true}
+use mathlib.Core.Path.{_≡_, _∙_, sym}
+use mathlib.Core.Bool.{true, false, false≢true}
 use mathlib.Core.List.{List}
-use Prim.Native.Nat.{ℕ, _+_, _%_, _≤_, _<_}
-use native.Mathlib.Omega.{arith}
+use Prim.Native.Nat.{ℕ, _%_, _≤_, _<_}
 use lib.Dec.{eqb}
-use lib.ListN.{length, getD, take, drop, length-take}
-use lib.Seq.{getD-take}
 use borrow.Author.Tests.{lt-ltb, le-ltb, lt-leb, le-leb, eq-eqb, ne-eqb}
+use Rattle.verdict.specs.Verdict.{accepted, refused}
+use Rattle.lists.specs.Lists.{every}
 use Rattle.word.specs.Field.{headDesks}
 use Rattle.plan.specs.Plan.{Plan}
 use Rattle.plan.specs.Decode.{planOf, headOf}
-use Rattle.plan.specs.Admission.{every, accepted, refused}
 use Rattle.plan.proofs.Accepted.{desk-count}
-use Rattle.plan.proofs.Every.{every-here, every-past}
 use Rattle.operation.specs.Operation.{deskOf}
 use Rattle.operation.specs.Admission.{operationVerdict}
 use Rattle.conflict.specs.Class.{isGlobal, classOf}
@@ -41,20 +38,6 @@ module _ (p : Plan) (desk : ℕ) (r : Request) where
     unfolding waitsHere
     by-desk g = rw (e, g)
 
--- ---- the first records of a list, from the i-th on
-
-module _ {A : Type 0} (f : A → Bool) (l : List A) (n : ℕ) (fits : n ≤ length l) where
-  taken : length (take n l) ≡ n
-  taken = simp length-take (omega arith)
-
-  pub first-here : (i : ℕ) (d : A) → i < n → every f (drop i (take n l)) ≡ (f (getD l i d) && every f (drop (i + 1) (take n l)))
-  first-here i d h =
-      every-here f (take n l) i d (omega (arith, taken))
-      ∙ ap (λ (x : A). f x && every f (drop (i + 1) (take n l))) (getD-take n l i d h)
-
-  pub first-past : every f (drop n (take n l)) ≡ true
-  first-past = every-past f (take n l) n (omega (arith, taken))
-
 -- ---- the state, with the records
 
 module _ (ws : List ℕ) (d : Desk) (records : List Request) where
@@ -76,11 +59,6 @@ module _ (ws : List ℕ) (d : Desk) (records : List Request) where
           → deskStands (planOf ws) d records ≡ every (waitsHere (planOf ws) (d .desk)) (waitingIn (d .waiting) records)
       unfolding deskStands
       by-records a = rw (desk-count ws, lt-ltb _ _ h, le-leb _ _ w, eq-eqb _ _ a)
-
--- where none waits, nothing is asked of the records
-pub none-waits : {A : Type 0} (f : A → Bool) (l : List A) (n : ℕ) → n ≡ 0 → every f (take n l) ≡ true
-unfolding every
-none-waits f l n e = rw e
 
 -- an answer for which no table was filled says nothing of one
 pub untabled-holds : (ws : List ℕ) (s : DeskCheck) → s .known ≡ false → TableHolds ws s

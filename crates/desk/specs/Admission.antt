@@ -1,23 +1,21 @@
 -- Questions 5 and 6: the buffers that every call at a desk is lent, and the desk's state.
 use Prim.Native.Nat.{ℕ, _%_}
 use mathlib.Core.Path.{_≡_}
-use mathlib.Core.Bool.{Bool, true, false, _&&_}
+use mathlib.Core.Bool.{Bool, _&&_}
 use mathlib.Core.List.{List}
 use lib.Dec.{ltb, leb, eqb}
 use lib.ListN.{length}
+use Rattle.verdict.specs.Verdict.{accepted, isAccepted}
+use Rattle.lists.specs.Lists.{every}
 use Rattle.plan.specs.Plan.{Plan}
 use Rattle.plan.specs.Decode.{planOf}
-use Rattle.plan.specs.Admission.{every, Verdict, accepted, refused, planVerdict}
+use Rattle.plan.specs.Admission.{planVerdict}
 use Rattle.operation.specs.Operation.{deskOf}
 use Rattle.operation.specs.Admission.{operationVerdict}
 use Rattle.conflict.specs.Class.{isGlobal, classOf}
 use Rattle.queue.specs.declared.record.Request.{Request}
 use Rattle.desk.specs.declared.state.Desk.{Desk}
 use Rattle.desk.specs.Queueing.{operationOf, waitingIn}
-
-abbrev pub isAccepted : Verdict → Bool
-isAccepted accepted = true
-isAccepted (refused question) = false
 
 -- the plan passes questions 1 to 4, and the request's operation 7 and 8
 pub record Admitted (ws : List ℕ) (r : Request) : Type 0 where

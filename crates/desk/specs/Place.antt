@@ -3,8 +3,8 @@ use Prim.Native.Nat.{ℕ}
 use mathlib.Core.Path.{_≡_}
 use mathlib.Core.Bool.{true}
 use mathlib.Core.List.{List}
+use Rattle.verdict.specs.Verdict.{Verdict, ifAccepted}
 use Rattle.plan.specs.Decode.{planOf}
-use Rattle.plan.specs.Admission.{Verdict, accepted, refused}
 use Rattle.plan.specs.Place.{transactionPlace}
 use Rattle.conflict.specs.Touch.{maskTable}
 use Rattle.queue.specs.declared.record.Request.{Request}
@@ -17,15 +17,14 @@ use Rattle.desk.specs.Admission.{Admitted}
 
 pub data Place : Type 0 where
   standsAt : ℕ → Place
-  isRefused : ℕ → Place
+  placeRefused : ℕ → Place
 
 abbrev pub placeOf : Located → Place
 placeOf (located.At at) = standsAt at
-placeOf (located.Refused question) = isRefused question
+placeOf (located.Refused question) = placeRefused question
 
 abbrev pub placeBy : Verdict → ℕ → Place
-placeBy accepted at = standsAt at
-placeBy (refused question) at = isRefused question
+placeBy v at = ifAccepted v (standsAt at) placeRefused
 
 -- the request's operation is admitted, and its transaction stands there
 pub record Placed (ws : List ℕ) (r : Request) (at : ℕ) : Type 0 where

@@ -1,7 +1,8 @@
 // The operation that a request asks for: questions 7 and 8, the place of its transaction, and there its desk and its run.
 ghost use mathlib.Core.Path.{_≡_};
+ghost use Rattle.verdict.specs.Verdict.{accepted};
 ghost use Rattle.plan.specs.Decode.{planOf};
-ghost use Rattle.plan.specs.Admission.{planVerdict, accepted};
+ghost use Rattle.plan.specs.Admission.{planVerdict};
 ghost use Rattle.plan.specs.Place.{transactionPlace, transactionPlaces};
 ghost use Rattle.operation.specs.Operation.{deskOf};
 ghost use Rattle.operation.specs.Admission.{operationVerdict};

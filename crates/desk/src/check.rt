@@ -2,8 +2,10 @@
 ghost use mathlib.Core.Path.{_≡_};
 ghost use mathlib.Core.Bool.{false};
 ghost use Prim.Native.Nat.{_≤_};
+ghost use Rattle.verdict.specs.Verdict.{accepted};
+ghost use Rattle.lists.specs.Lists.{every};
 ghost use Rattle.plan.specs.Decode.{planOf};
-ghost use Rattle.plan.specs.Admission.{every, planVerdict, accepted};
+ghost use Rattle.plan.specs.Admission.{planVerdict};
 ghost use Rattle.plan.specs.Place.{transactionPlaces};
 ghost use Rattle.conflict.specs.Touch.{maskTable};
 ghost use Rattle.desk.specs.Queueing.{waitingIn};

@@ -1,7 +1,7 @@
 // The state of a desk, and the new desk call.
 ghost use mathlib.Core.Path.{_≡_};
 ghost use Rattle.desk.specs.Answer.{openedOf, newDeskResult};
-use plan::PlanAnswer;
+use verdict::Verdict;
 use word::fields;
 
 // Which desk it is, how many requests wait, and the number of the visit that it awaits, which can pass a word.
@@ -21,7 +21,7 @@ pub enum DeskAnswer {
 pub fn new_desk(plan: &[u32], desk: u32) -> DeskAnswer
     ensures { λ r. ⌜ openedOf r ≡ newDeskResult (now (plan .entry)) desk ⌝ }
 {
-    if let PlanAnswer::Refused(question) = plan::read_plan(plan) {
+    if let Verdict::Refused(question) = plan::read_plan(plan) {
         return DeskAnswer::Refused(question);
     }
     if plan[0] / fields::DESKS % 16 <= desk {

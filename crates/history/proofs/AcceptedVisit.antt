@@ -4,38 +4,36 @@
 use Prim.Native.Nat.{ℕ, zero, suc, _*_, _≤_, _<_}
 use mathlib.Core.Path.{_≡_, refl, sym, _∙_, ap}
 use mathlib.Core.Logic.{inl, inr, ⊎-elim}
-use mathlib.Core.Bool.{Bool, true, _&&_, cond}
+use mathlib.Core.Bool.{Bool, true, _&&_}
 use mathlib.Core.List.{List, [], _∷_, _++_, List·Memᴰ, List·Memᴰ·head, List·Memᴰ·tail, List·Memᴰ·not-nil}
 use native.Mathlib.Omega.{arith}
 use lib.Dec.{eqb}
 use lib.ListN.{length, getD, set, take, drop}
 use lib.Seq.{take-append-seam, drop-append-seam, length-take-le, getD-take, take-take}
 use borrow.Author.Tests.{eqb-true}
+use Rattle.verdict.specs.Verdict.{Verdict, accepted, refused, isAccepted}
+use Rattle.verdict.proofs.Verdicts.{ask-then-accepted, then-accepted, isAccepted-accepted}
+use Rattle.lists.specs.Lists.{overwritten}
+use Rattle.lists.proofs.Laws.{and-fst, and-snd, every-member, mem-All}
 use Rattle.plan.specs.Plan.{Plan}
 use Rattle.plan.specs.Decode.{planOf}
-use Rattle.plan.specs.Admission.{Verdict, accepted, refused, planVerdict}
-use Rattle.plan.proofs.Bool.{and-fst, and-snd}
-use Rattle.plan.proofs.Every.{every-member}
-use Rattle.plan.proofs.Accepted.{yes-of}
+use Rattle.plan.specs.Admission.{planVerdict}
 use Rattle.operation.specs.Admission.{operationVerdict}
 use Rattle.operation.specs.Run.{Store, applyUpdate, run}
-use Rattle.token.specs.Frame.{overwritten}
 use Rattle.token.specs.Admission.{frameVerdict}
 use Rattle.token.proofs.OneWord.{one-word}
-use Rattle.token.proofs.Verdicts.{both, read-after}
+use Rattle.token.proofs.Verdicts.{read-after}
 use Rattle.queue.specs.Queue.{noRequest}
 use Rattle.queue.specs.declared.record.Request.{Request}
 use Rattle.desk.specs.declared.state.Desk.{Desk}
 use Rattle.desk.specs.Queueing.{operationOf, waitingIn}
-use Rattle.desk.specs.Admission.{isAccepted, deskBuffersFit, waitsHere, deskStands}
-use Rattle.desk.proofs.Asked.{accepted-is}
+use Rattle.desk.specs.Admission.{deskBuffersFit, waitsHere, deskStands}
 use Rattle.passing.specs.Admission.{visitBuffersFit}
 use Rattle.passing.specs.Visit.{forwarded, Visited, caughtUp, outgoingFrame, visitedBy, visitVerdict, visitResult}
 use Rattle.passing.specs.Waiting.{runAll, Answered, repliesOf, replyWords, repliesWords}
 use Rattle.passing.specs.Running.{replyTo, allReplies}
 use Rattle.passing.proofs.WaitingRuns.{replies-length}
 use Rattle.passing.proofs.OwnUpdates.{replies-count}
-use Rattle.serial.proofs.Lists.{mem-All}
 use Rattle.history.specs.History.{Holding}
 use Rattle.history.specs.Answering.{WaitsAt, replyPart, visitResultAt, storeBefore, AnswersWaiting, VisitAnswersWaiting}
 use Rattle.history.specs.AcceptedVisit.{RecordsFit, Sends, VisitFrameReads, ChangedWordRefused}
@@ -92,7 +90,7 @@ module _ (plan : List ℕ) (h : Holding) (frame out replies : List ℕ) where
 
     plan-of : planVerdict plan ≡ accepted
     unfolding visitVerdict
-    plan-of = both (planVerdict plan) _ verdict-of .0
+    plan-of = then-accepted (planVerdict plan) _ verdict-of .0
 
     abbrev fit : Bool
     fit = deskBuffersFit (h .cells) (h .queue) && visitBuffersFit out replies
@@ -100,10 +98,8 @@ module _ (plan : List ℕ) (h : Holding) (frame out replies : List ℕ) where
     rest-of : (fit ≡ true) × (deskStands (planOf plan) d (h .queue) ≡ true)
     unfolding visitVerdict
     rest-of =
-        let a = both (planVerdict plan) _ verdict-of .1 in
-        let b = both (cond fit accepted (refused 5)) _ a in
-        let c = both (cond (deskStands (planOf plan) d (h .queue)) accepted (refused 6)) _ (b .1) in
-        (yes-of fit accepted 5 (b .0) .0, yes-of (deskStands (planOf plan) d (h .queue)) accepted 6 (c .0) .0)
+        let a = then-accepted (planVerdict plan) _ verdict-of .1 in
+        let b = ask-then-accepted 5 fit _ a in (b .0, ask-then-accepted 6 (deskStands (planOf plan) d (h .queue)) _ (b .1) .0)
 
     six-of : Six plan h
     six-of = six plan h (rest-of .1)
@@ -166,7 +162,7 @@ module _ (plan : List ℕ) (h : Holding) (frame out replies : List ℕ) where
         record {
           four = refl;
           words = fit r (mem-take (d .waiting) (h .queue) r m);
-          passes = accepted-is (operationVerdict (planOf plan) (operationOf r))
+          passes = isAccepted-accepted (operationVerdict (planOf plan) (operationOf r))
               (and-fst (isAccepted (operationVerdict (planOf plan) (operationOf r))) _ e);
         }
 

@@ -7,9 +7,10 @@ use mathlib.Core.List.{List, [], _∷_, map}
 use native.Mathlib.Nat.{zero-add}
 use native.Mathlib.Omega.{arith}
 use lib.ListN.{length, getD}
+use Rattle.verdict.specs.Verdict.{accepted}
 use Rattle.plan.specs.Plan.{Plan}
 use Rattle.plan.specs.Decode.{planOf}
-use Rattle.plan.specs.Admission.{planVerdict, accepted}
+use Rattle.plan.specs.Admission.{planVerdict}
 use Rattle.operation.specs.Operation.{Operation}
 use Rattle.operation.specs.Run.{Store}
 use Rattle.conflict.specs.Class.{Class, JustOne}

@@ -6,15 +6,16 @@ use mathlib.Core.List.{[], _∷_, List·Memᴰ·head, List·Memᴰ·tail}
 use lib.Count.{ones}
 use native.Mathlib.Omega.{arith}
 use lib.ListN.{getD}
+use Rattle.lists.specs.Lists.{every, some}
 use Rattle.word.specs.Reserved.{reservedZero, sourceField}
 use Rattle.plan.specs.Decode.{stepOf, partBy, accessBy, actionBy, transactionsOf, planOf}
-use Rattle.plan.specs.Admission.{every, hasHead, countsInRange, transactionFormed, stepFormed, sourceExists, stepExists, partExists}
+use Rattle.plan.specs.Admission.{hasHead, countsInRange, transactionFormed, stepFormed, sourceExists, stepExists, partExists}
 use Rattle.plan.specs.Admission.{parametersExist, transactionsVerdict, planVerdict}
 use Rattle.plan.specs.Admission as plans
 use Rattle.operation.specs.Operation.{cellsNamed}
 use Rattle.operation.specs.Admission.{transactionExists, unusedZero, rowInRange, parametersPass, operationVerdict}
 use Rattle.operation.specs.Run.{applyUpdate, act, runFrom}
-use Rattle.conflict.specs.Mask.{maskOf, some}
+use Rattle.conflict.specs.Mask.{maskOf}
 use Rattle.conflict.specs.Touch.{rowTouched, cellTouched, stepTouches, deskMask}
 use Rattle.conflict.specs.Written.{cellGiven, stepWrites, written}
 use Rattle.conflict.specs.Class.{classBy}

@@ -6,12 +6,13 @@ use mathlib.Core.List.{List, [], _∷_, map}
 use native.Mathlib.Nat.{add-zero}
 use native.Mathlib.Omega.{arith}
 use lib.ListN.{length, getD}
+use Rattle.verdict.specs.Verdict.{Verdict, accepted, refused}
+use Rattle.lists.specs.Lists.{overwritten}
 use Rattle.plan.specs.Decode.{planOf}
-use Rattle.plan.specs.Admission.{Verdict, accepted, refused, planVerdict}
+use Rattle.plan.specs.Admission.{planVerdict}
 use Rattle.operation.specs.Operation.{Operation}
 use Rattle.operation.specs.Run.{Reply}
 use Rattle.conflict.specs.Class.{Class}
-use Rattle.token.specs.Frame.{overwritten}
 use Rattle.routing.specs.Request.{recordOf, requestResult}
 use Rattle.routing.specs.Request as asked
 use Rattle.passing.specs.Visit.{Visited, visitedBy, visitVerdict, visitResult}

@@ -9,22 +9,22 @@ use lib.Dec.{ltb, eqb}
 use lib.ListN.{length}
 use lib.Seq.{getD-set-same, getD-set-other}
 use borrow.Author.Tests.{ltb-true, eqb-true}
+use Rattle.verdict.specs.Verdict.{Verdict, accepted, refused}
+use Rattle.verdict.proofs.Verdicts.{then-accepted, ask-then-accepted}
+use Rattle.lists.proofs.Laws.{and-snd}
 use Rattle.plan.specs.Decode.{planOf}
-use Rattle.plan.specs.Admission.{Verdict, accepted, refused, planVerdict}
-use Rattle.plan.proofs.Bool.{and-snd}
-use Rattle.plan.proofs.Accepted.{yes-of}
+use Rattle.plan.specs.Admission.{planVerdict}
 use Rattle.operation.specs.Operation.{deskOf}
 use Rattle.conflict.specs.Class.{Class, free, local, global, classOf}
-use Rattle.token.proofs.Verdicts.{both}
 use Rattle.queue.specs.Queue.{noRequest}
 use Rattle.queue.specs.declared.record.Request.{Request}
 use Rattle.desk.specs.Queueing.{operationOf}
 use Rattle.desk.specs.Admission.{deskBuffersFit}
 use Rattle.routing.specs.Request.{Requested, served, routed, enqueued, unchanged, requestVerdict, requestResult}
-use Rattle.routing.specs.Request as asked
 use Rattle.passing.specs.Visit.{visitedBy, visitVerdict, visitResult}
 use Rattle.history.specs.History.{Holding, requested, visited, passageRefused, holdingAfter}
 use Rattle.history.specs.Answering.{WaitsAt}
+use Rattle.routing.specs.Request as asked
 
 module _ (plan : List ℕ) (h : Holding) where
   -- ---- a request
@@ -77,10 +77,9 @@ module _ (plan : List ℕ) (h : Holding) where
     size-of : requestVerdict plan (h .state) (h .cells) (h .queue) r ≡ accepted → length (h .queue) ≡ 32
     unfolding requestVerdict deskBuffersFit
     size-of e =
-        let a = both (planVerdict plan) _ e .1 in
-        let b = both (cond (deskBuffersFit (h .cells) (h .queue)) accepted (refused 5)) _ a .0 in
+        let a = then-accepted (planVerdict plan) _ e .1 in
         eqb-true (length (h .queue)) 32
-        (and-snd (eqb (length (h .cells)) 1024) _ (yes-of (deskBuffersFit (h .cells) (h .queue)) accepted 5 b .0))
+        (and-snd (eqb (length (h .cells)) 1024) _ (ask-then-accepted 5 (deskBuffersFit (h .cells) (h .queue)) _ a .0))
 
     pub request-joined : Joined (requestResult plan (h .state) (h .cells) (h .queue) r)
     unfolding requestResult

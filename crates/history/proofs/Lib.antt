@@ -1,4 +1,5 @@
 pub mod Operations
+pub mod Transactions
 pub mod Protocol
 pub mod ProtocolLaws
 pub mod Outgoing
@@ -21,3 +22,6 @@ pub mod AcceptedVisit
 pub mod Joining
 pub mod Answered
 pub mod Course
+pub mod Classes
+pub mod Example
+pub mod ExampleHistory

@@ -5,8 +5,9 @@ use Prim.Native.Nat.{ℕ, _≤_}
 use mathlib.Core.Path.{_≡_, refl, sym, _∙_, ap, ap₂, subst}
 use mathlib.Core.Bool.{Bool}
 use mathlib.Core.List.{List, [], _∷_, _++_, map}
+use Rattle.verdict.specs.Verdict.{accepted}
 use Rattle.plan.specs.Decode.{planOf}
-use Rattle.plan.specs.Admission.{planVerdict, accepted}
+use Rattle.plan.specs.Admission.{planVerdict}
 use Rattle.plan.proofs.Accepted.{accepted-gives, desk-count}
 use Rattle.operation.specs.Operation.{Operation}
 use Rattle.operation.specs.Run.{Update, Reply}

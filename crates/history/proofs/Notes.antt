@@ -6,18 +6,20 @@ use mathlib.Core.Bool.{Bool, true, false, cond, true≢false}
 use mathlib.Core.List.{List, [], _∷_, _++_, map}
 use lib.Dec.{eqb}
 use lib.ListN.{length, getD}
+use Rattle.verdict.specs.Verdict.{Verdict, accepted, refused}
+use Rattle.verdict.proofs.Verdicts.{then-accepted, ask-then-accepted}
+use Rattle.lists.specs.Lists.{All}
+use Rattle.lists.proofs.Laws.{All-append}
 use Rattle.plan.specs.Plan.{Plan}
 use Rattle.plan.specs.Decode.{planOf}
-use Rattle.plan.specs.Admission.{Verdict, accepted, refused, planVerdict}
+use Rattle.plan.specs.Admission.{planVerdict}
 use Rattle.operation.specs.Operation.{Operation, deskOf}
-use Rattle.token.proofs.Verdicts.{both}
 use Rattle.conflict.specs.Class.{Class, free, local, global}
 use Rattle.queue.specs.declared.record.Request.{Request}
 use Rattle.desk.specs.declared.state.Desk.{Desk}
 use Rattle.desk.specs.Queueing.{operationOf}
 use Rattle.desk.specs.Admission.{deskBuffersFit, deskStands}
 use Rattle.routing.specs.Request.{recordOf, served, requestVerdict, requestResult}
-use Rattle.serial.proofs.Lists.{All, All-append}
 use Rattle.history.specs.History.{Holding, Call, request, visit, deskCalled, responseRefused, isRefused, outcomeAt, stepAt, outcomes}
 use Rattle.history.specs.History.{written, WordsFit, Proper}
 use Rattle.history.specs.SerialRun.{Serial, noteNothing, noteRun, noteJoin, noteRequest, ranked, noteVisit, note, noteAll}
@@ -83,9 +85,9 @@ module _ (ws : List ℕ) where
   unfolding requestResult requestVerdict
   accepted-runs h client k ps words e =
       let v = not-refused (h .state) (h .cells) (h .queue) (recordOf client k ps) _ e in
-      let a = both (planVerdict ws) _ v .1 in
-      let b = both (cond (deskBuffersFit (h .cells) (h .queue)) accepted (refused 5)) _ a .1 in
-      let c = both (cond (deskStands (planOf ws) (h .state) (h .queue)) accepted (refused 6)) _ b .1 in
+      let a = then-accepted (planVerdict ws) _ v .1 in
+      let b = ask-then-accepted 5 (deskBuffersFit (h .cells) (h .queue)) _ a .1 in
+      let c = ask-then-accepted 6 (deskStands (planOf ws) (h .state) (h .queue)) _ b .1 in
       record-runs ws client k ps words c
 
   module _ (class : Operation → Class) where

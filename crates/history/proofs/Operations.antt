@@ -8,15 +8,15 @@ use native.Mathlib.Omega.{arith}
 use lib.Dec.{ltb, eqb}
 use lib.ListN.{length, getD}
 use borrow.Author.Tests.{ltb-true, lt-ltb, eqb-true, eq-eqb}
+use Rattle.verdict.specs.Verdict.{isAccepted}
+use Rattle.verdict.proofs.Verdicts.{isAccepted-accepted}
+use Rattle.lists.specs.Lists.{every}
+use Rattle.lists.proofs.Laws.{and-fst, and-snd, and-true}
 use Rattle.plan.specs.Plan.{Plan}
-use Rattle.plan.specs.Admission.{every}
-use Rattle.plan.proofs.Bool.{and-fst, and-snd, and-true}
 use Rattle.operation.specs.Operation.{Operation}
 use Rattle.operation.specs.Admission.{IsOperation, operationVerdict}
 use Rattle.queue.specs.declared.record.Request.{Request}
 use Rattle.desk.specs.Queueing.{operationOf}
-use Rattle.desk.specs.Admission.{isAccepted}
-use Rattle.desk.proofs.Asked.{accepted-is}
 
 -- the record's operation is one of the plan's
 abbrev pub Runs : Plan → Request → Type 0
@@ -47,7 +47,7 @@ module _ (p : Plan) (o : Operation) where
       record {
         four = eqb-true (length (o .params)) 4 (and-fst _ _ e);
         words = each-word (o .params) (and-fst (every isWord (o .params)) _ r);
-        passes = accepted-is (operationVerdict p o) (and-snd (every isWord (o .params)) _ r);
+        passes = isAccepted-accepted (operationVerdict p o) (and-snd (every isWord (o .params)) _ r);
       }
 
   pub decided-of-is : IsOperation p o → isOperation p o ≡ true

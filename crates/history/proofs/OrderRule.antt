@@ -7,13 +7,11 @@ use mathlib.Core.Bool.{Bool, true, false, cond}
 use mathlib.Core.List.{List, [], _∷_, _++_, map, append-nil, Perm, Perm·refl, Perm·trans, Perm·symm, Perm·cons, Perm·swap}
 use mathlib.Core.List.{Perm·append-right, perm-middle}
 use lib.ListN.{length, getD, List·getD-map, length-map}
+use Rattle.lists.specs.Lists.{All, Pairs}
+use Rattle.lists.proofs.Laws.{Pairs-getD}
 use Rattle.serial.specs.Frame.{Frame, startFrame}
-use Rattle.serial.specs.Desk as desk
 use Rattle.serial.specs.System.{System}
 use Rattle.serial.specs.History.{answerAt, stepAt, newDesks, Proper}
-use Rattle.serial.specs.Order as protocolOrder
-use Rattle.serial.proofs.Lists.{All, Pairs, Pairs-getD}
-use Rattle.serial.proofs.SerialOrder as protocolRule
 use Rattle.history.specs.Order.{Slot, globalRun, immediateRun, Finished, before, insert, sortOnto}
 use Rattle.history.specs.OrderRule.{OrderPermutes, Precedes, InOrder, OrderFollowsRule}
 use Rattle.history.proofs.Protocol.{system}
@@ -21,6 +19,9 @@ use Rattle.history.proofs.View.{callSeen}
 use Rattle.history.proofs.SerialSeen.{slotSeen, finishedSeen}
 use Rattle.history.proofs.Places.{of-means}
 use Rattle.history.proofs.Claim.{refusals, ordered, proper-seen, order-seen}
+use Rattle.serial.specs.Desk as desk
+use Rattle.serial.specs.Order as protocolOrder
+use Rattle.serial.proofs.SerialOrder as protocolRule
 
 -- ---- a permutation
 

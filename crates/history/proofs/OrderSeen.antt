@@ -5,6 +5,7 @@ use mathlib.Core.Path.{_≡_, refl, _∙_, ap, ap₂}
 use mathlib.Core.Bool.{Bool, true, false, cond}
 use mathlib.Core.List.{List, [], _∷_, _++_, map}
 use lib.Dec.{eqb}
+use Rattle.lists.specs.Lists.{All}
 use Rattle.plan.specs.Plan.{Plan}
 use Rattle.plan.specs.Decode.{planOf}
 use Rattle.operation.specs.Operation.{Operation}
@@ -15,7 +16,6 @@ use Rattle.passing.specs.Waiting.{Answered}
 use Rattle.serial.specs.System.{System}
 use Rattle.serial.specs.Order as order
 use Rattle.serial.specs.SerialRun as run
-use Rattle.serial.proofs.Lists.{All}
 use Rattle.serial.proofs.SerialOrder.{Ranged}
 use Rattle.history.specs.Order.{Finished, before, insert, sortOnto}
 use Rattle.history.specs.SerialRun.{ranOne, replyTo, storeAfter, due}

@@ -6,21 +6,21 @@ use mathlib.Core.Bool.{true}
 use mathlib.Core.List.{List, [], _∷_, _++_, map}
 use native.Mathlib.Omega.{arith}
 use lib.ListN.{length}
+use Rattle.verdict.specs.Verdict.{accepted, isAccepted}
+use Rattle.lists.specs.Lists.{every, All}
+use Rattle.lists.proofs.Laws.{and-true}
 use Rattle.plan.specs.Plan.{Plan}
 use Rattle.plan.specs.Decode.{planOf}
-use Rattle.plan.specs.Admission.{every, planVerdict, accepted}
-use Rattle.plan.proofs.Bool.{and-true}
+use Rattle.plan.specs.Admission.{planVerdict}
 use Rattle.operation.specs.Run.{Store}
 use Rattle.token.specs.Frame.{SentUpdate, sent}
 use Rattle.token.specs.WellFormed.{WellFormed}
 use Rattle.token.specs.Forward.{foreign}
 use Rattle.token.proofs.Foreign.{forwarded-fits}
 use Rattle.queue.specs.declared.record.Request.{Request}
-use Rattle.desk.specs.Admission.{isAccepted}
 use Rattle.passing.specs.Waiting.{updatesOf}
 use Rattle.passing.specs.Running.{isOperation}
 use Rattle.passing.proofs.OwnUpdates.{updates-count, all-fit}
-use Rattle.serial.proofs.Lists.{All}
 use Rattle.history.proofs.Operations.{Runs}
 
 -- requests that run pass questions 7 and 8

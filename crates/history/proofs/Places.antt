@@ -8,8 +8,8 @@ use mathlib.Core.Bool.{Bool, true, false, cond, false≢true}
 use native.Mathlib.Omega.{arith}
 use lib.Dec.{ltb, eqb}
 use borrow.Author.Tests.{ltb-true, leb-true, eqb-true, lt-ltb, le-leb, eq-eqb, ne-eqb}
+use Rattle.lists.proofs.Laws.{by-same, by-less, ltb-yes, ltb-no}
 use Rattle.serial.specs.Order as order
-use Rattle.serial.proofs.Tests.{by-same, by-less, ltb-yes, ltb-no}
 use Rattle.serial.proofs.SerialOrder.{Ranged, place-before, place-same, precedes-once}
 use Rattle.history.specs.Order.{Slot, globalRun, immediateRun, before}
 use Rattle.history.proofs.SerialSeen.{slotSeen}

@@ -2,23 +2,21 @@
 -- Assumes nothing.
 use Prim.Native.Nat.{ℕ}
 use mathlib.Core.Bool.{Bool, true, false, _&&_, cond}
-use mathlib.Core.List.{List}
+use mathlib.Core.List.{List, [], _∷_, _++_}
 use lib.Dec.{ltb, eqb}
 use lib.ListN.{length}
+use Rattle.verdict.specs.Verdict.{Verdict, ask, _then_, isAccepted}
 use Rattle.plan.specs.Plan.{Plan}
 use Rattle.plan.specs.Decode.{planOf}
-use Rattle.plan.specs.Admission.{Verdict, accepted, refused}
 use Rattle.operation.specs.Operation.{Operation, deskOf, MayRead, MayWrite}
 use Rattle.operation.specs.Admission.{IsOperation, operationVerdict}
 use Rattle.operation.specs.Run.{Store, Reply, Outcome, declined, run}
 use Rattle.conflict.specs.Class.{Class, free, local, global}
-use Rattle.token.specs.Admission.{andThen, frameVerdict}
-use Rattle.desk.specs.Admission.{isAccepted}
+use Rattle.token.specs.Admission.{frameVerdict}
 use Rattle.passing.specs.Admission.{visitBuffersFit, turnVerdict}
 use Rattle.serial.specs.Desk.{Desk, Call, request, visit}
 use Rattle.serial.specs.System.{System}
 use Rattle.serial.specs.System as protocol
-use Rattle.serial.proofs.Example.{joinLast}
 use Rattle.history.proofs.Operations.{isOperation}
 
 -- what a visit brings besides the visit's number and the updates
@@ -53,13 +51,14 @@ module _ (ws : List ℕ) (class : Operation → Class) (records : ℕ → ℕ) w
 
   -- 5, 7 and 8. Question 6 holds throughout a history
   abbrev pub requestAsked : Store → ℕ → Operation → Verdict
-  requestAsked s p o = andThen (cond (sizesFit s p) accepted (refused 5)) (operationVerdict thePlan o)
+  requestAsked s p o = ask 5 (sizesFit s p) then operationVerdict thePlan o
 
   -- 5 and 10 to 15
   abbrev pub visitAsked : Store → ℕ → ℕ → Brought → Verdict
   visitAsked s p awaited x =
-      andThen (cond (sizesFit s p && visitBuffersFit (x .out) (x .replies)) accepted (refused 5))
-      (andThen (frameVerdict (thePlan .desks) (x .frame)) (turnVerdict (record { desk = p; waiting = 0; awaited = awaited }) (x .frame)))
+      ask 5 (sizesFit s p && visitBuffersFit (x .out) (x .replies))
+      then frameVerdict (thePlan .desks) (x .frame)
+      then turnVerdict (record { desk = p; waiting = 0; awaited = awaited }) (x .frame)
 
   abbrev pub admission : Desk Operation → Call Operation Brought → Bool
   admission d (request p r x) =
@@ -80,6 +79,6 @@ module _ (ws : List ℕ) (class : Operation → Class) (records : ℕ → ℕ) w
         Writes = λ o c. IsOperation thePlan o × MayWrite thePlan o c;
         reply = λ o s. ran o s .reply;
         update = λ o s. ran o s .update;
-        join = joinLast;
+        join = λ q r. q ++ (r ∷ []);
         admits = admission;
       }

@@ -6,9 +6,10 @@ use mathlib.Core.Logic.{inl, inr}
 use mathlib.Core.Bool.{Bool, true, false, cond}
 use mathlib.Core.List.{List}
 use lib.Dec.{eqb, eqb→eq}
+use Rattle.verdict.specs.Verdict.{accepted}
+use Rattle.lists.proofs.Laws.{and-fst, T-true, true-T, cons-in-snoc, snoc-in-cons, by-same}
 use Rattle.plan.specs.Decode.{planOf}
-use Rattle.plan.specs.Admission.{planVerdict, accepted}
-use Rattle.plan.proofs.Bool.{and-fst}
+use Rattle.plan.specs.Admission.{planVerdict}
 use Rattle.operation.specs.Operation.{Operation, transactionOf, deskOf, MayRead, MayWrite, MayTouch}
 use Rattle.operation.specs.Admission.{IsOperation}
 use Rattle.operation.specs.Run.{Store, Outcome, declined, run}
@@ -19,10 +20,8 @@ use Rattle.conflict.proofs.Touching.{some-desk}
 use Rattle.serial.specs.Store.{Same, Within}
 use Rattle.serial.specs.System.{Laws, Touches}
 use Rattle.serial.specs.System as protocol
-use Rattle.serial.proofs.Tests.{by-same, T-true, true-T}
 use Rattle.serial.proofs.Stores.{Within-part}
-use Rattle.serial.proofs.Transactions.{run-update-writes}
-use Rattle.serial.proofs.Example.{last-keeps, last-only}
+use Rattle.history.proofs.Transactions.{run-update-writes}
 use Rattle.history.specs.SerialRun.{Is, Classifies}
 use Rattle.history.proofs.Operations.{isOperation, is-of-decided}
 use Rattle.history.proofs.Protocol.{classSeen, ran, system}
@@ -96,8 +95,8 @@ module _ (ws : List ℕ) (accept : planVerdict ws ≡ accepted) (class : Operati
         free-writes = λ o e c w. means o free (w .0) (seen-free (class o) e) .0 c (w .1);
         free-reads = λ o e c r o′ w. means o free (r .0) (seen-free (class o) e) .1 c (r .1) o′ (w .0) (w .1);
         local-alone = λ o e c w o′ t. alone o (seen-local (class o) e) c w o′ (touch-of o′ c t);
-        join-keeps = last-keeps;
-        join-only = last-only;
+        join-keeps = cons-in-snoc;
+        join-only = snoc-in-cons;
         awaited-only = λ d p f x t.
             eqb→eq (f .number) (d .awaited) (true-T _ (and-fst (eqb (f .number) (d .awaited)) _ (T-true _ t)));
       }

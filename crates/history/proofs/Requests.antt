@@ -10,27 +10,26 @@ use lib.Dec.{ltb, eqb}
 use lib.ListN.{length, getD, set, take, length-map, length-set}
 use lib.Seq.{take-suc-set, length-take-le}
 use borrow.Author.Tests.{ltb-true, eqb-true, le-leb, eq-eqb}
+use Rattle.verdict.specs.Verdict.{Verdict, accepted, refused, isAccepted}
+use Rattle.verdict.proofs.Verdicts.{ask-then-accepted}
+use Rattle.lists.specs.Lists.{every, All}
+use Rattle.lists.proofs.Laws.{and-snd, and-true, every-last, All-append}
 use Rattle.plan.specs.Decode.{planOf}
-use Rattle.plan.specs.Admission.{every, Verdict, accepted, refused, planVerdict}
-use Rattle.plan.proofs.Bool.{and-snd, and-true}
-use Rattle.plan.proofs.Accepted.{yes-of}
-use Rattle.plan.proofs.Every.{every-last}
+use Rattle.plan.specs.Admission.{planVerdict}
 use Rattle.operation.specs.Operation.{Operation, deskOf}
 use Rattle.operation.specs.Admission.{IsOperation, operationVerdict}
 use Rattle.operation.specs.Run.{Store, Outcome, Reply}
-use Rattle.token.proofs.Verdicts.{both}
 use Rattle.conflict.specs.Class.{Class, free, local, global, classOf}
 use Rattle.conflict.proofs.Classes.{class-free, class-local, class-global}
 use Rattle.queue.specs.declared.record.Request.{Request}
 use Rattle.desk.specs.declared.state.Desk.{Desk}
 use Rattle.desk.specs.Queueing.{operationOf, waitingIn}
-use Rattle.desk.specs.Admission.{isAccepted, deskBuffersFit, waitsHere, deskStands}
+use Rattle.desk.specs.Admission.{deskBuffersFit, waitsHere, deskStands}
 use Rattle.routing.specs.Request.{Requested, recordOf, served, routed, ranNow, enqueued, unchanged, requestVerdict, requestResult}
 use Rattle.routing.specs.Request as asked
 use Rattle.serial.specs.System.{System}
 use Rattle.serial.specs.Desk as desk
 use Rattle.serial.specs.Step as step
-use Rattle.serial.proofs.Lists.{All, All-append}
 use Rattle.history.specs.History.{Holding, requested, holdingAfter}
 use Rattle.history.specs.SerialRun.{Is, Classifies}
 use Rattle.history.proofs.Operations.{Runs}
@@ -93,8 +92,8 @@ module _ (ws : List ℕ) (accept : planVerdict ws ≡ accepted) (class : Operati
 
   pub passes : asking ≡ accepted → Passes
   passes e =
-      let b = both (cond (sizesFit ws class records (h .cells) (d .desk)) accepted (refused 5)) _ (sym asking-is ∙ e) in
-      let s = yes-of (sizesFit ws class records (h .cells) (d .desk)) accepted 5 (b .0) .0 in
+      let b = ask-then-accepted 5 (sizesFit ws class records (h .cells) (d .desk)) _ (sym asking-is ∙ e) in
+      let s = b .0 in
       record {
         runs = record-runs ws client k ps words (b .1);
         whole = ok .size ∙ eqb-true (records (d .desk)) 32 (and-snd (eqb (length (h .cells)) 1024) _ s);

@@ -5,6 +5,7 @@ use mathlib.Core.Path.{_≡_, refl, sym, _∙_, ap, ap₂}
 use mathlib.Core.Bool.{Bool, true, false, cond}
 use mathlib.Core.List.{List, [], _∷_, map}
 use lib.Dec.{eqb}
+use Rattle.lists.specs.Lists.{All}
 use Rattle.plan.specs.Decode.{planOf}
 use Rattle.operation.specs.Operation.{Operation}
 use Rattle.operation.specs.Admission.{IsOperation}
@@ -21,8 +22,7 @@ use Rattle.serial.specs.Store as store
 use Rattle.serial.specs.Frame as frame
 use Rattle.serial.specs.Desk as desk
 use Rattle.serial.specs.Step as step
-use Rattle.serial.proofs.Transactions.{apply-agrees}
-use Rattle.serial.proofs.Lists.{All}
+use Rattle.history.proofs.Transactions.{apply-agrees}
 use Rattle.history.proofs.Operations.{Runs, decided-of-is}
 use Rattle.history.proofs.Protocol.{ran, system}
 

@@ -18,7 +18,7 @@ use Rattle.serial.specs.Step as step
 use Rattle.serial.specs.Order as order
 use Rattle.serial.specs.SerialRun as run
 use Rattle.serial.specs.History as history
-use Rattle.serial.proofs.Lists.{assign-map}
+use Rattle.serial.proofs.Assign.{assign-map}
 use Rattle.history.specs.History.{Call, request, visit, assign}
 use Rattle.history.specs.Order.{Slot, globalRun, immediateRun, Finished}
 use Rattle.history.specs.SerialRun.{Serial, noteRequest, noteRun, noteJoin, noteVisit, ranked, note, noteAll}

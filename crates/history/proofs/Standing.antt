@@ -9,13 +9,12 @@ use native.Mathlib.Omega.{arith}
 use lib.Dec.{ltb, leb, eqb}
 use lib.ListN.{length}
 use borrow.Author.Tests.{leb-true, eqb-true, lt-ltb, eq-eqb}
+use Rattle.lists.specs.Lists.{every, All}
+use Rattle.lists.proofs.Laws.{and-fst, and-snd, and-true}
 use Rattle.plan.specs.Decode.{planOf}
-use Rattle.plan.specs.Admission.{every}
-use Rattle.plan.proofs.Bool.{and-fst, and-snd, and-true}
 use Rattle.queue.specs.declared.record.Request.{Request}
 use Rattle.desk.specs.Queueing.{waitingIn}
 use Rattle.desk.specs.Admission.{waitsHere, deskStands}
-use Rattle.serial.proofs.Lists.{All}
 use Rattle.history.specs.History.{Holding, start}
 use Rattle.history.proofs.Operations.{Runs}
 

@@ -5,18 +5,17 @@ use mathlib.Core.Path.{_≡_, refl, _∙_, ap, ap₂, subst}
 use mathlib.Core.Bool.{Bool, true, false, cond}
 use mathlib.Core.List.{List, [], _∷_, _++_, map}
 use lib.ListN.{length, getD, length-map, List·getD-map}
+use Rattle.verdict.specs.Verdict.{accepted}
 use Rattle.plan.specs.Decode.{planOf}
-use Rattle.plan.specs.Admission.{planVerdict, accepted}
+use Rattle.plan.specs.Admission.{planVerdict}
 use Rattle.operation.specs.Operation.{Operation}
 use Rattle.conflict.specs.Class.{Class, classOf}
 use Rattle.token.specs.Admission.{frameVisit}
 use Rattle.queue.specs.declared.record.Request.{Request}
-use Rattle.serial.specs.Desk as desk
 use Rattle.serial.specs.System.{System}
 use Rattle.serial.specs.History.{newDesks, answerAt, stepAt, answers}
 use Rattle.serial.specs.Visits.{Visit, visitOf, visits}
 use Rattle.serial.specs.AtEnd.{visitsOf}
-use Rattle.serial.proofs.TokenTheorems as token
 use Rattle.history.specs.History.{Call, request, visit, isRefused, outcomes, start, ProperFromStart}
 use Rattle.history.specs.SerialRun.{Classifies}
 use Rattle.history.specs.VisitNumbers.{acceptedVisits, VisitsNumbered}
@@ -25,6 +24,8 @@ use Rattle.history.proofs.ProtocolLaws.{laws}
 use Rattle.history.proofs.View.{callSeen}
 use Rattle.history.proofs.Claim.{proper-seen, refusals-seen}
 use Rattle.history.proofs.Start.{computed-classifies}
+use Rattle.serial.specs.Desk as desk
+use Rattle.serial.proofs.TokenTheorems as token
 
 abbrev shown : Visit → ℕ × ℕ
 shown v = (v .desk, v .number)

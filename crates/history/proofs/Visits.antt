@@ -11,11 +11,14 @@ use lib.Dec.{eqb}
 use lib.ListN.{length, drop}
 use lib.Seq.{take-append-seam, length-take-le}
 use borrow.Author.Tests.{ltb-true, eqb-true, eq-eqb}
+use Rattle.verdict.specs.Verdict.{Verdict, accepted, refused, isAccepted}
+use Rattle.verdict.proofs.Verdicts.{ask-then-accepted, then-accepted}
+use Rattle.lists.specs.Lists.{every}
+use Rattle.lists.proofs.Laws.{and-true}
 use Rattle.word.specs.Field.{addressedDesk}
 use Rattle.plan.specs.Decode.{headOf, planOf}
-use Rattle.plan.specs.Admission.{every, Verdict, accepted, refused, planVerdict}
-use Rattle.plan.proofs.Bool.{and-true}
-use Rattle.plan.proofs.Accepted.{yes-of, accepted-gives, desk-count}
+use Rattle.plan.specs.Admission.{planVerdict}
+use Rattle.plan.proofs.Accepted.{accepted-gives, desk-count}
 use Rattle.operation.specs.Operation.{Operation}
 use Rattle.operation.specs.Run.{Store, Update, Reply}
 use Rattle.conflict.specs.Class.{Class}
@@ -25,10 +28,9 @@ use Rattle.token.proofs.RoundTrip.{reads-written, written-reads}
 use Rattle.queue.specs.declared.record.Request.{Request}
 use Rattle.desk.specs.declared.state.Desk.{Desk}
 use Rattle.desk.specs.Queueing.{waitingIn}
-use Rattle.desk.specs.Admission.{isAccepted, deskBuffersFit, deskStands}
+use Rattle.desk.specs.Admission.{deskBuffersFit, deskStands}
 use Rattle.passing.specs.Admission.{visitBuffersFit, turnVerdict}
 use Rattle.token.specs.Forward.{foreign, applyAll}
-use Rattle.token.proofs.Verdicts.{both}
 use Rattle.passing.specs.Visit.{Visited, caughtUp, outgoingUpdates, outgoingFrame, passed, visitedBy, visitVerdict}
 use Rattle.passing.specs.Visit.{visitResult}
 use Rattle.passing.specs.Waiting.{runAll, updatesOf, repliesOf}
@@ -58,14 +60,14 @@ pub turn-of : (ws : List ℕ) (d : Desk) (cells : List ℕ) (queue : List Reques
     visitVerdict ws d cells queue ft out replies ≡ accepted → Turn ws d ft
 unfolding visitVerdict turnVerdict
 turn-of ws d cells queue ft out replies e =
-    let a = both (planVerdict ws) _ e .1 in
-    let b = both (cond (deskBuffersFit cells queue && visitBuffersFit out replies) accepted (refused 5)) _ a .1 in
-    let c = both (cond (deskStands (planOf ws) d queue) accepted (refused 6)) _ b .1 in
-    let f = both (frameVerdict (planOf ws .desks) ft) _ c in
-    let t = yes-of (eqb (addressedDesk (headOf ft)) (d .desk)) _ 13 (f .1) .1 in
+    let a = then-accepted (planVerdict ws) _ e .1 in
+    let b = ask-then-accepted 5 (deskBuffersFit cells queue && visitBuffersFit out replies) _ a .1 in
+    let c = ask-then-accepted 6 (deskStands (planOf ws) d queue) _ b .1 in
+    let f = then-accepted (frameVerdict (planOf ws .desks) ft) _ c in
+    let t = ask-then-accepted 13 (eqb (addressedDesk (headOf ft)) (d .desk)) _ (f .1) .1 in
     record {
       reads = f .0;
-      number = eqb-true (frameVisit ft) (d .awaited) (yes-of (eqb (frameVisit ft) (d .awaited)) _ 14 t .0);
+      number = eqb-true (frameVisit ft) (d .awaited) (ask-then-accepted 14 (eqb (frameVisit ft) (d .awaited)) _ t .0);
     }
 
 module _ (ws : List ℕ) (accept : planVerdict ws ≡ accepted) (records : ℕ → ℕ) (h : Holding)

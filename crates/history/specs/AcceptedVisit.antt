@@ -5,8 +5,9 @@ use mathlib.Core.Logic.{_⊎_}
 use mathlib.Core.Bool.{true, _&&_}
 use mathlib.Core.List.{List, List·Memᴰ}
 use lib.ListN.{length, getD, set, take}
+use Rattle.verdict.specs.Verdict.{accepted}
 use Rattle.plan.specs.Decode.{planOf}
-use Rattle.plan.specs.Admission.{planVerdict, accepted}
+use Rattle.plan.specs.Admission.{planVerdict}
 use Rattle.operation.specs.Words.{AllWords}
 use Rattle.token.specs.Admission.{frameVerdict, frameVisit, frameUpdates, readVerdict}
 use Rattle.queue.specs.Queue.{paramsOf}

@@ -3,13 +3,14 @@ use Prim.Native.Nat.{ℕ, suc, _≤_}
 use mathlib.Core.Path.{_≡_}
 use mathlib.Core.List.{List, [], _∷_, map}
 use lib.ListN.{length, getD}
+use Rattle.verdict.specs.Verdict.{accepted}
+use Rattle.lists.specs.Lists.{overwritten}
 use Rattle.plan.specs.Plan.{Plan}
 use Rattle.plan.specs.Decode.{planOf}
-use Rattle.plan.specs.Admission.{planVerdict, accepted}
+use Rattle.plan.specs.Admission.{planVerdict}
 use Rattle.operation.specs.Operation.{Operation}
 use Rattle.operation.specs.Run.{Store}
 use Rattle.conflict.specs.Class.{Class, JustOne}
-use Rattle.token.specs.Frame.{overwritten}
 use Rattle.queue.specs.declared.record.Request.{Request}
 use Rattle.routing.specs.Request as asked
 use Rattle.passing.specs.Visit as passing

@@ -5,8 +5,9 @@ use mathlib.Core.Logic.{_⊎_}
 use mathlib.Core.Bool.{true}
 use mathlib.Core.List.{List, map, Perm}
 use lib.ListN.{length, getD}
+use Rattle.verdict.specs.Verdict.{accepted}
 use Rattle.plan.specs.Decode.{planOf}
-use Rattle.plan.specs.Admission.{planVerdict, accepted}
+use Rattle.plan.specs.Admission.{planVerdict}
 use Rattle.operation.specs.Operation.{Operation}
 use Rattle.conflict.specs.Class.{Class}
 use Rattle.queue.specs.declared.record.Request.{Request}

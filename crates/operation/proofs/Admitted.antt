@@ -7,10 +7,10 @@ use Prim.Native.Nat.{ℕ, _^_, _<_}
 use lib.Dec.{ltb}
 use lib.ListN.{length, getD}
 use borrow.Author.Tests.{ltb-true, lt-ltb}
+use Rattle.verdict.proofs.Verdicts.{ask-accepted, ask-then-accepted}
+use Rattle.lists.specs.Lists.{every}
+use Rattle.lists.proofs.Laws.{and-snd}
 use Rattle.plan.specs.Plan.{Plan, transactionAt}
-use Rattle.plan.specs.Admission.{every}
-use Rattle.plan.proofs.Bool.{and-snd}
-use Rattle.plan.proofs.Accepted.{yes-of}
 use Rattle.operation.specs.Operation.{Operation, operation, transactionOf}
 use Rattle.operation.specs.Admission.{IsOperation, operationVerdict, transactionExists, parametersPass, unusedZero, rowInRange}
 
@@ -18,13 +18,14 @@ module _ (p : Plan) (o : Operation) (i : IsOperation p o) where
   -- 7
   pub transaction-below : o .transaction < length (p .transactions)
   unfolding operationVerdict transactionExists
-  transaction-below = ltb-true _ _ (yes-of (ltb (o .transaction) (length (p .transactions))) _ 7 (i .passes) .0)
+  transaction-below = ltb-true _ _ (ask-then-accepted 7 (ltb (o .transaction) (length (p .transactions))) _ (i .passes) .0)
 
   -- 8
   pub parameters-passed : parametersPass (transactionOf p o) (o .params) ≡ true
   unfolding operationVerdict
-  parameters-passed = yes-of (parametersPass (transactionOf p o) (o .params)) _ 8
-      (yes-of (transactionExists p (o .transaction)) _ 7 (i .passes) .1) .0
+  parameters-passed =
+      ask-accepted 8 (parametersPass (transactionOf p o) (o .params))
+      (ask-then-accepted 7 (transactionExists p (o .transaction)) _ (i .passes) .1)
 
   pub rows-passed : every (rowInRange (o .params)) (transactionOf p o .steps) ≡ true
   unfolding parametersPass

@@ -8,12 +8,12 @@ use native.Mathlib.Omega.{arith}
 use lib.ListN.{getD, take, drop}
 use lib.Dec.{leb, eqb}
 use borrow.Author.Tests.{leb-true}
+use Rattle.lists.specs.Lists.{every}
+use Rattle.lists.proofs.Laws.{and-fst, and-snd}
 use Rattle.word.specs.Field.{kindOf, stepCount, tableField, columnField, rowSource, fixedRow, operandSource, fixedNumber}
 use Rattle.plan.specs.Plan.{Source, param, fixed, Access, reads, writes, Action, Step, cell, operand}
 use Rattle.plan.specs.Decode.{sourceBy, accessBy, actionBy, stepOf}
-use Rattle.plan.specs.Admission.{every}
 use Rattle.plan.specs.Place.{transactionFrom}
-use Rattle.plan.proofs.Bool.{and-fst, and-snd}
 use Rattle.operation.specs.Operation.{valueOf, cellNumber, cellsNamed}
 use Rattle.operation.specs.Admission.{rowInRange}
 

@@ -5,9 +5,9 @@ use mathlib.Core.Bool.{true, false, _&&_}
 use mathlib.Core.List.{List}
 use Prim.Native.Nat.{ℕ, _+_, _≤_, _<_}
 use lib.ListN.{getD}
+use Rattle.lists.specs.Lists.{every}
 use Rattle.word.specs.Field.{parameterCount, stepCount}
 use Rattle.plan.specs.Decode.{stepOf}
-use Rattle.plan.specs.Admission.{every}
 use Rattle.plan.specs.Place.{StandsAt, transactionFrom}
 use Rattle.plan.proofs.Steps.{stepsFrom, steps-all, steps-none, steps-cons}
 use Rattle.operation.specs.Admission.{parametersPass, unusedZero, rowInRange}

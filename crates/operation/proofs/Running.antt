@@ -6,12 +6,12 @@ use mathlib.Core.List.{List, _∷_}
 use Prim.Native.Nat.{ℕ, _+_, _≤_, _<_}
 use native.Mathlib.Omega.{arith}
 use lib.ListN.{length, getD, set, length-set}
+use Rattle.lists.specs.Lists.{every}
+use Rattle.lists.proofs.Laws.{and-fst, and-snd}
 use Rattle.word.specs.Field.{kindOf, stepCount, tableField, columnField, parameterCount}
 use Rattle.plan.specs.Plan.{Step, operand}
 use Rattle.plan.specs.Decode.{rowOf, operandOf, actionBy, stepOf}
-use Rattle.plan.specs.Admission.{every}
 use Rattle.plan.specs.Place.{StandsAt, transactionFrom}
-use Rattle.plan.proofs.Bool.{and-fst, and-snd}
 use Rattle.plan.proofs.Steps.{stepsFrom, steps-all, steps-none, steps-cons, step-formed}
 use Rattle.plan.proofs.Words.{transaction-steps, step-kind-low}
 use Rattle.operation.specs.Operation.{valueOf, cellNumber}

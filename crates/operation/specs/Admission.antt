@@ -1,12 +1,13 @@
 -- Questions 7 and 8: which requests are operations.
 use Prim.Native.Nat.{ℕ, _^_, _<_}
 use mathlib.Core.Path.{_≡_}
-use mathlib.Core.Bool.{Bool, true, _&&_, cond}
+use mathlib.Core.Bool.{Bool, true, _&&_}
 use mathlib.Core.List.{List}
 use lib.ListN.{length, getD, drop}
 use lib.Dec.{ltb, leb, eqb}
+use Rattle.verdict.specs.Verdict.{Verdict, accepted, ask, _then_}
+use Rattle.lists.specs.Lists.{every}
 use Rattle.plan.specs.Plan.{param, fixed, Step, cell, operand, Transaction, Plan}
-use Rattle.plan.specs.Admission.{every, Verdict, accepted, refused}
 use Rattle.operation.specs.Operation.{Operation, transactionOf}
 
 -- 7: "Does the transaction exist?"
@@ -27,8 +28,7 @@ unfoldable pub parametersPass : Transaction → List ℕ → Bool
 parametersPass t ps = unusedZero (t .params) ps && every (rowInRange ps) (t .steps)
 
 unfoldable pub operationVerdict : Plan → Operation → Verdict
-operationVerdict p o =
-    cond (transactionExists p (o .transaction)) (cond (parametersPass (transactionOf p o) (o .params)) accepted (refused 8)) (refused 7)
+operationVerdict p o = ask 7 (transactionExists p (o .transaction)) then ask 8 (parametersPass (transactionOf p o) (o .params))
 
 -- "An operation is a transaction with four parameter words that pass questions 7 and 8"
 pub record IsOperation (p : Plan) (o : Operation) : Type 0 where

@@ -1,8 +1,9 @@
 // Questions 7 and 8.
 ghost use mathlib.Core.Path.{_≡_};
 ghost use mathlib.Core.Bool.{true};
+ghost use Rattle.verdict.specs.Verdict.{accepted};
 ghost use Rattle.plan.specs.Decode.{planOf, stepOf};
-ghost use Rattle.plan.specs.Admission.{planVerdict, accepted, stepFormed};
+ghost use Rattle.plan.specs.Admission.{planVerdict, stepFormed};
 ghost use Rattle.plan.specs.Place.{StandsAt, transactionFrom};
 ghost use Rattle.operation.specs.Admission.{transactionExists, parametersPass, unusedZero, rowInRange};
 use crate::cell;

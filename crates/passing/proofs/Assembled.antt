@@ -5,10 +5,11 @@ use mathlib.Core.List.{List, [], _∷_, _++_, append-nil, append-assoc}
 use Prim.Native.Nat.{ℕ, _+_, _-_, _≤_}
 use native.Mathlib.Omega.{arith}
 use lib.ListN.{length, take, drop, length-append, take-append-drop}
-use lib.Seq.{length-take-le, drop-append-add, drop-drop, take-at, drop-at}
+use lib.Seq.{length-take-le, take-at, drop-at}
 use borrow.Rule.Slice.PartMut.{putMid}
-use Rattle.token.specs.Frame.{frameHead, sumsOf, frameAround, overwritten}
-use Rattle.token.proofs.Filling.{Filling, fill-length, fill-part, fill-done, fill-same}
+use Rattle.lists.specs.Lists.{overwritten}
+use Rattle.lists.proofs.Laws.{overwritten-twice, Filling, fill-length, fill-part, fill-done, fill-same}
+use Rattle.token.specs.Frame.{frameHead, sumsOf, frameAround}
 use Rattle.passing.proofs.Remainders.{lent, back}
 
 pub frame-length : (d v : ℕ) (body : List ℕ) → length (frameAround d v body) ≡ length body + 4
@@ -16,15 +17,6 @@ unfolding frameAround
 frame-length d v body =
     let ws = frameHead d (length body + 4) ∷ v ∷ body in
     length-append ws (sumsOf ws .0 ∷ sumsOf ws .1 ∷ []) ∙ omega arith
-
--- what is written over earlier words leaves none of them
-over : (ws p o : List ℕ) → length p ≤ length ws → overwritten ws (overwritten p o) ≡ overwritten ws o
-over ws p o h =
-    let m = length ws - length p in
-    let k : length ws ≡ length p + m = omega arith in
-    ap (λ (t : List ℕ). ws ++ t)
-    (ap (λ (i : ℕ). drop i (overwritten p o)) k ∙ drop-append-add p (drop (length p) o) m ∙ drop-drop m (length p) o
-    ∙ ap (λ (i : ℕ). drop i o) (sym k))
 
 -- words 0 and 1 stand already
 from-two : (o body : List ℕ) → 2 ≤ length o → Filling (take 2 o ++ body) o o 2 body
@@ -84,5 +76,5 @@ module _ {o F U o₁ : List ℕ} {copied : ℕ} where
         ∙ ap (take (length (F ++ U))) (drop-at (take 2 o) ((F ++ U) ++ drop (length p) o) 2 (two (j .before)))
         ∙ take-at (F ++ U) (drop (length p) o) (length (F ++ U)) refl in
         ap₂ (λ (b t : List ℕ). overwritten (frameAround d v b) t) body w
-        ∙ over (frameAround d v (F ++ U)) p o
+        ∙ overwritten-twice (frameAround d v (F ++ U)) p o
         (omega (arith, frame-length d v (F ++ U), length-append (take 2 o) (F ++ U), two (j .before)))

@@ -6,11 +6,12 @@ use Prim.Native.Nat.{ℕ, _+_, _-_, _%_, _≤_}
 use native.Mathlib.Omega.{arith}
 use lib.ListN.{length, take, drop, length-take, length-drop}
 use lib.Seq.{length-take-le}
+use Rattle.verdict.specs.Verdict.{accepted}
+use Rattle.lists.specs.Lists.{overwritten}
 use Rattle.plan.specs.Decode.{planOf}
-use Rattle.plan.specs.Admission.{accepted}
 use Rattle.plan.proofs.Accepted.{accepted-gives, desk-count}
 use Rattle.operation.specs.Run.{Store}
-use Rattle.token.specs.Frame.{sent, updatesWords, frameAround, overwritten}
+use Rattle.token.specs.Frame.{sent, updatesWords, frameAround}
 use Rattle.token.specs.Admission.{frameVerdict, frameVisit, updatesPart, updatesFrom, frameUpdates}
 use Rattle.token.specs.Forward.{foreign, applyAll, foreignWords}
 use Rattle.token.specs.WellFormed.{WellFormed}

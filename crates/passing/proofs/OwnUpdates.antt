@@ -7,12 +7,13 @@ use Prim.Native.Nat.{ℕ, _<_}
 use native.Mathlib.Omega.{arith}
 use lib.ListN.{length}
 use borrow.Author.Tests.{lt-ltb, le-leb}
+use Rattle.verdict.specs.Verdict.{accepted}
+use Rattle.lists.specs.Lists.{every}
+use Rattle.lists.proofs.Laws.{and-fst, and-snd, and-true, member-every}
 use Rattle.plan.specs.Plan.{Plan, writes}
 use Rattle.plan.specs.Decode.{planOf}
-use Rattle.plan.specs.Admission.{every, planVerdict, accepted}
+use Rattle.plan.specs.Admission.{planVerdict}
 use Rattle.plan.specs.Place.{transactionPlace, transactionFrom}
-use Rattle.plan.proofs.Bool.{and-fst, and-snd, and-true}
-use Rattle.plan.proofs.Every.{member-every}
 use Rattle.operation.specs.Admission.{unusedZero, parametersPass}
 use Rattle.operation.specs.Run.{Store, Outcome, applyUpdate, run, runTransaction}
 use Rattle.operation.proofs.Bounds.{cells-low, transaction-fits}

@@ -1,21 +1,21 @@
 -- What the questions of a visit give once all are answered with yes.
 -- Assumes nothing.
 use mathlib.Core.Path.{_≡_}
-use mathlib.Core.Bool.{true, _&&_, cond}
+use mathlib.Core.Bool.{true, _&&_}
 use mathlib.Core.List.{List}
 use Prim.Native.Nat.{ℕ, _%_, _≤_, _<_}
 use lib.Dec.{ltb, leb, eqb}
 use lib.ListN.{length}
 use borrow.Author.Tests.{leb-true, ltb-true, eqb-true}
+use Rattle.verdict.specs.Verdict.{accepted}
+use Rattle.verdict.proofs.Verdicts.{then-accepted, ask-accepted, ask-then-accepted}
+use Rattle.lists.specs.Lists.{every}
+use Rattle.lists.proofs.Laws.{and-fst, and-snd, every-member, member-every}
 use Rattle.word.specs.Field.{addressedDesk}
 use Rattle.plan.specs.Plan.{Plan}
 use Rattle.plan.specs.Decode.{headOf, planOf}
-use Rattle.plan.specs.Admission.{every, accepted, refused, planVerdict}
-use Rattle.plan.proofs.Accepted.{yes-of}
-use Rattle.plan.proofs.Bool.{and-fst, and-snd}
-use Rattle.plan.proofs.Every.{every-member, member-every}
+use Rattle.plan.specs.Admission.{planVerdict}
 use Rattle.token.specs.Admission.{frameVerdict, frameVisit}
-use Rattle.token.proofs.Verdicts.{both}
 use Rattle.queue.specs.declared.record.Request.{Request}
 use Rattle.desk.specs.declared.state.Desk.{Desk}
 use Rattle.desk.specs.Queueing.{waitingIn}
@@ -46,29 +46,26 @@ pub questions-give : (ws : List ℕ) (d : Desk) (cells : List ℕ) (queue : List
     → visitVerdict ws d cells queue frame out replies ≡ accepted → Passable ws d cells queue frame out replies
 unfolding visitVerdict deskBuffersFit visitBuffersFit deskStands turnVerdict
 questions-give ws d cells queue frame out replies e =
-    let q4 = both (planVerdict ws) _ e in
-    let b5 = both (cond (deskBuffersFit cells queue && visitBuffersFit out replies) accepted (refused 5)) _ (q4 .1) in
-    let q5 = yes-of (deskBuffersFit cells queue && visitBuffersFit out replies) _ 5 (b5 .0) .0 in
-    let desk5 = and-fst (deskBuffersFit cells queue) _ q5 in
-    let visit5 = and-snd (deskBuffersFit cells queue) _ q5 in
-    let b6 = both (cond (deskStands (planOf ws) d queue) accepted (refused 6)) _ (b5 .1) in
-    let q6 = yes-of (deskStands (planOf ws) d queue) _ 6 (b6 .0) .0 in
-    let w6 = and-snd (ltb (d .desk) (planOf ws .desks)) _ q6 in
+    let q4 = then-accepted (planVerdict ws) _ e in
+    let q5 = ask-then-accepted 5 (deskBuffersFit cells queue && visitBuffersFit out replies) _ (q4 .1) in
+    let desk5 = and-fst (deskBuffersFit cells queue) _ (q5 .0) in
+    let visit5 = and-snd (deskBuffersFit cells queue) _ (q5 .0) in
+    let q6 = ask-then-accepted 6 (deskStands (planOf ws) d queue) _ (q5 .1) in
+    let w6 = and-snd (ltb (d .desk) (planOf ws .desks)) _ (q6 .0) in
     let a6 = and-snd (leb (d .waiting) 32) _ w6 in
-    let b12 = both (frameVerdict (planOf ws .desks) frame) _ (b6 .1) in
-    let q13 = yes-of (eqb (addressedDesk (headOf frame)) (d .desk)) _ 13 (b12 .1) in
-    let q14 = yes-of (eqb (frameVisit frame) (d .awaited)) _ 14 (q13 .1) in
-    let q15 = yes-of (ltb (frameVisit frame) 4294967295) _ 15 (q14 .1) in
+    let q12 = then-accepted (frameVerdict (planOf ws .desks) frame) _ (q6 .1) in
+    let q13 = ask-then-accepted 13 (eqb (addressedDesk (headOf frame)) (d .desk)) _ (q12 .1) in
+    let q14 = ask-then-accepted 14 (eqb (frameVisit frame) (d .awaited)) _ (q13 .1) in
     record {
       plan = q4 .0;
       cellsLong = eqb-true (length cells) 1024 (and-fst _ _ desk5);
       queueLong = eqb-true (length queue) 32 (and-snd (eqb (length cells) 1024) _ desk5);
       room = leb-true 6404 (length out) (and-fst _ _ visit5);
       replyRoom = leb-true 96 (length replies) (and-snd (leb 6404 (length out)) _ visit5);
-      desk = ltb-true (d .desk) (planOf ws .desks) (and-fst _ _ q6);
+      desk = ltb-true (d .desk) (planOf ws .desks) (and-fst _ _ (q6 .0));
       waiting = leb-true (d .waiting) 32 (and-fst _ _ w6);
       operations = operations-here (planOf ws) (d .desk) (waitingIn (d .waiting) queue)
           (and-snd (eqb (d .awaited % planOf ws .desks) (d .desk)) _ a6);
-      frame = b12 .0;
-      visit = ltb-true (frameVisit frame) 4294967295 (q15 .0);
+      frame = q12 .0;
+      visit = ltb-true (frameVisit frame) 4294967295 (ask-accepted 15 (ltb (frameVisit frame) 4294967295) (q14 .1));
     }

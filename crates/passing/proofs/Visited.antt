@@ -1,25 +1,25 @@
 -- What the core of a visit is handed stands for the queue: the questions have the same answers, and the visit leaves the same.
 -- Assumes nothing.
 use mathlib.Core.Path.{_≡_, _∙_, sym, ap}
-use mathlib.Core.Bool.{Bool, true, false, _&&_, cond}
+use mathlib.Core.Bool.{Bool, true, false, _&&_}
 use mathlib.Core.List.{List}
 use Prim.Native.Nat.{ℕ}
 use lib.Dec.{eqb}
 use lib.ListN.{length}
 use borrow.Author.Tests.{eqb-true}
+use Rattle.verdict.specs.Verdict.{Verdict, accepted, refused, ask, _then_}
+use Rattle.verdict.proofs.Verdicts.{then-accepted, ask-accepted, then-associates, then-only-after-yes}
+use Rattle.lists.proofs.Laws.{and-fst, and-snd}
 use Rattle.plan.specs.Decode.{planOf}
-use Rattle.plan.specs.Admission.{Verdict, accepted, refused, planVerdict}
-use Rattle.plan.proofs.Accepted.{yes-of}
-use Rattle.plan.proofs.Bool.{and-fst, and-snd}
-use Rattle.token.specs.Admission.{andThen, frameVerdict}
-use Rattle.token.proofs.Verdicts.{both, then-associates, behind}
+use Rattle.plan.specs.Admission.{planVerdict}
+use Rattle.token.specs.Admission.{frameVerdict}
 use Rattle.queue.specs.Queue.{recordsOf}
 use Rattle.queue.specs.declared.record.Request.{Request}
 use Rattle.queue.proofs.Copying.{records-whole}
 use Rattle.desk.specs.declared.state.Desk.{Desk}
 use Rattle.desk.specs.Admission.{deskBuffersFit, deskStands}
 use Rattle.passing.specs.Admission.{visitBuffersFit, turnVerdict}
-use Rattle.passing.specs.Visit.{isRefused, Visited, passed, visitVerdict, visitResult}
+use Rattle.passing.specs.Visit.{unchanged, passed, visitVerdict, visitResult}
 use Rattle.passing.specs.Core.{openingVerdict, passageVerdict}
 
 -- ---- questions 1 to 5
@@ -32,19 +32,19 @@ module _ (ws cells : List ℕ) (size : ℕ) (out replies : List ℕ) where
   unfolding openingVerdict
   plan-refused question e = rw e
 
-  pub by-buffers : planVerdict ws ≡ accepted → openingVerdict ws cells size out replies ≡ cond buffersFit accepted (refused 5)
+  pub by-buffers : planVerdict ws ≡ accepted → openingVerdict ws cells size out replies ≡ ask 5 buffersFit
   unfolding openingVerdict
   by-buffers e = rw e
 
   module _ (e : openingVerdict ws cells size out replies ≡ accepted) where
     pub plan-passes : planVerdict ws ≡ accepted
     unfolding openingVerdict
-    plan-passes = both (planVerdict ws) _ e .0
+    plan-passes = then-accepted (planVerdict ws) _ e .0
 
     pub queue-long : size ≡ 32
     unfolding openingVerdict
     queue-long =
-        let fit = yes-of buffersFit accepted 5 (both (planVerdict ws) _ e .1) .0 in
+        let fit = ask-accepted 5 buffersFit (then-accepted (planVerdict ws) _ e .1) in
         eqb-true size 32 (and-snd (eqb (length cells) 1024) _ (and-fst (eqb (length cells) 1024 && eqb size 32) _ fit))
 
 -- ---- questions 6 and 10 to 15
@@ -69,37 +69,34 @@ module _ (ws : List ℕ) (d : Desk) (records : List Request) (frame : List ℕ) 
 module _ (ws : List ℕ) (d : Desk) (cells : List ℕ) (size : ℕ) (records : List Request) (frame out replies : List ℕ) where
   handed : (queue : List Request) → length queue ≡ size → recordsOf queue ≡ records
       → visitVerdict ws d cells queue frame out replies
-      ≡ andThen (openingVerdict ws cells size out replies) (passageVerdict ws d records frame)
+      ≡ (openingVerdict ws cells size out replies then passageVerdict ws d records frame)
   unfolding visitVerdict openingVerdict passageVerdict deskBuffersFit
   handed queue l q =
       let fit : ℕ → Bool = λ (n : ℕ). (eqb (length cells) 1024 && eqb n 32) && visitBuffersFit out replies in
-      ap (andThen (planVerdict ws))
-      (ap (λ (n : ℕ). andThen (cond (fit n) accepted (refused 5)) (passageVerdict ws d queue frame)) l
-      ∙ behind (fit size) 5 (passageVerdict ws d queue frame) (passageVerdict ws d records frame) (λ (h : fit size ≡ true).
+      ap (_then_ (planVerdict ws))
+      (ap (λ (n : ℕ). ask 5 (fit n) then passageVerdict ws d queue frame) l
+      ∙ then-only-after-yes 5 (fit size) (passageVerdict ws d queue frame) (passageVerdict ws d records frame) (λ (h : fit size ≡ true).
       ap (λ (rs : List Request). passageVerdict ws d rs frame) (sym (records-whole queue
       (l ∙ eqb-true size 32 (and-snd (eqb (length cells) 1024) _ (and-fst (eqb (length cells) 1024 && eqb size 32) _ h)))) ∙ q)))
       ∙ then-associates (planVerdict ws) _ (passageVerdict ws d records frame)
 
   module _ (queue : List Request) (l : length queue ≡ size) (q : recordsOf queue ≡ records) where
     left-refused : (question : ℕ) → visitVerdict ws d cells queue frame out replies ≡ refused question
-        → _≡_ {A = Visited} (record { answer = isRefused question; state = d; cells = cells; out = out; replies = replies })
-        (visitResult ws d cells queue frame out replies)
+        → unchanged d cells out replies question ≡ visitResult ws d cells queue frame out replies
     unfolding visitResult
     left-refused question e = rw e
 
     pub opening-refused : (question : ℕ) → openingVerdict ws cells size out replies ≡ refused question
-        → _≡_ {A = Visited} (record { answer = isRefused question; state = d; cells = cells; out = out; replies = replies })
-        (visitResult ws d cells queue frame out replies)
+        → unchanged d cells out replies question ≡ visitResult ws d cells queue frame out replies
     opening-refused question e =
-        left-refused question (handed queue l q ∙ ap (λ (v : Verdict). andThen v (passageVerdict ws d records frame)) e)
+        left-refused question (handed queue l q ∙ ap (λ (v : Verdict). v then passageVerdict ws d records frame) e)
 
     module _ (e : openingVerdict ws cells size out replies ≡ accepted) where
       opened : visitVerdict ws d cells queue frame out replies ≡ passageVerdict ws d records frame
-      opened = handed queue l q ∙ ap (λ (v : Verdict). andThen v (passageVerdict ws d records frame)) e
+      opened = handed queue l q ∙ ap (λ (v : Verdict). v then passageVerdict ws d records frame) e
 
       pub passage-refused : (question : ℕ) → passageVerdict ws d records frame ≡ refused question
-          → _≡_ {A = Visited} (record { answer = isRefused question; state = d; cells = cells; out = out; replies = replies })
-          (visitResult ws d cells queue frame out replies)
+          → unchanged d cells out replies question ≡ visitResult ws d cells queue frame out replies
       passage-refused question h = left-refused question (opened ∙ h)
 
       pub left-passed : passageVerdict ws d records frame ≡ accepted

@@ -7,10 +7,11 @@ use native.Mathlib.Numerals.{add-one}
 use native.Mathlib.Omega.{arith}
 use lib.ListN.{length, getD, take, drop, length-append, drop-of-length-le}
 use lib.Seq.{drop-cons}
+use Rattle.lists.specs.Lists.{overwritten}
+use Rattle.lists.proofs.Laws.{Filling, fill-none, fill-size, fill-length, fill-same, fill-part, fill-done}
 use Rattle.plan.specs.Plan.{Plan}
 use Rattle.operation.specs.Run.{Store, applyUpdate, run}
-use Rattle.token.specs.Frame.{updatesWords, overwritten}
-use Rattle.token.proofs.Filling.{Filling, fill-none, fill-size, fill-length, fill-same, fill-part, fill-done}
+use Rattle.token.specs.Frame.{updatesWords}
 use Rattle.queue.specs.Queue.{noRequest}
 use Rattle.queue.specs.declared.record.Request.{Request}
 use Rattle.desk.specs.Queueing.{operationOf}

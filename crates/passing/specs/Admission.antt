@@ -4,9 +4,9 @@ use mathlib.Core.Bool.{Bool, _&&_, cond}
 use mathlib.Core.List.{List}
 use lib.Dec.{ltb, leb, eqb}
 use lib.ListN.{length}
+use Rattle.verdict.specs.Verdict.{Verdict, ask, _then_}
 use Rattle.word.specs.Field.{addressedDesk}
 use Rattle.plan.specs.Decode.{headOf}
-use Rattle.plan.specs.Admission.{Verdict, accepted, refused}
 use Rattle.token.specs.Admission.{frameVisit}
 use Rattle.desk.specs.declared.state.Desk.{Desk}
 
@@ -17,6 +17,6 @@ visitBuffersFit out replies = leb 6404 (length out) && leb 96 (length replies)
 -- 13: "Is the addressed desk this one?" 14: "Is the visit the awaited one?" 15: "Is the visit below 4,294,967,295?"
 unfoldable pub turnVerdict : Desk → List ℕ → Verdict
 turnVerdict d frame =
-    cond (eqb (addressedDesk (headOf frame)) (d .desk))
-    (cond (eqb (frameVisit frame) (d .awaited)) (cond (ltb (frameVisit frame) 4294967295) accepted (refused 15)) (refused 14))
-    (refused 13)
+    ask 13 (eqb (addressedDesk (headOf frame)) (d .desk))
+    then ask 14 (eqb (frameVisit frame) (d .awaited))
+    then ask 15 (ltb (frameVisit frame) 4294967295)

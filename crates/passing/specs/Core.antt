@@ -4,9 +4,10 @@ use mathlib.Core.Bool.{_&&_, cond}
 use mathlib.Core.List.{List}
 use lib.Dec.{eqb}
 use lib.ListN.{length}
+use Rattle.verdict.specs.Verdict.{Verdict, ask, _then_}
 use Rattle.plan.specs.Decode.{planOf}
-use Rattle.plan.specs.Admission.{Verdict, accepted, refused, planVerdict}
-use Rattle.token.specs.Admission.{andThen, frameVerdict}
+use Rattle.plan.specs.Admission.{planVerdict}
+use Rattle.token.specs.Admission.{frameVerdict}
 use Rattle.queue.specs.declared.record.Request.{Request}
 use Rattle.desk.specs.declared.state.Desk.{Desk}
 use Rattle.desk.specs.Admission.{deskStands}
@@ -15,11 +16,11 @@ use Rattle.passing.specs.Admission.{visitBuffersFit, turnVerdict}
 -- questions 1 to 5
 unfoldable pub openingVerdict : List ℕ → List ℕ → ℕ → List ℕ → List ℕ → Verdict
 openingVerdict ws cells size out replies =
-    andThen (planVerdict ws)
-    (cond ((eqb (length cells) 1024 && eqb size 32) && visitBuffersFit out replies) accepted (refused 5))
+    planVerdict ws then ask 5 ((eqb (length cells) 1024 && eqb size 32) && visitBuffersFit out replies)
 
 -- questions 6 and 10 to 15
 unfoldable pub passageVerdict : List ℕ → Desk → List Request → List ℕ → Verdict
 passageVerdict ws d records frame =
-    andThen (cond (deskStands (planOf ws) d records) accepted (refused 6))
-    (andThen (frameVerdict (planOf ws .desks) frame) (turnVerdict d frame))
+    ask 6 (deskStands (planOf ws) d records)
+    then frameVerdict (planOf ws .desks) frame
+    then turnVerdict d frame

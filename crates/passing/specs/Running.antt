@@ -4,15 +4,16 @@ use mathlib.Core.Path.{_≡_}
 use mathlib.Core.Bool.{Bool, true}
 use mathlib.Core.List.{List, map}
 use lib.ListN.{length}
+use Rattle.verdict.specs.Verdict.{accepted, isAccepted}
+use Rattle.lists.specs.Lists.{every, overwritten}
 use Rattle.plan.specs.Plan.{Plan}
 use Rattle.plan.specs.Decode.{planOf}
-use Rattle.plan.specs.Admission.{every, planVerdict, accepted}
+use Rattle.plan.specs.Admission.{planVerdict}
 use Rattle.operation.specs.Admission.{operationVerdict}
 use Rattle.operation.specs.Run.{Store, applyUpdate, run}
-use Rattle.token.specs.Frame.{sent, updateWords, updatesWords, overwritten}
+use Rattle.token.specs.Frame.{sent, updateWords, updatesWords}
 use Rattle.queue.specs.declared.record.Request.{Request}
 use Rattle.desk.specs.Queueing.{operationOf}
-use Rattle.desk.specs.Admission.{isAccepted}
 use Rattle.desk.specs.Place.{Placed}
 use Rattle.passing.specs.Waiting.{runAll, updatesOf, Answered, repliesOf, replyWords, repliesWords}
 

@@ -1,14 +1,16 @@
 -- A visit of the token at a desk: everything that the call leaves, for good and bad input alike.
 use Prim.Native.Nat.{ℕ, _+_}
-use mathlib.Core.Bool.{_&&_, cond}
+use mathlib.Core.Bool.{_&&_}
 use mathlib.Core.List.{List, _++_, map}
 use lib.ListN.{length}
+use Rattle.verdict.specs.Verdict.{Verdict, ask, _then_, ifAccepted}
+use Rattle.lists.specs.Lists.{overwritten}
 use Rattle.plan.specs.Plan.{Plan}
 use Rattle.plan.specs.Decode.{planOf}
-use Rattle.plan.specs.Admission.{Verdict, accepted, refused, planVerdict}
+use Rattle.plan.specs.Admission.{planVerdict}
 use Rattle.operation.specs.Run.{Store}
-use Rattle.token.specs.Frame.{SentUpdate, sent, frameWords, overwritten}
-use Rattle.token.specs.Admission.{andThen, frameVerdict, frameVisit, frameUpdates}
+use Rattle.token.specs.Frame.{SentUpdate, sent, frameWords}
+use Rattle.token.specs.Admission.{frameVerdict, frameVisit, frameUpdates}
 use Rattle.token.specs.Forward.{foreign, applyAll}
 use Rattle.queue.specs.declared.record.Request.{Request}
 use Rattle.desk.specs.declared.state.Desk.{Desk}
@@ -29,6 +31,11 @@ pub record Visited : Type 0 where
   pub cells : List ℕ
   pub out : List ℕ
   pub replies : List ℕ
+
+-- "nothing lent and no state changes"
+abbrev pub unchanged : Desk → List ℕ → List ℕ → List ℕ → ℕ → Visited
+unchanged d cells out replies question =
+    record { answer = isRefused question; state = d; cells = cells; out = out; replies = replies }
 
 module _ (p : Plan) (d : Desk) (cells : List ℕ) (queue : List Request) (frame out replies : List ℕ) where
   abbrev pub caughtUp : Store
@@ -57,16 +64,16 @@ module _ (p : Plan) (d : Desk) (cells : List ℕ) (queue : List Request) (frame 
   }
 
   abbrev pub visitedBy : Verdict → Visited
-  visitedBy accepted = passed
-  visitedBy (refused question) = record { answer = isRefused question; state = d; cells = cells; out = out; replies = replies }
+  visitedBy v = ifAccepted v passed (unchanged d cells out replies)
 
 -- "Visit: 1–6, 10–15."
 unfoldable pub visitVerdict : List ℕ → Desk → List ℕ → List Request → List ℕ → List ℕ → List ℕ → Verdict
 visitVerdict ws d cells queue frame out replies =
-    andThen (planVerdict ws)
-    (andThen (cond (deskBuffersFit cells queue && visitBuffersFit out replies) accepted (refused 5))
-    (andThen (cond (deskStands (planOf ws) d queue) accepted (refused 6))
-    (andThen (frameVerdict (planOf ws .desks) frame) (turnVerdict d frame))))
+    planVerdict ws
+    then ask 5 (deskBuffersFit cells queue && visitBuffersFit out replies)
+    then ask 6 (deskStands (planOf ws) d queue)
+    then frameVerdict (planOf ws .desks) frame
+    then turnVerdict d frame
 
 unfoldable pub visitResult : List ℕ → Desk → List ℕ → List Request → List ℕ → List ℕ → List ℕ → Visited
 visitResult ws d cells queue frame out replies =

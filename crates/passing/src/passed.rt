@@ -1,6 +1,6 @@
 // What a visit does once all its questions are answered with yes.
 ghost use mathlib.Core.Path.{_≡_};
-ghost use Rattle.plan.specs.Admission.{accepted};
+ghost use Rattle.verdict.specs.Verdict.{accepted};
 ghost use Rattle.plan.specs.Decode.{planOf};
 ghost use Rattle.plan.specs.Place.{transactionPlaces};
 ghost use Rattle.passing.specs.Visit.{visitVerdict, passed};

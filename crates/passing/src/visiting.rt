@@ -5,8 +5,8 @@ ghost use mathlib.Core.List.{List};
 ghost use Prim.Native.Nat.{_≤_};
 ghost use lib.Dec.{eqb};
 ghost use lib.ListN.{length};
-ghost use Rattle.plan.specs.Admission.{planVerdict, accepted};
-ghost use Rattle.plan.specs.Answer.{verdictOf};
+ghost use Rattle.verdict.specs.Verdict.{accepted, verdictOf};
+ghost use Rattle.plan.specs.Admission.{planVerdict};
 ghost use Rattle.plan.specs.Place.{transactionPlaces};
 ghost use Rattle.queue.specs.Queue.{recordsOf};
 ghost use Rattle.queue.specs.declared.record.Request.{Request as Queued};
@@ -16,9 +16,8 @@ ghost use Rattle.passing.specs.Core.{openingVerdict, passageVerdict};
 ghost use Rattle.passing.specs.Answer.{visitedOf};
 use crate::passed;
 use desk::Desk;
-use plan::PlanAnswer;
 use queue::Request;
-use token::FrameCheck;
+use verdict::Verdict;
 use word::fields;
 
 // The words of the outgoing frame and the count of replies, or refused with the question's number.
@@ -51,22 +50,22 @@ fn buffers_fit(cells: &[u32], size: usize, out: &[u32], replies: &[u32]) -> bool
 }
 
 // Questions 13 to 15. The visit and the awaited number are compared in 64 bits.
-fn turn(state: Desk, frame: &[u32]) -> PlanAnswer
+fn turn(state: Desk, frame: &[u32]) -> Verdict
     requires { ⌜ 4 ≤ length (now frame) ⌝ }
     ensures { λ r. ⌜ verdictOf r ≡ turnVerdict state (now (frame .entry)) ⌝ }
 {
     let addressed = frame[0] / fields::ADDRESSED % 16;
     let visit = frame[1];
     if addressed != state.desk {
-        return PlanAnswer::Refused(13);
+        return Verdict::Refused(13);
     }
     if visit as u64 != state.awaited {
-        return PlanAnswer::Refused(14);
+        return Verdict::Refused(14);
     }
     if visit < 4294967295 {
-        return PlanAnswer::Accepted;
+        return Verdict::Accepted;
     }
-    PlanAnswer::Refused(15)
+    Verdict::Refused(15)
 }
 
 // Questions 1 to 5.
@@ -76,17 +75,17 @@ fn opening_verdict(
     size: usize,
     out: &[u32],
     replies: &[u32],
-) -> PlanAnswer
+) -> Verdict
     ensures { λ r. ⌜ verdictOf r ≡ openingVerdict (now (plan .entry)) (now (cells .entry)) size (now (out .entry))
         (now (replies .entry)) ⌝ }
 {
-    if let PlanAnswer::Refused(question) = plan::read_plan(plan) {
-        return PlanAnswer::Refused(question);
+    if let Verdict::Refused(question) = plan::read_plan(plan) {
+        return Verdict::Refused(question);
     }
     if buffers_fit(cells, size, out, replies) {
-        return PlanAnswer::Accepted;
+        return Verdict::Accepted;
     }
-    PlanAnswer::Refused(5)
+    Verdict::Refused(5)
 }
 
 // Questions 6 and 10 to 15, all of one before the next.
@@ -96,15 +95,15 @@ fn passage_verdict(
     state: Desk,
     records: [Request; 32],
     frame: &[u32],
-) -> PlanAnswer
+) -> Verdict
     requires { ⌜ (planVerdict (now plan) ≡ accepted) × (now places ≡ transactionPlaces (now plan)) ⌝ }
     ensures { λ r. ⌜ verdictOf r ≡ passageVerdict (now (plan .entry)) state records (now (frame .entry)) ⌝ }
 {
     if !desk::desk_stands(plan, places, state, records) {
-        return PlanAnswer::Refused(6);
+        return Verdict::Refused(6);
     }
-    if let FrameCheck::Refused(question) = token::check_frame(plan[0] / fields::DESKS % 16, frame) {
-        return PlanAnswer::Refused(question);
+    if let Verdict::Refused(question) = token::check_frame(plan[0] / fields::DESKS % 16, frame) {
+        return Verdict::Refused(question);
     }
     turn(state, frame)
 }
@@ -124,14 +123,14 @@ pub fn visit_core(
         → visitedOf r (now (cells .exit)) (now (out .exit)) (now (replies .exit)) ≡ visitResult (now (plan .entry)) state
         (now (cells .entry)) queue (now (frame .entry)) (now (out .entry)) (now (replies .entry))) ⌝ }
 {
-    if let PlanAnswer::Refused(question) = opening_verdict(plan, cells, size, out, replies) {
+    if let Verdict::Refused(question) = opening_verdict(plan, cells, size, out, replies) {
         return VisitResult {
             answer: VisitAnswer::Refused(question),
             state: state,
         };
     }
     let places = plan::transaction_places(plan);
-    if let PlanAnswer::Refused(question) = passage_verdict(plan, &places, state, records, frame) {
+    if let Verdict::Refused(question) = passage_verdict(plan, &places, state, records, frame) {
         return VisitResult {
             answer: VisitAnswer::Refused(question),
             state: state,

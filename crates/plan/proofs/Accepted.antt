@@ -1,24 +1,20 @@
 -- What an accepted plan gives: each question's yes.
 -- Assumes nothing.
 use mathlib.Core.Path.{_≡_, refl, ap}
-use mathlib.Core.Bool.{Bool, true, false, cond, false≢true}
+use mathlib.Core.Bool.{true, false, false≢true}
 use mathlib.Core.List.{List, [], _∷_}
 use Prim.Native.Nat.{ℕ, zero, suc, _≤_}
-use native.Mathlib.Omega.{arith}
 use lib.Dec.{leb}
 use lib.ListN.{length, take, drop}
 use borrow.Author.Tests.{leb-true}
+use Rattle.verdict.specs.Verdict.{accepted}
+use Rattle.verdict.proofs.Verdicts.{ask-accepted, ask-then-accepted}
+use Rattle.lists.specs.Lists.{every}
+use Rattle.lists.proofs.Laws.{and-fst, and-snd}
 use Rattle.word.specs.Field.{headDesks, headTransactions, stepCount}
 use Rattle.plan.specs.Decode.{headOf, transactionsOf, planOf}
-use Rattle.plan.specs.Admission.{Verdict, accepted, refused, hasHead, countsInRange, wellFormed, transactionFormed, stepFormed}
-use Rattle.plan.specs.Admission.{every}
+use Rattle.plan.specs.Admission.{hasHead, countsInRange, wellFormed, transactionFormed, stepFormed}
 use Rattle.plan.specs.Admission.{parametersExist, transactionsVerdict, planVerdict}
-use Rattle.plan.proofs.Bool.{and-fst, and-snd}
-
--- a question's answer that a verdict other than its refusal shows
-pub yes-of : (b : Bool) (v : Verdict) (k : ℕ) → cond b v (refused k) ≡ accepted → (b ≡ true) × (v ≡ accepted)
-yes-of true v k e = (refl, e)
-yes-of false v k e = let z : _≡_ {A = ℕ} 0 1 = cc in absurd (omega arith)
 
 pub record Accepted (ws : List ℕ) : Type 0 where
   -- 1
@@ -37,10 +33,9 @@ pub record Accepted (ws : List ℕ) : Type 0 where
 pub accepted-gives : (ws : List ℕ) → planVerdict ws ≡ accepted → Accepted ws
 unfolding planVerdict transactionsVerdict hasHead countsInRange
 accepted-gives ws e =
-    let q1 = yes-of (hasHead ws) _ 1 e in
-    let q2 = yes-of (countsInRange (headOf ws)) _ 2 (q1 .1) in
-    let q3 = yes-of (wellFormed (headTransactions (headOf ws)) (drop 1 ws)) _ 3 (q2 .1) in
-    let q4 = yes-of (every parametersExist (transactionsOf (headTransactions (headOf ws)) (drop 1 ws))) _ 4 (q3 .1) in
+    let q1 = ask-then-accepted 1 (hasHead ws) _ e in
+    let q2 = ask-then-accepted 2 (countsInRange (headOf ws)) _ (q1 .1) in
+    let q3 = ask-then-accepted 3 (wellFormed (headTransactions (headOf ws)) (drop 1 ws)) _ (q2 .1) in
     let words = and-snd (leb 1 (length ws)) _ (q1 .0) in
     let desks = and-snd (leb 1 (headDesks (headOf ws))) _ (q2 .0) in
     let transactions = and-snd (leb (headDesks (headOf ws)) 8) _ desks in
@@ -52,7 +47,7 @@ accepted-gives ws e =
       transactions-low = leb-true 1 (headTransactions (headOf ws)) (and-fst _ _ transactions);
       transactions-high = leb-true (headTransactions (headOf ws)) 32 (and-snd (leb 1 (headTransactions (headOf ws))) _ transactions);
       form = q3 .0;
-      names = q4 .0;
+      names = ask-accepted 4 (every parametersExist (transactionsOf (headTransactions (headOf ws)) (drop 1 ws))) (q3 .1);
     }
 
 -- as many transactions decode as the words are well formed for

@@ -1,9 +1,6 @@
-pub mod Bool
-pub mod Every
 pub mod Words
 pub mod Rest
 pub mod Accepted
-pub mod Tables
 pub mod Places
 pub mod Placing
 pub mod Steps

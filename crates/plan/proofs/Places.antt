@@ -1,34 +1,26 @@
 -- Transaction k of an accepted plan stands whole at its place, and decodes to entry k.
 -- Assumes nothing.
-use mathlib.Core.Path.{_≡_, refl, _∙_, sym, ap}
-use mathlib.Core.Bool.{Bool, true, false, false≢true}
-use mathlib.Core.List.{List, _∷_}
+use mathlib.Core.Path.{_≡_, _∙_, sym, ap}
+use mathlib.Core.Bool.{true, false, false≢true}
+use mathlib.Core.List.{List, [], _∷_}
 use Prim.Native.Nat.{ℕ, zero, suc, _+_, _-_, _≤_, _<_}
 use native.Mathlib.Nat.{sub-zero, add-zero}
 use native.Mathlib.Numerals.{add-one}
 use native.Mathlib.Omega.{arith}
-use mathlib.Core.Logic.{_⊎_, inl, inr, ⊎-elim}
-use lib.Dec.{leb, ltb}
-use lib.ListN.{length, getD, take, drop, length-drop, drop-of-length-le}
-use lib.Seq.{drop-cons, drop-drop, getD-drop}
-use borrow.Author.Tests.{leb-true, ltb-true, ltb-false}
+use mathlib.Core.Logic.{_⊎_, ⊎-elim}
+use lib.Dec.{leb}
+use lib.ListN.{length, getD, take, drop, length-drop}
+use lib.Seq.{drop-drop, getD-drop}
+use borrow.Author.Tests.{leb-true}
+use Rattle.verdict.specs.Verdict.{accepted}
+use Rattle.lists.specs.Lists.{every}
+use Rattle.lists.proofs.Laws.{and-fst, and-snd, left-suc, drop-cases}
 use Rattle.word.specs.Field.{stepCount, headTransactions}
 use Rattle.plan.specs.Plan.{Transaction, noTransaction, transactionAt}
 use Rattle.plan.specs.Decode.{transactionsOf, planOf, headOf}
-use Rattle.plan.specs.Admission.{wellFormed, transactionFormed, stepFormed, every, planVerdict, accepted}
+use Rattle.plan.specs.Admission.{wellFormed, transactionFormed, stepFormed, planVerdict}
 use Rattle.plan.specs.Place.{transactionPlace, transactionFrom, StandsAt}
-use Rattle.plan.proofs.Bool.{and-fst, and-snd}
 use Rattle.plan.proofs.Accepted.{accepted-gives}
-
-pub lt-or-ge : (a b : ℕ) → (a < b) ⊎ (b ≤ a)
-lt-or-ge a b = go (ltb a b) refl
-  where
-    go : (t : Bool) → ltb a b ≡ t → (a < b) ⊎ (b ≤ a)
-    go true e = inl (ltb-true a b e)
-    go false e = inr (ltb-false a b e)
-
-pub left-suc : (n k : ℕ) → k < n → n - k ≡ suc (n - (k + 1))
-left-suc n k h = omega arith
 
 pub place-next : (ws : List ℕ) (k : ℕ) → transactionPlace ws (k + 1)
     ≡ transactionPlace ws k + 1 + stepCount (getD ws (transactionPlace ws k) 0)
@@ -47,9 +39,7 @@ module _ (ws : List ℕ) (txs k at : ℕ) (h : k < txs) (p : Past ws txs k at) w
   word-here : (at < length ws) × (drop at ws ≡ getD ws at 0 ∷ drop (at + 1) ws)
   unfolding wellFormed
   word-here =
-      ⊎-elim (λ (l : at < length ws). (l, rw (add-one, drop-cons ws at 0 l)))
-      (λ (g : length ws ≤ at). absurd (false≢true (rw (left-suc txs k h, drop-of-length-le ws g) at (p .form))))
-      (lt-or-ge at (length ws))
+      ⊎-elim (λ (e : drop at ws ≡ []). absurd (false≢true (rw (left-suc txs k h, e) at (p .form)))) (λ g. g) (drop-cases ws at 0)
 
   form-here : wellFormed (suc (txs - (k + 1))) (getD ws at 0 ∷ drop (at + 1) ws) ≡ true
   form-here = rw (left-suc txs k h, word-here .1) at (p .form)

@@ -3,24 +3,21 @@
 use mathlib.Core.Path.{_≡_, _∙_, sym, ap}
 use mathlib.Core.Bool.{Bool, cond}
 use mathlib.Core.List.{List}
-use mathlib.Core.Logic.{⊎-elim}
-use Prim.Native.Nat.{ℕ, _+_, _≤_, _<_}
+use Prim.Native.Nat.{ℕ, _+_, _<_}
 use native.Mathlib.Omega.{arith}
-use native.Mathlib.Decide.{ℕ-discrete}
 use lib.Dec.{ltb}
 use lib.ListN.{length, getD, set, length-set, replicate, length-replicate, getD-replicate}
 use lib.Seq.{getD-set-same, getD-set-other}
 use borrow.Author.Tests.{lt-ltb, le-ltb}
+use Rattle.lists.proofs.Laws.{length-tabulate, getD-tabulate, whole-table, by-less, by-same}
 use Rattle.word.specs.Field.{headTransactions}
 use Rattle.plan.specs.Decode.{headOf}
 use Rattle.plan.specs.Place.{transactionPlace, transactionPlaces}
-use Rattle.plan.proofs.Places.{lt-or-ge}
-use Rattle.plan.proofs.Tables.{length-tabulate, getD-tabulate, whole-table}
 
 later : (j n : ℕ) → (j ≡ n → ⊥) → ltb j n ≡ ltb j (n + 1)
 later j n s =
-    ⊎-elim (λ (h : j < n). lt-ltb j n h ∙ sym (lt-ltb j (n + 1) (omega arith)))
-    (λ (g : n ≤ j). le-ltb j n g ∙ sym (le-ltb j (n + 1) (omega (arith, s)))) (lt-or-ge j n)
+    by-less j n (λ h. lt-ltb j n h ∙ sym (lt-ltb j (n + 1) (omega arith)))
+    (λ h. le-ltb j n h ∙ sym (le-ltb j (n + 1) (omega (arith, s))))
 
 abbrev placeBefore : List ℕ → ℕ → ℕ → ℕ
 placeBefore ws n j = cond (ltb j n) (transactionPlace ws j) 0
@@ -37,17 +34,17 @@ placing-none ws = record {
 
 module _ (ws : List ℕ) (n : ℕ) (l : List ℕ) (p : Placing ws n l) where
   pub placing-more : (at : ℕ) → n < 32 → at ≡ transactionPlace ws n → Placing ws (n + 1) (set l n at)
-  placing-more at h e = record { long = length-set l n at ∙ p .long; entries = λ j k. go j k (ℕ-discrete j n) }
-    where
-      go : (j : ℕ) → j < 32 → Dec (j ≡ n) → getD (set l n at) j 0 ≡ placeBefore ws (n + 1) j
-      go j k (yes s) =
-          ap (λ (i : ℕ). getD (set l n at) i 0) s ∙ getD-set-same l n at 0 (omega (arith, p .long)) ∙ e
-          ∙ ap (transactionPlace ws) (sym s)
-          ∙ sym (ap (λ (b : Bool). cond b (transactionPlace ws j) 0) (lt-ltb j (n + 1) (omega arith)))
-      go j k (no s) = getD-set-other l n j at 0 s ∙ p .entries j k ∙ ap (λ (b : Bool). cond b (transactionPlace ws j) 0) (later j n s)
+  placing-more at h e = record {
+    long = length-set l n at ∙ p .long;
+    entries = λ j k. by-same j n
+        (λ s. ap (λ (i : ℕ). getD (set l n at) i 0) s ∙ getD-set-same l n at 0 (omega (arith, p .long)) ∙ e
+        ∙ ap (transactionPlace ws) (sym s)
+        ∙ sym (ap (λ (b : Bool). cond b (transactionPlace ws j) 0) (lt-ltb j (n + 1) (omega arith))))
+        (λ s. getD-set-other l n j at 0 s ∙ p .entries j k ∙ ap (λ (b : Bool). cond b (transactionPlace ws j) 0) (later j n s));
+  }
 
   pub placing-done : n ≡ headTransactions (headOf ws) → l ≡ transactionPlaces ws
-  placing-done e = whole-table 32 (placeBefore ws (headTransactions (headOf ws))) l (p .long)
+  placing-done e = whole-table 32 (placeBefore ws (headTransactions (headOf ws))) l 0 (p .long)
       (λ j h. p .entries j h ∙ ap (λ (m : ℕ). placeBefore ws m j) e)
 
 -- ---- the table, looked up
@@ -58,5 +55,5 @@ module _ (ws l : List ℕ) (t : l ≡ transactionPlaces ws) where
 
   pub place-found : (k : ℕ) → k < headTransactions (headOf ws) → k < 32 → getD l k 0 ≡ transactionPlace ws k
   place-found k h f =
-      ap (λ (m : List ℕ). getD m k 0) t ∙ getD-tabulate 32 (placeBefore ws (headTransactions (headOf ws))) k f
+      ap (λ (m : List ℕ). getD m k 0) t ∙ getD-tabulate 32 (placeBefore ws (headTransactions (headOf ws))) k 0 f
       ∙ ap (λ (b : Bool). cond b (transactionPlace ws k) 0) (lt-ltb k (headTransactions (headOf ws)) h)

@@ -1,35 +1,34 @@
 -- What questions 3 and 4 still say from a place of the walk on, and how that goes over one word.
 -- Assumes nothing.
 use mathlib.Core.Path.{_≡_, refl}
-use mathlib.Core.Bool.{Bool, true, false, not, _&&_, _||_, cond, and-false, false≢true}
+use mathlib.Core.Bool.{Bool, true, false, not, _&&_, _||_, cond, and-false}
 use mathlib.Core.Logic.{_⊎_, inl, inr, ⊎-elim}
-use borrow.Author.Tests.{ltb-true, ltb-false}
+use borrow.Author.Tests.{ltb-true, lt-ltb}
 use mathlib.Core.List.{List, [], _∷_, map}
 use Prim.Native.Nat.{ℕ, suc, _+_, _-_, _≤_, _<_}
 use native.Mathlib.Nat.{sub-zero}
-use native.Mathlib.Numerals.{add-one}
 use native.Mathlib.Omega.{arith}
 use lib.Dec.{ltb, leb, leb·zero, leb·suc-suc, leb·suc-zero}
 use lib.ListN.{length, getD, take, drop, drop-of-length-le}
 use lib.Seq.{drop-cons}
+use Rattle.verdict.specs.Verdict.{Verdict, accepted, refused, ask, _then_}
+use Rattle.lists.specs.Lists.{every}
+use Rattle.lists.proofs.Laws.{and-fst, and-snd, left-suc, drop-here, drop-cases}
 use Rattle.word.specs.Field.{parameterCount, stepCount, partitioningField}
 use Rattle.plan.specs.Decode.{transactionsOf, stepOf, partBy}
-use Rattle.plan.specs.Admission.{Verdict, accepted, refused, every, wellFormed, parametersExist, transactionFormed, stepFormed}
+use Rattle.plan.specs.Admission.{wellFormed, parametersExist, transactionFormed, stepFormed}
 use Rattle.plan.specs.Admission.{stepExists, partExists}
 use Rattle.plan.specs.Admission.{transactionsVerdict}
-use Rattle.plan.proofs.Places.{left-suc}
 
 -- the verdict when n transactions are still to come in the words ws; m: a parameter was missing already
 rest : ℕ → List ℕ → Bool → Verdict
-rest n ws m = cond (wellFormed n ws) (cond (not m && every parametersExist (transactionsOf n ws)) accepted (refused 4)) (refused 3)
+rest n ws m = ask 3 (wellFormed n ws) then ask 4 (not m && every parametersExist (transactionsOf n ws))
 
 -- the same inside a transaction with p parameters, of which k steps are still to come, and n transactions behind it
 restIn : ℕ → ℕ → ℕ → List ℕ → Bool → Verdict
 restIn k p n ws m =
-    cond (leb k (length ws) && (every stepFormed (take k ws) && wellFormed n (drop k ws)))
-    (cond (not m && (every (stepExists p) (map stepOf (take k ws)) && every parametersExist (transactionsOf n (drop k ws)))) accepted
-    (refused 4))
-    (refused 3)
+    ask 3 (leb k (length ws) && (every stepFormed (take k ws) && wellFormed n (drop k ws)))
+    then ask 4 (not m && (every (stepExists p) (map stepOf (take k ws)) && every parametersExist (transactionsOf n (drop k ws))))
 
 -- ---- one word of a list
 
@@ -78,33 +77,29 @@ in-good : (k p n w : ℕ) (ws : List ℕ) (m : Bool) → stepFormed w ≡ true
 unfolding restIn every
 in-good k p n w ws m e = simp (e, noted, leb·suc-suc)
 
--- ---- the word at a place of the plan. A step's or a transaction's word is looked for at `at`: `there` says that it stands there,
--- well wellFormed
+-- ---- the word at a place of the plan
 
-abbrev pub there : (ℕ → Bool) → List ℕ → ℕ → Bool
-there form plan at = ltb at (length plan) && form (getD plan at 0)
+-- a step's or a transaction's word stands there, well formed
+abbrev pub formedAt : (ℕ → Bool) → List ℕ → ℕ → Bool
+formedAt form plan at = ltb at (length plan) && form (getD plan at 0)
 
 left-none : (n k : ℕ) → n ≤ k → n - k ≡ 0
 left-none n k h = omega arith
 
--- either no word stands there, or one that is not well wellFormed, or one that is
-split-there : (form : ℕ → Bool) (plan : List ℕ) (at : ℕ) → there form plan at ≡ false
+-- if not, either no word stands there, or one that is not well formed
+not-formed : (form : ℕ → Bool) (plan : List ℕ) (at : ℕ) → formedAt form plan at ≡ false
     → (drop at plan ≡ []) ⊎ ((drop at plan ≡ getD plan at 0 ∷ drop (at + 1) plan) × (form (getD plan at 0) ≡ false))
-split-there form plan at = go (ltb at (length plan)) refl
-  where
-    go : (b : Bool) → ltb at (length plan) ≡ b → (b && form (getD plan at 0)) ≡ false
-        → (drop at plan ≡ []) ⊎ ((drop at plan ≡ getD plan at 0 ∷ drop (at + 1) plan) × (form (getD plan at 0) ≡ false))
-    go true e f = inr (rw (add-one, drop-cons plan at 0 (ltb-true at (length plan) e)), f)
-    go false e f = inl (drop-of-length-le plan (ltb-false at (length plan) e))
+not-formed form plan at f =
+    ⊎-elim (λ e. inl e)
+    (λ (g : (at < length plan) × (drop at plan ≡ getD plan at 0 ∷ drop (at + 1) plan)).
+    inr (g .1, rw (lt-ltb at (length plan) (g .0)) at f))
+    (drop-cases plan at 0)
 
-pub stands : (form : ℕ → Bool) (plan : List ℕ) (at : ℕ) → there form plan at ≡ true
+pub stands : (form : ℕ → Bool) (plan : List ℕ) (at : ℕ) → formedAt form plan at ≡ true
     → (at < length plan) × (drop at plan ≡ getD plan at 0 ∷ drop (at + 1) plan) × (form (getD plan at 0) ≡ true)
-stands form plan at = go (ltb at (length plan)) refl
-  where
-    go : (b : Bool) → ltb at (length plan) ≡ b → (b && form (getD plan at 0)) ≡ true
-        → (at < length plan) × (drop at plan ≡ getD plan at 0 ∷ drop (at + 1) plan) × (form (getD plan at 0) ≡ true)
-    go true e f = (ltb-true at (length plan) e, rw (add-one, drop-cons plan at 0 (ltb-true at (length plan) e)), f)
-    go false e f = absurd (false≢true f)
+stands form plan at f =
+    let l = ltb-true at (length plan) (and-fst (ltb at (length plan)) _ f) in
+    (l, drop-here plan at 0 l, and-snd (ltb at (length plan)) _ f)
 
 -- the verdict from a place of the walk on, in the walk's own variables. Both are shut, so that antt reads their arguments off a goal
 pub restAt : (txs t : ℕ) (plan : List ℕ) (at : ℕ) (m : Bool) → Verdict
@@ -114,14 +109,14 @@ pub restInAt : (steps s p txs t : ℕ) (plan : List ℕ) (at : ℕ) (m : Bool) �
 restInAt steps s p txs t plan at m = restIn (steps - s) p (txs - (t + 1)) (drop at plan) m
 
 module _ (txs t : ℕ) (plan : List ℕ) (at : ℕ) (m : Bool) where
-  pub tx-fault : t < txs → there transactionFormed plan at ≡ false → restAt txs t plan at m ≡ refused 3
+  pub tx-fault : t < txs → formedAt transactionFormed plan at ≡ false → restAt txs t plan at m ≡ refused 3
   unfolding restAt
   tx-fault h f =
       ⊎-elim (λ (e : drop at plan ≡ []). rw (left-suc txs t h, e) (rest-nil (txs - (t + 1)) m))
       (λ e. rw (left-suc txs t h, e .0) (rest-bad (txs - (t + 1)) (getD plan at 0) (drop (at + 1) plan) m (e .1)))
-      (split-there transactionFormed plan at f)
+      (not-formed transactionFormed plan at f)
 
-  pub tx-step : t < txs → there transactionFormed plan at ≡ true
+  pub tx-step : t < txs → formedAt transactionFormed plan at ≡ true
       → restAt txs t plan at m
       ≡ restInAt (stepCount (getD plan at 0)) 0 (parameterCount (getD plan at 0)) txs t plan (at + 1)
       (m || not (partExists (parameterCount (getD plan at 0)) (partBy (partitioningField (getD plan at 0)))))
@@ -142,14 +137,14 @@ unfolding restAt rest transactionsVerdict
 walk-start txs plan = simp sub-zero
 
 module _ (steps s p txs t : ℕ) (plan : List ℕ) (at : ℕ) (m : Bool) where
-  pub step-fault : s < steps → there stepFormed plan at ≡ false → restInAt steps s p txs t plan at m ≡ refused 3
+  pub step-fault : s < steps → formedAt stepFormed plan at ≡ false → restInAt steps s p txs t plan at m ≡ refused 3
   unfolding restInAt
   step-fault h f =
       ⊎-elim (λ (e : drop at plan ≡ []). rw (left-suc steps s h, e) (in-nil (steps - (s + 1)) p (txs - (t + 1)) m))
       (λ e. rw (left-suc steps s h, e .0) (in-bad (steps - (s + 1)) p (txs - (t + 1)) (getD plan at 0) (drop (at + 1) plan) m (e .1)))
-      (split-there stepFormed plan at f)
+      (not-formed stepFormed plan at f)
 
-  pub step-step : s < steps → there stepFormed plan at ≡ true
+  pub step-step : s < steps → formedAt stepFormed plan at ≡ true
       → restInAt steps s p txs t plan at m ≡ restInAt steps (s + 1) p txs t plan (at + 1)
       (m || not (stepExists p (stepOf (getD plan at 0))))
   unfolding restInAt

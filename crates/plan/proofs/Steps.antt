@@ -9,14 +9,13 @@ use native.Mathlib.Numerals.{add-one}
 use native.Mathlib.Omega.{arith}
 use lib.ListN.{length, getD, take, drop, length-drop}
 use lib.Seq.{drop-cons, getD-drop, getD-take, length-take-le}
+use Rattle.lists.specs.Lists.{every}
+use Rattle.lists.proofs.Laws.{and-fst, and-snd, left-suc, every-index}
 use Rattle.word.specs.Field.{stepCount}
 use Rattle.plan.specs.Plan.{Step}
 use Rattle.plan.specs.Decode.{stepOf}
-use Rattle.plan.specs.Admission.{stepFormed, every}
+use Rattle.plan.specs.Admission.{stepFormed}
 use Rattle.plan.specs.Place.{transactionFrom, StandsAt}
-use Rattle.plan.proofs.Bool.{and-fst, and-snd}
-use Rattle.plan.proofs.Places.{left-suc}
-use Rattle.plan.proofs.Every.{every-index}
 
 -- the steps from step s on, of the transaction at `at`
 pub stepsFrom : List ℕ → ℕ → ℕ → List Step

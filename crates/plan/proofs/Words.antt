@@ -5,11 +5,11 @@ use mathlib.Core.Bool.{Bool, true, false, _||_}
 use Prim.Native.Nat.{ℕ, _≤_}
 use lib.Dec.{ltb, leb, eqb}
 use borrow.Author.Tests.{leb-true, le-leb, le-ltb}
+use Rattle.lists.proofs.Laws.{and-fst, and-snd}
 use Rattle.word.specs.Field.{kindOf, parameterCount, stepCount, rowSource, fixedRow, operandSource, fixedNumber}
 use Rattle.word.specs.Reserved.{sourceField}
 use Rattle.plan.specs.Decode.{sourceBy, stepOf}
 use Rattle.plan.specs.Admission.{transactionFormed, stepFormed, sourceExists, stepExists}
-use Rattle.plan.proofs.Bool.{and-fst, and-snd}
 
 pub step-kind-low : (w : ℕ) → stepFormed w ≡ true → 3 ≤ kindOf w
 unfolding stepFormed

@@ -1,17 +1,15 @@
 -- Questions 1 to 4 ("questions at the door"), and the plan reader's verdict.
 use Prim.Native.Nat.{ℕ, zero, suc}
-use mathlib.Core.Bool.{Bool, true, false, _&&_, _||_, cond}
+use mathlib.Core.Bool.{Bool, true, false, _&&_, _||_}
 use mathlib.Core.List.{List, [], _∷_}
 use lib.ListN.{length, take, drop}
 use lib.Dec.{ltb, leb, eqb}
+use Rattle.verdict.specs.Verdict.{Verdict, ask, _then_}
+use Rattle.lists.specs.Lists.{every}
 use Rattle.word.specs.Field.{kindOf, headDesks, headTransactions, headWords, parameterCount, stepCount, partitioningField}
 use Rattle.word.specs.Reserved.{sourceField, reservedZero}
 use Rattle.plan.specs.Plan.{Source, param, fixed, Step, cell, operand, Partitioning, byParam, unpartitioned, Transaction}
 use Rattle.plan.specs.Decode.{headOf, transactionsOf}
-
-unfoldable pub every : {A : Type 0} → (A → Bool) → List A → Bool
-every f [] = true
-every f (x ∷ xs) = f x && every f xs
 
 -- 1: "Has the plan a head word of kind 1 whose count is the words handed in, 1–417?"
 unfoldable pub hasHead : List ℕ → Bool
@@ -60,18 +58,13 @@ parametersExist t = partExists (t .params) (t .part) && every (stepExists (t .pa
 
 -- ---- the verdict
 
-pub data Verdict : Type 0 where
-  accepted : Verdict
-  refused : ℕ → Verdict
-
 -- questions 3 and 4 of n transactions in the words behind the head
 unfoldable pub transactionsVerdict : ℕ → List ℕ → Verdict
-transactionsVerdict n ws =
-    cond (wellFormed n ws) (cond (every parametersExist (transactionsOf n ws)) accepted (refused 4)) (refused 3)
+transactionsVerdict n ws = ask 3 (wellFormed n ws) then ask 4 (every parametersExist (transactionsOf n ws))
 
 -- "All of one question is put before the next"
 unfoldable pub planVerdict : List ℕ → Verdict
 planVerdict ws =
-    cond (hasHead ws)
-    (cond (countsInRange (headOf ws)) (transactionsVerdict (headTransactions (headOf ws)) (drop 1 ws)) (refused 2))
-    (refused 1)
+    ask 1 (hasHead ws)
+    then ask 2 (countsInRange (headOf ws))
+    then transactionsVerdict (headTransactions (headOf ws)) (drop 1 ws)

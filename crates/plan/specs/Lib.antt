@@ -1,6 +1,4 @@
 pub mod Plan
 pub mod Decode
 pub mod Admission
-pub mod Answer
-pub mod Table
 pub mod Place

@@ -5,11 +5,11 @@ use mathlib.Core.Bool.{true, cond}
 use mathlib.Core.List.{List}
 use lib.Dec.{ltb}
 use lib.ListN.{length, getD, take, drop}
+use Rattle.lists.specs.Lists.{tabulate, every}
 use Rattle.word.specs.Field.{stepCount, headTransactions}
 use Rattle.plan.specs.Plan.{Transaction}
-use Rattle.plan.specs.Table.{tabulate}
 use Rattle.plan.specs.Decode.{transactionOf, headOf}
-use Rattle.plan.specs.Admission.{transactionFormed, stepFormed, every}
+use Rattle.plan.specs.Admission.{transactionFormed, stepFormed}
 
 -- the first stands behind the head, each next one behind the steps of the one before
 unfoldable pub transactionPlace : List ℕ → ℕ → ℕ

@@ -6,5 +6,4 @@ mod reader;
 pub use place::transaction_place;
 pub use place::transaction_places;
 pub use place::word_at;
-pub use reader::PlanAnswer;
 pub use reader::read_plan;

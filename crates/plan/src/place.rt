@@ -1,7 +1,8 @@
 // Where a transaction stands among the words of a plan.
 ghost use mathlib.Core.Path.{_≡_};
 ghost use lib.ListN.{getD};
-ghost use Rattle.plan.specs.Admission.{planVerdict, accepted};
+ghost use Rattle.verdict.specs.Verdict.{accepted};
+ghost use Rattle.plan.specs.Admission.{planVerdict};
 ghost use Rattle.plan.specs.Place.{transactionPlace, transactionPlaces};
 use word::fields;
 

@@ -3,43 +3,38 @@ ghost use mathlib.Core.Path.{_≡_};
 ghost use mathlib.Core.Bool.{_&&_};
 ghost use lib.ListN.{length, getD, drop};
 ghost use lib.Dec.{ltb};
+ghost use Rattle.verdict.specs.Verdict.{verdictOf};
 ghost use Rattle.plan.specs.Admission.{planVerdict, transactionsVerdict, transactionFormed, stepFormed};
-ghost use Rattle.plan.specs.Answer.{verdictOf};
 use crate::form;
+use verdict::Verdict;
 use word::fields;
 
-// Accepted, or refused with the number of the question whose answer is no.
-pub enum PlanAnswer {
-    Accepted,
-    Refused(u32),
-}
-
 // Questions 1 to 4.
-pub fn read_plan(plan: &[u32]) -> PlanAnswer
+pub fn read_plan(plan: &[u32]) -> Verdict
     ensures { λ r. ⌜ verdictOf r ≡ planVerdict (now (plan .entry)) ⌝ }
 {
     let words = plan.len();
     if words < 1 {
-        return PlanAnswer::Refused(1);
+        return Verdict::Refused(1);
     }
     if 417 < words {
-        return PlanAnswer::Refused(1);
+        return Verdict::Refused(1);
     }
     let head = plan[0];
     if head / fields::KIND != 1 {
-        return PlanAnswer::Refused(1);
+        return Verdict::Refused(1);
     }
     if (head % 0x1_0000) as usize != words {
-        return PlanAnswer::Refused(1);
+        return Verdict::Refused(1);
     }
     if !form::counts_in_range(head) {
-        return PlanAnswer::Refused(2);
+        return Verdict::Refused(2);
     }
     read_transactions(plan, head / fields::TRANSACTIONS % 256)
 }
 
 // Questions 3 and 4 of the words behind the head. The first form fault leaves both loops.
-fn read_transactions(plan: &[u32], transactions: u32) -> PlanAnswer
+fn read_transactions(plan: &[u32], transactions: u32) -> Verdict
     ensures { λ r. ⌜ verdictOf r ≡ transactionsVerdict transactions (drop 1 (now (plan .entry))) ⌝ }
 {
     let mut at: usize = 1;
@@ -66,15 +61,15 @@ fn read_transactions(plan: &[u32], transactions: u32) -> PlanAnswer
         t = t + 1;
     }
     if t < transactions {
-        return PlanAnswer::Refused(3);
+        return Verdict::Refused(3);
     }
     if at < plan.len() {
-        return PlanAnswer::Refused(3);
+        return Verdict::Refused(3);
     }
     if missing {
-        PlanAnswer::Refused(4)
+        Verdict::Refused(4)
     } else {
-        PlanAnswer::Accepted
+        Verdict::Accepted
     }
 }
 

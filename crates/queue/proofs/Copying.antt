@@ -4,18 +4,16 @@
 --     upto i ys        32 records, of which the first i are copied.        upto-length     there are 32
 --     upto-start, upto-step, upto-end      where the copy begins, one record more, and where it ends
 -- Assumes nothing.
-use mathlib.Core.Path.{_≡_, refl, sym, _∙_, ap}
+use mathlib.Core.Path.{_≡_, sym, _∙_, ap}
 use Prim.Native.Nat.{ℕ, _+_, _-_, _<_, _≤_}
 use native.Mathlib.Nat.{zero-add}
 use native.Mathlib.Numerals.{add-one}
 use native.Mathlib.Omega.{arith}
-use mathlib.Core.Bool.{Bool, true, false}
 use mathlib.Core.List.{List, _++_, append-nil}
-use lib.Dec.{ltb}
 use lib.ListN.{length, getD, set, take, replicate, length-replicate, length-append, List·getD-append, List·getD-eq-default}
 use lib.ListN.{getD-replicate}
 use lib.Seq.{paste, paste-zero, paste-suc, length-paste, getD-append-add, take-append-le, take-all}
-use borrow.Author.Tests.{ltb-true, ltb-false}
+use Rattle.lists.proofs.Laws.{by-less}
 use Rattle.queue.specs.declared.record.Request.{Request}
 use Rattle.queue.specs.Queue.{noRequest, recordAt, recordsOf}
 
@@ -27,17 +25,12 @@ padded-length : (ys : List Request) → 32 ≤ length (padded ys)
 padded-length ys = omega (arith, length-append ys (replicate 32 noRequest), length-replicate 32 noRequest)
 
 padded-at : (ys : List Request) (i : ℕ) → i < 32 → getD (padded ys) i noRequest ≡ recordAt ys i
-padded-at ys i l = by-place (ltb i (length ys)) refl
-  where
-    by-place : (t : Bool) → ltb i (length ys) ≡ t → getD (padded ys) i noRequest ≡ recordAt ys i
-    by-place true e = List·getD-append ys (replicate 32 noRequest) noRequest i (ltb-true i (length ys) e)
-    by-place false e =
-        let past : length ys ≤ i = ltb-false i (length ys) e in
-        let k : ℕ = i - length ys in
-        let there : i ≡ length ys + k = omega arith in
-        let within : k < 32 = omega arith in
-        ap (λ (j : ℕ). getD (padded ys) j noRequest) there ∙ getD-append-add ys (replicate 32 noRequest) k noRequest
-        ∙ getD-replicate 32 k noRequest noRequest within ∙ sym (List·getD-eq-default ys noRequest past)
+padded-at ys i l =
+    by-less i (length ys) (λ h. List·getD-append ys (replicate 32 noRequest) noRequest i h)
+    (λ h. let k : ℕ = i - length ys in
+    let split : i ≡ length ys + k = omega arith in
+    ap (λ (j : ℕ). getD (padded ys) j noRequest) split ∙ getD-append-add ys (replicate 32 noRequest) k noRequest
+    ∙ getD-replicate 32 k noRequest noRequest (omega arith) ∙ sym (List·getD-eq-default ys noRequest h))
 
 pub records-whole : (ys : List Request) → length ys ≡ 32 → recordsOf ys ≡ ys
 records-whole ys e = take-append-le 32 ys (replicate 32 noRequest) (omega arith) ∙ take-all 32 ys (omega arith)

@@ -1,51 +1,34 @@
 -- Laws of a queue as plain words.
---     length-recordsIn, getD-recordsIn     the first n records: there are n, each the words' at its place
 --     queueIn-row, queueIn-none            192 words are a row of 32 records; others are none
 --     length-queueIn                       so a row has 32 records
 --     queueIn-storedIn                     a record stored among the words is stored in the queue
 --     storedIn-kept                        what is no row is as before
 -- Assumes nothing.
 use mathlib.Core.Path.{_≡_, refl, sym, _∙_, ap}
-use mathlib.Core.Logic.{_⊎_, inl, inr, ⊎-elim}
-use Prim.Native.Nat.{ℕ, zero, suc, _+_, _*_, _<_, _≤_}
-use native.Mathlib.Nat.{le-of-suc-le-suc, not-suc-le-zero, eq-or-lt-of-le}
+use mathlib.Core.Logic.{_≢_, _⊎_, inl, inr}
+use Prim.Native.Nat.{ℕ, _+_, _*_, _<_, _≤_}
 use native.Mathlib.Omega.{arith}
 use mathlib.Core.Bool.{Bool, true, false, false≢true, cond, _&&_}
-use mathlib.Core.List.{List, [], _∷_, _++_}
+use mathlib.Core.List.{List, []}
 use lib.Dec.{eqb, ltb}
-use lib.ListN.{length, getD, set, length-append, length-set, List·getD-append}
-use lib.Seq.{ext-getD, getD-append-seam, getD-set-same, getD-set-other, set-out}
+use lib.ListN.{length, getD, set, length-set}
+use lib.Seq.{ext-getD, getD-set-same, getD-set-other, set-out}
 use borrow.Author.Tests.{eqb-true, ltb-true, ltb-false, eq-eqb, ne-eqb, lt-ltb, le-ltb}
+use Rattle.lists.proofs.Laws.{by-same, by-less, length-tabulate, getD-tabulate}
 use Rattle.queue.specs.declared.record.Request.{Request}
 use Rattle.queue.specs.Queue.{noRequest}
 use Rattle.queue.specs.Words.{recordIn, recordsIn, queueIn, overRecord, storedIn, KeptUnlessRow}
 
-pub length-recordsIn : (n : ℕ) (ws : List ℕ) → length (recordsIn n ws) ≡ n
-unfolding recordsIn
-length-recordsIn zero ws = refl
-length-recordsIn (suc n) ws = length-append (recordsIn n ws) (recordIn ws n ∷ []) ∙ omega (arith, length-recordsIn n ws)
-
-pub getD-recordsIn : (n : ℕ) (ws : List ℕ) (i : ℕ) → i < n → getD (recordsIn n ws) i noRequest ≡ recordIn ws i
-unfolding recordsIn
-getD-recordsIn zero ws i h = absurd (not-suc-le-zero h)
-getD-recordsIn (suc n) ws i h =
-    ⊎-elim
-    (λ (e : i ≡ n). ap (λ (j : ℕ). getD (recordsIn n ws ++ (recordIn ws n ∷ [])) j noRequest) (e ∙ sym (length-recordsIn n ws))
-    ∙ getD-append-seam (recordsIn n ws) (recordIn ws n) [] noRequest ∙ ap (recordIn ws) (sym e))
-    (λ (l : i < n). List·getD-append (recordsIn n ws) (recordIn ws n ∷ []) noRequest i (omega (arith, length-recordsIn n ws))
-    ∙ getD-recordsIn n ws i l)
-    (eq-or-lt-of-le (le-of-suc-le-suc h))
-
-pub queueIn-row : (ws : List ℕ) → length ws ≡ 192 → queueIn ws ≡ recordsIn 32 ws
+pub queueIn-row : (ws : List ℕ) → length ws ≡ 192 → queueIn ws ≡ recordsIn ws
 unfolding queueIn
-queueIn-row ws e = ap (λ (b : Bool). cond b (recordsIn 32 ws) []) (eq-eqb (length ws) 192 e)
+queueIn-row ws e = ap (λ (b : Bool). cond b (recordsIn ws) []) (eq-eqb (length ws) 192 e)
 
 pub queueIn-none : (ws : List ℕ) → eqb (length ws) 192 ≡ false → queueIn ws ≡ []
 unfolding queueIn
-queueIn-none ws e = ap (λ (b : Bool). cond b (recordsIn 32 ws) []) e
+queueIn-none ws e = ap (λ (b : Bool). cond b (recordsIn ws) []) e
 
 pub length-queueIn : (ws : List ℕ) → length ws ≡ 192 → length (queueIn ws) ≡ 32
-length-queueIn ws e = ap length (queueIn-row ws e) ∙ length-recordsIn 32 ws
+length-queueIn ws e = ap length (queueIn-row ws e) ∙ length-tabulate 32 (recordIn ws)
 
 -- the words with the first fields of a record stored from word i on
 module _ (ws : List ℕ) (i : ℕ) (r : Request) where
@@ -134,15 +117,6 @@ pub by-fields : (a b : Request) → a .client ≡ b .client → a .transaction �
     → a .p3 ≡ b .p3 → a ≡ b
 by-fields a b c t p q r s = λ i. record { client = c i; transaction = t i; p0 = p i; p1 = q i; p2 = r i; p3 = s i }
 
--- two places: one is before the other, or they are one
-in-order : (a b : ℕ) → ((a < b) ⊎ (a ≡ b)) ⊎ (b < a)
-in-order a b = by-tests (ltb a b) (ltb b a) refl refl
-  where
-    by-tests : (s t : Bool) → ltb a b ≡ s → ltb b a ≡ t → ((a < b) ⊎ (a ≡ b)) ⊎ (b < a)
-    by-tests true t e f = inl (inl (ltb-true a b e))
-    by-tests false true e f = inr (ltb-true b a f)
-    by-tests false false e f = inl (inr (omega (arith, ltb-false a b e, ltb-false b a f)))
-
 module _ (ws : List ℕ) (at : ℕ) (r : Request) where
   -- the record itself
   own-record : at * 6 + 5 < length ws → recordIn (overRecord ws (at * 6) r) at ≡ r
@@ -152,15 +126,14 @@ module _ (ws : List ℕ) (at : ℕ) (r : Request) where
       (over-p2 ws (at * 6) r (omega arith)) (over-p3 ws (at * 6) r h)
 
   -- a word of another record is away from this one's
-  apart : (b j : ℕ) → (b < at) ⊎ (at < b) → b * 6 ≤ j → j < b * 6 + 6 → (j < at * 6) ⊎ (at * 6 + 6 ≤ j)
-  apart b j (inl h) l u = inl (omega arith)
-  apart b j (inr h) l u = inr (omega arith)
+  apart : (b j : ℕ) → b ≢ at → b * 6 ≤ j → j < b * 6 + 6 → (j < at * 6) ⊎ (at * 6 + 6 ≤ j)
+  apart b j s l u = by-less j (at * 6) inl (λ h. inr (omega (arith, s)))
 
-  other-word : (b j : ℕ) → (b < at) ⊎ (at < b) → b * 6 ≤ j → j < b * 6 + 6 → getD (overRecord ws (at * 6) r) j 0 ≡ getD ws j 0
+  other-word : (b j : ℕ) → b ≢ at → b * 6 ≤ j → j < b * 6 + 6 → getD (overRecord ws (at * 6) r) j 0 ≡ getD ws j 0
   other-word b j s l u = over-away ws (at * 6) r j (apart b j s l u)
 
   -- another record is as before
-  other-record : (b : ℕ) → (b < at) ⊎ (at < b) → recordIn (overRecord ws (at * 6) r) b ≡ recordIn ws b
+  other-record : (b : ℕ) → b ≢ at → recordIn (overRecord ws (at * 6) r) b ≡ recordIn ws b
   other-record b s =
       by-fields (recordIn (overRecord ws (at * 6) r) b) (recordIn ws b) (other-word b (b * 6) s (omega arith) (omega arith))
       (other-word b (b * 6 + 1) s (omega arith) (omega arith)) (other-word b (b * 6 + 2) s (omega arith) (omega arith))
@@ -169,28 +142,23 @@ module _ (ws : List ℕ) (at : ℕ) (r : Request) where
 
   -- the records, one by one
   stored-at : length ws ≡ 192 → at < 32 → (b : ℕ) → b < 32
-      → getD (recordsIn 32 (overRecord ws (at * 6) r)) b noRequest ≡ getD (set (recordsIn 32 ws) at r) b noRequest
-  stored-at e h b l = getD-recordsIn 32 (overRecord ws (at * 6) r) b l ∙ by-order (in-order b at)
-    where
-      by-order : ((b < at) ⊎ (b ≡ at)) ⊎ (at < b) → recordIn (overRecord ws (at * 6) r) b ≡ getD (set (recordsIn 32 ws) at r) b noRequest
-      by-order (inl (inl s)) =
-          other-record b (inl s) ∙ sym (getD-recordsIn 32 ws b l)
-          ∙ sym (getD-set-other (recordsIn 32 ws) at b r noRequest (λ e. omega arith))
-      by-order (inl (inr s)) =
-          ap (recordIn (overRecord ws (at * 6) r)) s ∙ own-record (omega arith)
-          ∙ sym (getD-set-same (recordsIn 32 ws) at r noRequest (omega (arith, length-recordsIn 32 ws)))
-          ∙ ap (λ (k : ℕ). getD (set (recordsIn 32 ws) at r) k noRequest) (sym s)
-      by-order (inr s) =
-          other-record b (inr s) ∙ sym (getD-recordsIn 32 ws b l)
-          ∙ sym (getD-set-other (recordsIn 32 ws) at b r noRequest (λ e. omega arith))
+      → getD (recordsIn (overRecord ws (at * 6) r)) b noRequest ≡ getD (set (recordsIn ws) at r) b noRequest
+  stored-at e h b l =
+      getD-tabulate 32 (recordIn (overRecord ws (at * 6) r)) b noRequest l
+      ∙ by-same b at
+      (λ s. ap (recordIn (overRecord ws (at * 6) r)) s ∙ own-record (omega arith)
+      ∙ sym (getD-set-same (recordsIn ws) at r noRequest (omega (arith, length-tabulate 32 (recordIn ws))))
+      ∙ ap (λ (k : ℕ). getD (set (recordsIn ws) at r) k noRequest) (sym s))
+      (λ s. other-record b s ∙ sym (getD-tabulate 32 (recordIn ws) b noRequest l)
+      ∙ sym (getD-set-other (recordsIn ws) at b r noRequest s))
 
   -- a row with a record stored within it
   stored-row : length ws ≡ 192 → at < 32 → queueIn (overRecord ws (at * 6) r) ≡ set (queueIn ws) at r
   stored-row e h =
       queueIn-row (overRecord ws (at * 6) r) (over-length ws (at * 6) r ∙ e)
-      ∙ ext-getD noRequest (recordsIn 32 (overRecord ws (at * 6) r)) (set (recordsIn 32 ws) at r)
-      (length-recordsIn 32 (overRecord ws (at * 6) r) ∙ sym (length-set (recordsIn 32 ws) at r ∙ length-recordsIn 32 ws))
-      (λ b l. stored-at e h b (omega (arith, length-recordsIn 32 (overRecord ws (at * 6) r))))
+      ∙ ext-getD noRequest (recordsIn (overRecord ws (at * 6) r)) (set (recordsIn ws) at r)
+      (length-tabulate 32 (recordIn (overRecord ws (at * 6) r)) ∙ sym (length-set (recordsIn ws) at r ∙ length-tabulate 32 (recordIn ws)))
+      (λ b l. stored-at e h b (omega (arith, length-tabulate 32 (recordIn (overRecord ws (at * 6) r)))))
       ∙ ap (λ (q : List Request). set q at r) (sym (queueIn-row ws e))
 
   -- past the end of a row, or in what is no row, there is nothing to store

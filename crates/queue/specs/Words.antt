@@ -4,11 +4,12 @@
 --     storedIn     the words with a record stored at a place
 --     KeptUnlessRow    words of another number than 192 are as before
 use mathlib.Core.Path.{_≡_}
-use Prim.Native.Nat.{ℕ, zero, suc, _+_, _*_}
+use Prim.Native.Nat.{ℕ, _+_, _*_}
 use mathlib.Core.Bool.{false, cond, _&&_}
-use mathlib.Core.List.{List, [], _∷_, _++_}
+use mathlib.Core.List.{List, []}
 use lib.Dec.{eqb, ltb}
 use lib.ListN.{length, getD, set}
+use Rattle.lists.specs.Lists.{tabulate}
 use Rattle.queue.specs.declared.record.Request.{Request}
 
 -- the record at a place
@@ -23,14 +24,13 @@ recordIn ws at =
       p3 = getD ws (at * 6 + 5) 0;
     }
 
--- the first n records
-unfoldable pub recordsIn : ℕ → List ℕ → List Request
-recordsIn zero ws = []
-recordsIn (suc n) ws = recordsIn n ws ++ (recordIn ws n ∷ [])
+-- 32 records, one after the other
+abbrev pub recordsIn : List ℕ → List Request
+recordsIn ws = tabulate 32 (recordIn ws)
 
 -- "a lent row of 32 records": other words than 192 are no row, which question 5 refuses as it refuses an empty one
 unfoldable pub queueIn : List ℕ → List Request
-queueIn ws = cond (eqb (length ws) 192) (recordsIn 32 ws) []
+queueIn ws = cond (eqb (length ws) 192) (recordsIn ws) []
 
 -- the six words of a record from word i on
 abbrev pub overRecord : List ℕ → ℕ → Request → List ℕ

@@ -38,7 +38,7 @@ fn record_in(row: &[u32], at: usize) -> Request
 
 // 32 records, one after the other.
 fn all_in(row: &[u32]) -> [Request; 32]
-    ensures { λ r. ⌜ r ≡ recordsOf (recordsIn 32 (now (row .entry))) ⌝ }
+    ensures { λ r. ⌜ r ≡ recordsOf (recordsIn (now (row .entry))) ⌝ }
 {
     let mut records = blanks();
     for at in 0..32usize {

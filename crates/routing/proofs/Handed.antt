@@ -1,18 +1,18 @@
 -- What the core of a request is handed stands for the queue: questions 1 to 8 have the same answers.
 -- Assumes nothing.
 use mathlib.Core.Path.{_≡_, _∙_, sym, ap}
-use mathlib.Core.Bool.{true, false, _&&_, cond}
+use mathlib.Core.Bool.{true, false, _&&_}
 use mathlib.Core.List.{List}
 use Prim.Native.Nat.{ℕ}
 use lib.Dec.{eqb}
 use lib.ListN.{length}
 use borrow.Author.Tests.{eqb-true, eq-eqb, ne-eqb}
+use Rattle.verdict.specs.Verdict.{Verdict, accepted, refused, ask, _then_}
+use Rattle.verdict.proofs.Verdicts.{then-accepted, then-associates, then-only-after-yes}
+use Rattle.lists.proofs.Laws.{and-snd}
 use Rattle.plan.specs.Decode.{planOf}
-use Rattle.plan.specs.Admission.{Verdict, accepted, refused, planVerdict}
-use Rattle.plan.proofs.Bool.{and-snd}
+use Rattle.plan.specs.Admission.{planVerdict}
 use Rattle.operation.specs.Admission.{operationVerdict}
-use Rattle.token.specs.Admission.{andThen}
-use Rattle.token.proofs.Verdicts.{both, then-associates, behind}
 use Rattle.queue.specs.Queue.{recordsOf}
 use Rattle.queue.specs.declared.record.Request.{Request}
 use Rattle.queue.proofs.Copying.{records-whole}
@@ -45,31 +45,31 @@ module _ (ws : List ℕ) (cells : List ℕ) (size : ℕ) where
 
   pub plan-passes : openingVerdict ws cells size ≡ accepted → planVerdict ws ≡ accepted
   unfolding openingVerdict
-  plan-passes e = both (planVerdict ws) _ e .0
+  plan-passes e = then-accepted (planVerdict ws) _ e .0
 
 -- ---- all of them, of a queue with this length and these first records
 
 module _ (ws : List ℕ) (d : Desk) (cells : List ℕ) (size : ℕ) (records : List Request) (r : Request)
     (queue : List Request) (l : length queue ≡ size) (q : recordsOf queue ≡ records) where
   rest : List Request → Verdict
-  rest rs = andThen (cond (deskStands (planOf ws) d rs) accepted (refused 6)) (operationVerdict (planOf ws) (operationOf r))
+  rest rs = ask 6 (deskStands (planOf ws) d rs) then operationVerdict (planOf ws) (operationOf r)
 
-  handed : requestVerdict ws d cells queue r ≡ andThen (openingVerdict ws cells size) (rest records)
+  handed : requestVerdict ws d cells queue r ≡ (openingVerdict ws cells size then rest records)
   unfolding requestVerdict openingVerdict deskBuffersFit rest
   handed =
-      ap (andThen (planVerdict ws))
-      (ap (λ (n : ℕ). andThen (cond (eqb (length cells) 1024 && eqb n 32) accepted (refused 5)) (rest queue)) l
-      ∙ behind (eqb (length cells) 1024 && eqb size 32) 5 (rest queue) (rest records)
+      ap (_then_ (planVerdict ws))
+      (ap (λ (n : ℕ). ask 5 (eqb (length cells) 1024 && eqb n 32) then rest queue) l
+      ∙ then-only-after-yes 5 (eqb (length cells) 1024 && eqb size 32) (rest queue) (rest records)
       (λ h. ap rest (sym (records-whole queue (l ∙ eqb-true size 32 (and-snd (eqb (length cells) 1024) _ h))) ∙ q)))
       ∙ then-associates (planVerdict ws) _ (rest records)
 
   pub opening-refused : (question : ℕ) → openingVerdict ws cells size ≡ refused question
       → requestVerdict ws d cells queue r ≡ refused question
-  opening-refused question e = handed ∙ ap (λ (v : Verdict). andThen v (rest records)) e
+  opening-refused question e = handed ∙ ap (λ (v : Verdict). v then rest records) e
 
   module _ (e : openingVerdict ws cells size ≡ accepted) where
     opened : requestVerdict ws d cells queue r ≡ rest records
-    opened = handed ∙ ap (λ (v : Verdict). andThen v (rest records)) e
+    opened = handed ∙ ap (λ (v : Verdict). v then rest records) e
 
     pub desk-unfit : deskStands (planOf ws) d records ≡ false → requestVerdict ws d cells queue r ≡ refused 6
     unfolding rest

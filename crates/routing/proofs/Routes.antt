@@ -5,9 +5,9 @@ use mathlib.Core.Bool.{Bool, true, false, cond, false≢true}
 use mathlib.Core.List.{List}
 use Prim.Native.Nat.{ℕ}
 use lib.Dec.{ltb}
+use Rattle.verdict.specs.Verdict.{Verdict}
 use Rattle.plan.specs.Plan.{Plan}
 use Rattle.plan.specs.Decode.{planOf}
-use Rattle.plan.specs.Admission.{Verdict}
 use Rattle.operation.specs.Operation.{deskOf}
 use Rattle.conflict.specs.Class.{Class, free, local, global, isFree, isGlobal}
 use Rattle.queue.specs.declared.record.Request.{Request}

@@ -4,14 +4,14 @@ use mathlib.Core.Bool.{Bool, true, false, cond}
 use mathlib.Core.List.{List}
 use lib.Dec.{ltb, eqb}
 use lib.ListN.{getD, set}
+use Rattle.verdict.specs.Verdict.{Verdict, ask, _then_, ifAccepted}
 use Rattle.plan.specs.Plan.{Plan}
 use Rattle.plan.specs.Decode.{planOf}
-use Rattle.plan.specs.Admission.{Verdict, accepted, refused, planVerdict}
-use Rattle.operation.specs.Operation.{Operation, operation, deskOf}
+use Rattle.plan.specs.Admission.{planVerdict}
+use Rattle.operation.specs.Operation.{Operation, deskOf}
 use Rattle.operation.specs.Admission.{operationVerdict}
 use Rattle.operation.specs.Run.{Reply, applyUpdate, run}
 use Rattle.conflict.specs.Class.{Class, free, local, global, classOf}
-use Rattle.token.specs.Admission.{andThen}
 use Rattle.queue.specs.declared.record.Request.{Request}
 use Rattle.desk.specs.declared.state.Desk.{Desk}
 use Rattle.desk.specs.Queueing.{operationOf}
@@ -64,8 +64,9 @@ module _ (d : Desk) (cells : List ℕ) (queue : List Request) where
   routed global false p r = unchanged (redirected (deskOf p (operationOf r)))
 
   abbrev pub served : Verdict → Plan → Request → Requested
-  served accepted p r = routed (classOf p (operationOf r)) (eqb (deskOf p (operationOf r)) (d .desk)) p r
-  served (refused question) p r = unchanged (isRefused question)
+  served v p r =
+      ifAccepted v (routed (classOf p (operationOf r)) (eqb (deskOf p (operationOf r)) (d .desk)) p r)
+      (λ question. unchanged (isRefused question))
 
 -- the record of a request
 abbrev pub recordOf : ℕ → ℕ → List ℕ → Request
@@ -75,10 +76,10 @@ recordOf client k ps =
 -- "Request: 1–8, then "elsewhere", then 9."
 unfoldable pub requestVerdict : List ℕ → Desk → List ℕ → List Request → Request → Verdict
 requestVerdict ws d cells queue r =
-    andThen (planVerdict ws)
-    (andThen (cond (deskBuffersFit cells queue) accepted (refused 5))
-    (andThen (cond (deskStands (planOf ws) d queue) accepted (refused 6))
-    (operationVerdict (planOf ws) (operationOf r))))
+    planVerdict ws
+    then ask 5 (deskBuffersFit cells queue)
+    then ask 6 (deskStands (planOf ws) d queue)
+    then operationVerdict (planOf ws) (operationOf r)
 
 unfoldable pub requestResult : List ℕ → Desk → List ℕ → List Request → Request → Requested
 requestResult ws d cells queue r = served d cells queue (requestVerdict ws d cells queue r) (planOf ws) r

@@ -1,12 +1,12 @@
 -- The core of a request. It is handed the queue's length and its first 32 records in place of the queue, and says which record is to
 -- be stored where: a place at the queue's end stores nothing.
 use Prim.Native.Nat.{ℕ}
-use mathlib.Core.Bool.{_&&_, cond}
+use mathlib.Core.Bool.{_&&_}
 use mathlib.Core.List.{List}
 use lib.Dec.{eqb}
 use lib.ListN.{length, set}
-use Rattle.plan.specs.Admission.{Verdict, accepted, refused, planVerdict}
-use Rattle.token.specs.Admission.{andThen}
+use Rattle.verdict.specs.Verdict.{Verdict, ask, _then_}
+use Rattle.plan.specs.Admission.{planVerdict}
 use Rattle.queue.specs.declared.record.Request.{Request}
 use Rattle.routing.specs.declared.asking.RequestStep.{RequestStep}
 use Rattle.routing.specs.Request.{Requested}
@@ -18,5 +18,4 @@ steppedOf s cells queue = requestedOf (s .result) cells (set queue (s .place) (s
 
 -- questions 1 to 5
 unfoldable pub openingVerdict : List ℕ → List ℕ → ℕ → Verdict
-openingVerdict ws cells size =
-    andThen (planVerdict ws) (cond (eqb (length cells) 1024 && eqb size 32) accepted (refused 5))
+openingVerdict ws cells size = planVerdict ws then ask 5 (eqb (length cells) 1024 && eqb size 32)

@@ -5,9 +5,9 @@ ghost use mathlib.Core.List.{List};
 ghost use Prim.Native.Nat.{ℕ};
 ghost use lib.Dec.{ltb, eqb};
 ghost use lib.ListN.{length};
+ghost use Rattle.verdict.specs.Verdict.{accepted, verdictOf};
 ghost use Rattle.plan.specs.Decode.{planOf};
-ghost use Rattle.plan.specs.Admission.{planVerdict, accepted};
-ghost use Rattle.plan.specs.Answer.{verdictOf};
+ghost use Rattle.plan.specs.Admission.{planVerdict};
 ghost use Rattle.plan.specs.Place.{transactionPlaces};
 ghost use Rattle.operation.specs.Operation.{deskOf};
 ghost use Rattle.operation.specs.Admission.{operationVerdict};
@@ -25,8 +25,8 @@ use desk::Desk;
 use desk::DeskCheck;
 use desk::Located;
 use operation::Reply;
-use plan::PlanAnswer;
 use queue::Request;
+use verdict::Verdict;
 
 // Replied (done or declined, with the number), waiting, elsewhere with the operation's desk, or refused with the question's number.
 pub enum RequestAnswer {
@@ -158,19 +158,19 @@ fn admitted_step(
 }
 
 // Questions 1 to 5.
-fn opening_verdict(plan: &[u32], cells: &[u32], size: usize) -> PlanAnswer
+fn opening_verdict(plan: &[u32], cells: &[u32], size: usize) -> Verdict
     ensures { λ r. ⌜ verdictOf r ≡ openingVerdict (now (plan .entry)) (now (cells .entry)) size ⌝ }
 {
-    if let PlanAnswer::Refused(question) = plan::read_plan(plan) {
-        return PlanAnswer::Refused(question);
+    if let Verdict::Refused(question) = plan::read_plan(plan) {
+        return Verdict::Refused(question);
     }
     if cells.len() != 1024 {
-        return PlanAnswer::Refused(5);
+        return Verdict::Refused(5);
     }
     if size != 32 {
-        return PlanAnswer::Refused(5);
+        return Verdict::Refused(5);
     }
-    PlanAnswer::Accepted
+    Verdict::Accepted
 }
 
 // The request, of a queue with this length and these first records. Nothing is written before the last question.
@@ -185,7 +185,7 @@ fn request_core(
     ensures { λ r. ⌜ ((queue : List Queued) → length queue ≡ size → recordsOf queue ≡ records
         → steppedOf r (now (cells .exit)) queue ≡ requestResult (now (plan .entry)) state (now (cells .entry)) queue request) ⌝ }
 {
-    if let PlanAnswer::Refused(question) = opening_verdict(plan, cells, size) {
+    if let Verdict::Refused(question) = opening_verdict(plan, cells, size) {
         return unchanged_step(RequestAnswer::Refused(question), state, size, request);
     }
     let places = plan::transaction_places(plan);

@@ -35,6 +35,7 @@ use terminal::memory::on;
 use terminal::memory::part;
 use terminal::memory::put;
 use terminal::memory::wide;
+use verdict::Verdict;
 
 // Word i, 0 past the end.
 fn word_at(words: &[u32], i: usize) -> u32 {
@@ -173,8 +174,8 @@ pub fn visit(m: &mut Memory) -> &mut Memory {
 fn begin_frame(m: &Memory, out: &mut [u32]) -> u32 {
     let size = get(m, LENT_OUTGOING) as usize;
     match token::starting_frame(load(part(m, MARKS, MARKS + MOST_WORDS), out, size)) {
-        token::StartAnswer::Written => 0,
-        token::StartAnswer::Refused(question) => question,
+        Verdict::Accepted => 0,
+        Verdict::Refused(question) => question,
     }
 }
 

@@ -9,7 +9,6 @@ use crate::layout::WORDS;
 use crate::layout::parts;
 use crate::texts;
 use conflict::ClassAnswer;
-use plan::PlanAnswer;
 use terminal::Memory;
 use terminal::memory;
 use terminal::memory::INDEX;
@@ -22,12 +21,13 @@ use terminal::memory::put;
 use terminal::memory::wide;
 use terminal::output::say;
 use terminal::output::say_each;
+use verdict::Verdict;
 
 // The plan reader's answer.
 fn verdict(m: &Memory) -> u64 {
     match plan::read_plan(counted(m, PLAN)) {
-        PlanAnswer::Accepted => answers::refused(0),
-        PlanAnswer::Refused(question) => answers::refused(question),
+        Verdict::Accepted => answers::refused(0),
+        Verdict::Refused(question) => answers::refused(question),
     }
 }
 

@@ -7,6 +7,8 @@ use mathlib.Core.Logic.{_≢_}
 use mathlib.Core.Bool.{Bool, true, false, cond, true≢false}
 use mathlib.Core.List.{List, [], _∷_, map, List·Memᴰ, List·Memᴰ·head, List·Memᴰ·tail}
 use native.Mathlib.Omega.{arith}
+use Rattle.lists.proofs.Laws.{by-same, eqb-yes, eqb-no, eqb-self, All-left, All-right}
+use Rattle.lists.specs.Lists.{All}
 use Rattle.serial.specs.Store.{Store}
 use Rattle.serial.specs.Frame.{Frame}
 use Rattle.serial.specs.Desk.{Request, Desk, Call, request, visit, deskCalled, Answer, refused, waits, isRefused, given}
@@ -15,8 +17,6 @@ use Rattle.serial.specs.Step.{Route, immediate, enqueue, redirect, route
 use Rattle.serial.specs.Step.{visitStep}
 use Rattle.serial.specs.History.{answerAt, stepAt, desksAfter}
 use Rattle.serial.specs.Visits.{Visit, visitOf, visitsAt, visits}
-use Rattle.serial.proofs.Tests.{by-same, eqb-yes, eqb-no, eqb-self}
-use Rattle.serial.proofs.Lists.{All, All-left, All-right}
 
 -- the visit is at another desk than p
 abbrev pub NotAt : ℕ → Visit → Type 0

@@ -3,7 +3,10 @@
 -- Assumes nothing.
 use Prim.Native.Nat.{ℕ, _<_}
 use mathlib.Core.Path.{_≡_, refl, sym, _∙_, ap}
-use mathlib.Core.List.{List, [], _∷_, _++_, map, map-append, List·Memᴰ}
+use mathlib.Core.List.{List, [], _∷_, _++_, map, map-append, List·Memᴰ, Memᴰ·map}
+use Rattle.lists.proofs.Laws.{by-same, eqb-yes, eqb-no}
+use Rattle.lists.specs.Lists.{All}
+use Rattle.serial.proofs.Assign.{assign-map}
 use Rattle.serial.specs.Store.{Store}
 use Rattle.serial.specs.Frame.{Frame, startFrame}
 use Rattle.serial.specs.Desk.{Desk, Call, request, visit, Answer, isRefused, sent}
@@ -15,8 +18,6 @@ use Rattle.serial.specs.Claim.{Serializable, Claim}
 use Rattle.serial.specs.Machine.{Machine, Words, atDesk, machineStep, machineAfter, seen, answerSeen, answersSeen, IfVisit}
 use Rattle.serial.specs.Machine.{MachineProper}
 use Rattle.serial.specs.AtEnd.{ProperFrom, answersOf, desksOf}
-use Rattle.serial.proofs.Tests.{by-same, eqb-yes, eqb-no}
-use Rattle.serial.proofs.Lists.{All, mem-map, assign-map}
 use Rattle.serial.proofs.Claim.{serializable}
 
 module _ {S : System} (M : Machine S) where
@@ -69,7 +70,7 @@ module _ {S : System} (M : Machine S) (N : Words M) where
   framed : (ws : List W) (c : C) (k : Call (S .Op) (S .Extra)) → callOf c ≡ k → IfVisit M N k (List·Memᴰ (shown c) ws) →
       Framed S (map frameOf ws) k
   framed ws c (request p r x) e h = tt
-  framed ws c (visit p f x) e h = rw (N .shown-frame c p f x e) (mem-map frameOf (shown c) ws h)
+  framed ws c (visit p f x) e h = rw (N .shown-frame c p f x e) (Memᴰ·map frameOf h)
 
   pub proper-called : (cs : List C) (w : ℕ → State) (ws : List W) → MachineProper M N w ws cs → All (Called M) cs
   proper-called [] w ws pr = tt

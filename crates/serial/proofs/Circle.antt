@@ -8,11 +8,11 @@ use native.Mathlib.Omega.{arith}
 use native.Mathlib.Nat.{div-add-mod', mul-le-mul-right, add-mod-right, suc-mul, add-zero}
 use lib.ListN.{length, drop, getD, length-append, length-drop}
 use lib.Seq.{drop-append-le, drop-cons}
+use Rattle.lists.proofs.Laws.{by-same, by-less, eqb-yes, eqb-no}
+use Rattle.lists.specs.Lists.{All}
 use Rattle.serial.specs.Store.{Update}
 use Rattle.serial.specs.Frame.{foreign}
 use Rattle.serial.specs.Visits.{Visit, appended, lastOf}
-use Rattle.serial.proofs.Tests.{by-same, by-less, eqb-yes, eqb-no}
-use Rattle.serial.proofs.Lists.{All}
 use Rattle.serial.proofs.Turns.{MarkedBy, Entry}
 
 -- ---- dropping a desk's updates

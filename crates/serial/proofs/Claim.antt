@@ -5,6 +5,7 @@ use mathlib.Core.Path.{_≡_, refl, sym, _∙_}
 use mathlib.Core.Logic.{inl, inr}
 use mathlib.Core.List.{List}
 use lib.ListN.{length, getD}
+use Rattle.lists.proofs.Laws.{All-part}
 use Rattle.serial.specs.Store.{Store}
 use Rattle.serial.specs.Frame.{Frame}
 use Rattle.serial.specs.Desk.{Desk}
@@ -13,7 +14,6 @@ use Rattle.serial.specs.Order.{placeAt, place, beyond}
 use Rattle.serial.specs.SerialRun.{Serial, order, storeAfter}
 use Rattle.serial.specs.Claim.{JustOne, Claim}
 use Rattle.serial.specs.Hearing.{Hears}
-use Rattle.serial.proofs.Lists.{All-part}
 use Rattle.serial.proofs.Conflicts.{NotOf, BehindOf, Leaves}
 use Rattle.serial.proofs.Invariant.{upto-off, upto-hears}
 use Rattle.serial.proofs.Calls.{Replies, Good}

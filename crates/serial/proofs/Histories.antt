@@ -6,6 +6,7 @@ use mathlib.Core.Bool.{Bool, true, false, cond}
 use mathlib.Core.List.{List, [], _∷_, _++_, map, append-assoc, append-nil}
 use native.Mathlib.Omega.{arith}
 use native.Mathlib.Nat.{le-refl, mod-eq-of-lt}
+use Rattle.lists.proofs.Laws.{true-T}
 use Rattle.serial.specs.Store.{Store}
 use Rattle.serial.specs.Frame.{Frame, startFrame}
 use Rattle.serial.specs.Desk.{Request, Desk, Call, request, visit, deskCalled, Answer, refused, isRefused, given, sent}
@@ -15,7 +16,6 @@ use Rattle.serial.specs.History.{assign, answerAt, stepAt, answers, desk
 use Rattle.serial.specs.SerialRun.{Serial, note, noteAll, newSerial}
 use Rattle.serial.specs.Visits.{frameAfter, latestFrame, framesAfter}
 use Rattle.serial.specs.AtEnd.{ProperFrom, answersOf, desksOf, serialOf, framesOf, latestOf}
-use Rattle.serial.proofs.Tests.{true-T}
 use Rattle.serial.proofs.Routes.{routed}
 use Rattle.serial.proofs.Calls.{Replies, Good, still-good, request-good, frame-is-latest, visit-good}
 

@@ -7,6 +7,7 @@ use mathlib.Core.List.{List, [], _∷_, _++_}
 use native.Mathlib.Omega.{arith}
 use native.Mathlib.Nat.{le-refl}
 use lib.ListN.{length, getD, List·getD-eq-default}
+use Rattle.lists.proofs.Laws.{by-same, by-less, eqb-no, eqb-self, All-part, snoc-own, snoc-other}
 use Rattle.serial.specs.Store.{Store, Update, applyUpdate, applyAll, Same, Within}
 use Rattle.serial.specs.Frame.{Frame}
 use Rattle.serial.specs.Desk.{Request, Desk, given}
@@ -16,8 +17,6 @@ use Rattle.serial.specs.History.{assign}
 use Rattle.serial.specs.Order.{Finished, immediateRun, placeAt, place, upto, beyond, insert}
 use Rattle.serial.specs.SerialRun.{storeAfter, due}
 use Rattle.serial.specs.Hearing.{OwnCell, Hears, owed}
-use Rattle.serial.proofs.Tests.{by-same, by-less, eqb-no, eqb-self}
-use Rattle.serial.proofs.Lists.{All-part, snoc-own, snoc-other}
 use Rattle.serial.proofs.Stores.{Same-sym, Same-trans, apply-same, apply-off}
 use Rattle.serial.proofs.Sorting
 use Rattle.serial.proofs.Sorting.{Low}

@@ -6,6 +6,8 @@ use mathlib.Core.List.{List, []}
 use native.Mathlib.Omega.{arith}
 use native.Mathlib.Nat.{mul-le-mul-right}
 use lib.ListN.{getD}
+use Rattle.lists.specs.Lists.{All}
+use Rattle.lists.proofs.Laws.{All-part}
 use Rattle.serial.specs.Store.{Store, applyAll, Same}
 use Rattle.serial.specs.Frame.{Frame}
 use Rattle.serial.specs.Desk.{Request}
@@ -13,7 +15,6 @@ use Rattle.serial.specs.System.{System, Laws}
 use Rattle.serial.specs.Order.{Finished, span, placeAt, place, upto, beyond}
 use Rattle.serial.specs.SerialRun.{storeAfter, due}
 use Rattle.serial.specs.Hearing.{Hears, owed}
-use Rattle.serial.proofs.Lists.{All, All-part}
 use Rattle.serial.proofs.Sorting
 use Rattle.serial.proofs.Sorting.{Low}
 use Rattle.serial.proofs.Conflicts

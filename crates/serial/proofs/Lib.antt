@@ -1,5 +1,4 @@
-pub mod Tests
-pub mod Lists
+pub mod Assign
 pub mod Stores
 pub mod Sorting
 pub mod Conflicts
@@ -16,10 +15,6 @@ pub mod Histories
 pub mod Claim
 pub mod StableSort
 pub mod SerialOrder
-pub mod Transactions
-pub mod Classes
-pub mod Example
-pub mod ExampleHistory
 pub mod Bridge
 pub mod Turns
 pub mod Circle

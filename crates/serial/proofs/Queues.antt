@@ -4,13 +4,13 @@ use Prim.Native.Nat.{ℕ, suc}
 use mathlib.Core.Path.{_≡_, refl, ap}
 use mathlib.Core.Logic.{_≢_}
 use mathlib.Core.List.{List, [], _∷_}
+use Rattle.lists.proofs.Laws.{eqb-no, eqb-self}
+use Rattle.lists.specs.Lists.{All}
 use Rattle.serial.specs.Store.{Store, applyAll, Same, Within}
 use Rattle.serial.specs.Desk.{Request}
 use Rattle.serial.specs.System.{System, Laws}
 use Rattle.serial.specs.Step.{runOne, runAll, repliesOf, updatesOf}
 use Rattle.serial.specs.SerialRun.{ranked, storeAfter, due}
-use Rattle.serial.proofs.Tests.{eqb-no, eqb-self}
-use Rattle.serial.proofs.Lists.{All}
 use Rattle.serial.proofs.Stores.{Within-part}
 use Rattle.serial.proofs.Conflicts.{ReadsIn, OfDesk, OutCell}
 use Rattle.serial.proofs.Runs.{reply-same, update-same, runOne-same}

@@ -7,6 +7,7 @@ use mathlib.Core.Path.{_≡_, refl, sym, _∙_, subst}
 use mathlib.Core.Logic.{_≢_}
 use mathlib.Core.List.{List, [], _∷_}
 use lib.ListN.{getD}
+use Rattle.lists.specs.Lists.{All}
 use Rattle.serial.specs.Store.{Store, Update, applyAll, Same}
 use Rattle.serial.specs.Desk.{Call}
 use Rattle.serial.specs.System.{System, Laws, Touches}
@@ -14,7 +15,6 @@ use Rattle.serial.specs.SerialRun.{storeAfter}
 use Rattle.serial.specs.Visits.{Visit, appended, lastOf}
 use Rattle.serial.specs.Hearing.{Hears, owed}
 use Rattle.serial.specs.AtEnd.{ProperFrom, desksOf, orderOf, visitsOf, latestOf}
-use Rattle.serial.proofs.Lists.{All}
 use Rattle.serial.proofs.Calls.{awaitedOf}
 use Rattle.serial.proofs.TokenTheorems.{frame-carries-last-n}
 use Rattle.serial.proofs.Standing.{shared-hears, store-with-owed-is-serial}

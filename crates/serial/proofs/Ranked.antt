@@ -6,11 +6,12 @@ use mathlib.Core.List.{List, [], _∷_, _++_, append-assoc, append-nil}
 use native.Mathlib.Omega.{arith}
 use native.Mathlib.Nat.{suc-mul, add-zero}
 use lib.ListN.{length}
+use Rattle.lists.specs.Lists.{All}
+use Rattle.lists.proofs.Laws.{All-append, All-part}
 use Rattle.serial.specs.Desk.{Request}
 use Rattle.serial.specs.System.{System, Laws}
 use Rattle.serial.specs.Order.{Finished, globalRun, span, placeAt, place, beyond, sortOnto}
 use Rattle.serial.specs.SerialRun.{ranked}
-use Rattle.serial.proofs.Lists.{All, All-append, All-part}
 use Rattle.serial.proofs.Sorting
 use Rattle.serial.proofs.Sorting.{Low}
 use Rattle.serial.proofs.Invariant.{place-mono}

@@ -5,9 +5,9 @@ use mathlib.Core.Path.{_≡_, refl, sym, _∙_}
 use mathlib.Core.Logic.{_≢_, inl, inr}
 use mathlib.Core.Bool.{Bool, true, false, false≢true}
 use lib.Dec.{eqb, eqb→eq}
+use Rattle.lists.proofs.Laws.{true-T, eqb-yes}
 use Rattle.serial.specs.System.{Class, free, local, global, System}
 use Rattle.serial.specs.Step.{Route, immediate, enqueue, redirect, routeBy, route}
-use Rattle.serial.proofs.Tests.{true-T, eqb-yes}
 use Rattle.serial.proofs.Conflicts.{RunsAt}
 
 module _ (S : System) where

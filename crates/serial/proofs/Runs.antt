@@ -4,14 +4,14 @@ use Prim.Native.Nat.{ℕ}
 use mathlib.Core.Path.{_≡_, refl, sym, _∙_, ap}
 use mathlib.Core.Logic.{_≢_, inl, inr}
 use mathlib.Core.List.{List, [], _∷_, _++_}
+use Rattle.lists.proofs.Laws.{by-same, eqb-yes, eqb-no, eqb-self, none-left, none-right}
+use Rattle.lists.specs.Lists.{All}
 use Rattle.serial.specs.Store.{Store, Update, applyUpdate, Same, Within}
 use Rattle.serial.specs.System.{System, Laws, Touches}
 use Rattle.serial.specs.Step.{runOne}
 use Rattle.serial.specs.Order.{Finished}
 use Rattle.serial.specs.SerialRun.{storeAfter, due}
 use Rattle.serial.specs.Hearing.{OwnCell}
-use Rattle.serial.proofs.Tests.{by-same, eqb-yes, eqb-no, eqb-self}
-use Rattle.serial.proofs.Lists.{All, none-left, none-right}
 use Rattle.serial.proofs.Stores.{Same-refl, Same-trans, Same-part, apply-same, apply-off, apply-swap, Within-part}
 use Rattle.serial.proofs.Conflicts.{RunsAt, BehindOf, Leaves, at-own, not-own}
 

@@ -8,13 +8,13 @@ use mathlib.Core.List.{List, [], _∷_, _++_, Perm}
 use native.Mathlib.Omega.{arith}
 use native.Mathlib.Nat.{mul-le-mul-right, suc-mul, le-refl}
 use lib.ListN.{length, length-append}
+use Rattle.lists.proofs.Laws.{by-same, by-less, All-append, All-part, Pairs-append, Pairs-part}
+use Rattle.lists.specs.Lists.{All, Pairs}
 use Rattle.serial.specs.Desk.{Request, Call, request, visit, deskCalled}
 use Rattle.serial.specs.System.{System}
 use Rattle.serial.specs.Step.{Route, immediate, enqueue, redirect, route}
 use Rattle.serial.specs.Order.{Slot, globalRun, immediateRun, Finished, span, placeOf, place, Before, Precedes}
 use Rattle.serial.specs.SerialRun.{Serial, ranked, noteNothing, noteRequest, noteVisit, note, noteAll, newSerial, serial, order}
-use Rattle.serial.proofs.Tests.{by-same, by-less}
-use Rattle.serial.proofs.Lists.{All, All-append, All-part, Pairs, Pairs-append, Pairs-part}
 use Rattle.serial.proofs.Sorting
 use Rattle.serial.proofs.StableSort.{ByKey, sorted, sort-perm}
 

@@ -4,9 +4,9 @@ use Prim.Native.Nat.{ℕ, _≤_, _<_}
 use mathlib.Core.Path.{_≡_, refl, sym, _∙_, ap}
 use mathlib.Core.List.{List, [], _∷_, _++_}
 use native.Mathlib.Omega.{arith}
+use Rattle.lists.proofs.Laws.{by-less, ltb-yes, ltb-no, All-append}
+use Rattle.lists.specs.Lists.{All}
 use Rattle.serial.specs.Order.{upto, beyond, insert, sortOnto}
-use Rattle.serial.proofs.Tests.{by-less, ltb-yes, ltb-no}
-use Rattle.serial.proofs.Lists.{All, All-append}
 
 module _ {A : Type 0} (key : A → ℕ) where
   abbrev pub Low : ℕ → A → Type 0

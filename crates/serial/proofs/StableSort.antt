@@ -5,9 +5,9 @@ use mathlib.Core.Path.{_≡_, subst}
 use mathlib.Core.Logic.{_⊎_, inl, inr}
 use mathlib.Core.List.{List, [], _∷_, _++_, append-nil, Perm, Perm·refl, Perm·trans, Perm·symm, Perm·append-right, perm-middle}
 use native.Mathlib.Omega.{arith}
+use Rattle.lists.proofs.Laws.{by-less, by-same, ltb-yes, ltb-no, All-part}
+use Rattle.lists.specs.Lists.{All, Pairs}
 use Rattle.serial.specs.Order.{upto, beyond, insert, sortOnto}
-use Rattle.serial.proofs.Tests.{by-less, by-same, ltb-yes, ltb-no}
-use Rattle.serial.proofs.Lists.{All, All-part, Pairs}
 use Rattle.serial.proofs.Sorting
 
 module _ {A : Type 0} (key : A → ℕ) where

@@ -6,6 +6,8 @@ use mathlib.Core.Path.{_≡_, sym, _∙_, ap}
 use mathlib.Core.Logic.{_≢_}
 use mathlib.Core.Bool.{true}
 use mathlib.Core.List.{List, [], _∷_, List·Memᴰ}
+use Rattle.lists.proofs.Laws.{true-T}
+use Rattle.lists.specs.Lists.{All}
 use Rattle.serial.specs.Store.{Store, applyAll, Same}
 use Rattle.serial.specs.Frame.{Frame}
 use Rattle.serial.specs.Desk.{Call, visit}
@@ -15,8 +17,6 @@ use Rattle.serial.specs.Order.{Finished, placeAt, place, upto, beyond}
 use Rattle.serial.specs.SerialRun.{storeAfter}
 use Rattle.serial.specs.Hearing.{Hears, owed}
 use Rattle.serial.specs.AtEnd.{ProperFrom, desksOf, serialOf, orderOf, framesOf, latestOf}
-use Rattle.serial.proofs.Tests.{true-T}
-use Rattle.serial.proofs.Lists.{All}
 use Rattle.serial.proofs.Conflicts.{BehindOf}
 use Rattle.serial.proofs.Calls.{awaitedOf}
 use Rattle.serial.proofs.Histories.{history-good}

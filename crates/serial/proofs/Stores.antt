@@ -7,8 +7,8 @@ use mathlib.Core.List.{List, [], _∷_, _++_}
 use native.Mathlib.Omega.{arith}
 use lib.ListN.{length, getD, set, length-set}
 use lib.Seq.{getD-set-same, getD-set-other, set-out, set-comm}
+use Rattle.lists.proofs.Laws.{eq-or-ne, lt-or-ge}
 use Rattle.serial.specs.Store.{Store, Update, applyUpdate, applyAll, Same, Within}
-use Rattle.serial.proofs.Tests.{same?, less?}
 
 -- ---- Two stores that agree
 
@@ -25,7 +25,7 @@ pub Same-part : {P Q : ℕ → Type 0} (a b : Store) → ((c : ℕ) → Q c → 
 Same-part a b f s = (s .0, λ c h. s .1 c (f c h))
 
 set-cell : (a b : Store) (i v c : ℕ) → length a ≡ length b → getD a c 0 ≡ getD b c 0 → getD (set a i v) c 0 ≡ getD (set b i v) c 0
-set-cell a b i v c l h = go (same? c i) (less? i (length a))
+set-cell a b i v c l h = go (eq-or-ne c i) (lt-or-ge i (length a))
   where
     go : (c ≡ i) ⊎ (c ≢ i) → (i < length a) ⊎ (length a ≤ i) → getD (set a i v) c 0 ≡ getD (set b i v) c 0
     go (inl e) (inl k) = rw e (getD-set-same a i v 0 k ∙ sym (getD-set-same b i v 0 (omega arith)))

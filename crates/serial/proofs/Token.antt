@@ -5,12 +5,12 @@ use mathlib.Core.Path.{_≡_, refl, sym, _∙_, ap}
 use mathlib.Core.Logic.{_≢_, inr}
 use mathlib.Core.List.{List, [], _∷_, _++_}
 use native.Mathlib.Omega.{arith}
+use Rattle.lists.proofs.Laws.{by-same, by-less, eqb-yes, eqb-no, ltb-yes, ltb-no}
+use Rattle.lists.specs.Lists.{All}
 use Rattle.serial.specs.Store.{Store, Update, applyUpdate, applyAll, Within}
 use Rattle.serial.specs.Frame.{foreign, tag, untag}
 use Rattle.serial.specs.System.{System, Laws}
 use Rattle.serial.specs.Hearing.{OwnCell, owed}
-use Rattle.serial.proofs.Tests.{by-same, by-less, eqb-yes, eqb-no, ltb-yes, ltb-no}
-use Rattle.serial.proofs.Lists.{All}
 use Rattle.serial.proofs.Stores.{apply-swap}
 use Rattle.serial.proofs.Conflicts.{OutCell}
 

@@ -9,6 +9,7 @@ use mathlib.Core.List.{List, [], _∷_, _++_, append-assoc, append-nil, List·Me
 use native.Mathlib.Omega.{arith}
 use lib.ListN.{length, drop, getD, length-append}
 use lib.Seq.{drop-nil}
+use Rattle.lists.proofs.Laws.{true-T}
 use Rattle.serial.specs.Store.{Store}
 use Rattle.serial.specs.Frame.{Frame, foreign}
 use Rattle.serial.specs.Desk.{Desk, Call, visit}
@@ -17,7 +18,6 @@ use Rattle.serial.specs.History.{answerAt, stepAt, answers, Proper}
 use Rattle.serial.specs.SerialRun.{Serial}
 use Rattle.serial.specs.Visits.{Visit, appended, lastOf, frameAfter, latestFrame, visitsAt, visits}
 use Rattle.serial.specs.AtEnd.{ProperFrom, desksOf, visitsOf, framesOf, latestOf}
-use Rattle.serial.proofs.Tests.{true-T}
 use Rattle.serial.proofs.Calls.{Replies, Good}
 use Rattle.serial.proofs.Histories.{accepted-latest, call-good, new-good, history-good}
 use Rattle.serial.proofs.Turns.{Entry, Turn, turn}

@@ -5,6 +5,8 @@ use mathlib.Core.Path.{_≡_, refl, sym, _∙_, ap}
 use mathlib.Core.Logic.{_⊎_, inl, inr}
 use mathlib.Core.Bool.{Bool, true, false, cond}
 use mathlib.Core.List.{List, [], _∷_, _++_}
+use Rattle.lists.proofs.Laws.{true-T}
+use Rattle.lists.specs.Lists.{All}
 use Rattle.serial.specs.Store.{Store, Update}
 use Rattle.serial.specs.Frame.{Frame, foreign, tag}
 use Rattle.serial.specs.Desk.{Desk, Call, request, visit, deskCalled, Answer, refused, isRefused}
@@ -13,8 +15,6 @@ use Rattle.serial.specs.Step.{route, updatesOf, caughtUp, made, accepted
 use Rattle.serial.specs.History.{answerAt, Framed}
 use Rattle.serial.specs.SerialRun.{Serial}
 use Rattle.serial.specs.Visits.{Visit, frameAfter, visitOf, visitsAt}
-use Rattle.serial.proofs.Tests.{true-T}
-use Rattle.serial.proofs.Lists.{All}
 use Rattle.serial.proofs.Calls.{Replies, Good}
 use Rattle.serial.proofs.Histories.{request-open, request-frame, accepted-latest}
 

@@ -7,6 +7,8 @@ use mathlib.Core.List.{List, [], _∷_, _++_, append-nil}
 use native.Mathlib.Omega.{arith}
 use native.Mathlib.Nat.{add-mod-right, le-refl}
 use lib.ListN.{length, getD, List·getD-eq-default}
+use Rattle.lists.proofs.Laws.{by-same, by-less, eqb-yes, eqb-no, eqb-self, All-append, All-part, snoc-own, snoc-other}
+use Rattle.lists.specs.Lists.{All}
 use Rattle.serial.specs.Store.{Store, Update, applyAll, Same, Within}
 use Rattle.serial.specs.Frame.{Frame, foreign, tag}
 use Rattle.serial.specs.Desk.{Request, Desk, given, sent}
@@ -16,8 +18,6 @@ use Rattle.serial.specs.History.{assign}
 use Rattle.serial.specs.Order.{Finished, placeAt, place, upto, beyond}
 use Rattle.serial.specs.SerialRun.{ranked, storeAfter, due}
 use Rattle.serial.specs.Hearing.{Hears, owed}
-use Rattle.serial.proofs.Tests.{by-same, by-less, eqb-yes, eqb-no, eqb-self}
-use Rattle.serial.proofs.Lists.{All, All-append, All-part, snoc-own, snoc-other}
 use Rattle.serial.proofs.Stores.{Same-trans, applyAll-same, applyAll-append}
 use Rattle.serial.proofs.Sorting
 use Rattle.serial.proofs.Sorting.{Low}

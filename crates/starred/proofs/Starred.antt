@@ -3,14 +3,15 @@
 use mathlib.Core.Path.{_≡_, refl}
 use mathlib.Core.List.{map}
 use lib.Count.{ones}
+use Rattle.lists.specs.Lists.{every, some}
 use Rattle.word.specs.Reserved.{sourceField, reservedZero}
 use Rattle.plan.specs.Decode.{accessBy, actionBy, stepOf, partBy, transactionsOf, planOf}
-use Rattle.plan.specs.Admission.{every, hasHead, countsInRange, transactionFormed, stepFormed, wellFormed, sourceExists, stepExists}
+use Rattle.plan.specs.Admission.{hasHead, countsInRange, transactionFormed, stepFormed, wellFormed, sourceExists, stepExists}
 use Rattle.plan.specs.Admission.{partExists}
 use Rattle.plan.specs.Admission.{parametersExist, transactionsVerdict, planVerdict}
 use Rattle.operation.specs.Operation.{cellsNamed}
 use Rattle.operation.specs.Admission.{transactionExists, unusedZero, rowInRange, parametersPass, operationVerdict}
-use Rattle.conflict.specs.Mask.{maskOf, some}
+use Rattle.conflict.specs.Mask.{maskOf}
 use Rattle.conflict.specs.Touch.{rowTouched, cellTouched, stepTouches, deskMask}
 use Rattle.conflict.specs.Written.{cellGiven, stepWrites, written}
 use Rattle.conflict.specs.Class.{classBy}

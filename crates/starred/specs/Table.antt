@@ -3,8 +3,9 @@
 use Prim.Native.Nat.{ℕ, _-_}
 use mathlib.Core.List.{List, [], _∷_, _++_}
 use lib.ListN.{length, take, replicate}
+use Rattle.verdict.specs.Verdict.{Verdict, accepted, refused}
 use Rattle.plan.specs.Decode.{planOf}
-use Rattle.plan.specs.Admission.{Verdict, accepted, refused, planVerdict}
+use Rattle.plan.specs.Admission.{planVerdict}
 use Rattle.operation.specs.Operation.{operation, writeSet}
 use Rattle.operation.specs.Admission.{operationVerdict}
 use Rattle.token.specs.Frame.{SentUpdate, sent, startingFrame}

@@ -9,9 +9,9 @@ use native.Mathlib.Omega.{arith}
 use lib.Dec.{ltb, leb}
 use lib.ListN.{length}
 use borrow.Author.Tests.{ltb-true, lt-ltb, leb-true, le-leb}
+use Rattle.lists.specs.Lists.{every}
+use Rattle.lists.proofs.Laws.{and-fst, and-snd, and-true}
 use Rattle.word.specs.Field.{updateDesk, cellCount, cellField}
-use Rattle.plan.specs.Admission.{every}
-use Rattle.plan.proofs.Bool.{and-fst, and-snd, and-true}
 use Rattle.operation.specs.Run.{Update}
 use Rattle.token.specs.Frame.{SentUpdate, sent, updateHead, writeWords, updateWords, updatesWords}
 use Rattle.token.specs.Admission.{writesFrom, updatesFrom, updateFormed, cellFormed, wellFormed}

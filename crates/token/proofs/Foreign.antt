@@ -8,9 +8,8 @@ use native.Mathlib.Omega.{arith}
 use lib.Dec.{eqb}
 use lib.ListN.{length}
 use borrow.Author.Tests.{eqb-true}
-use Rattle.plan.specs.Admission.{every}
-use Rattle.plan.proofs.Bool.{and-fst, and-snd, and-true}
-use Rattle.plan.proofs.Every.{every-append}
+use Rattle.lists.specs.Lists.{every}
+use Rattle.lists.proofs.Laws.{and-fst, and-snd, and-true, every-append}
 use Rattle.operation.specs.Run.{Update}
 use Rattle.token.specs.Frame.{SentUpdate, sent, updateWords, updatesWords}
 use Rattle.token.specs.Admission.{deskCount}

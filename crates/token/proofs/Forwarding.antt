@@ -13,13 +13,13 @@ use native.Mathlib.Omega.{arith}
 use lib.Dec.{eqb, leb}
 use lib.ListN.{length, getD, set, drop, drop-of-length-le}
 use borrow.Author.Tests.{leb-true, leb-false, not-true, not-false}
+use Rattle.lists.specs.Lists.{overwritten}
+use Rattle.lists.proofs.Laws.{drop-here, Filling, fill-none, fill-same, fill-word, fill-done}
 use Rattle.word.specs.Field.{updateDesk, cellCount, cellField}
 use Rattle.operation.specs.Run.{Store, applyUpdate}
-use Rattle.token.specs.Frame.{updateHead, cellWord, writeWords, updateWords, updatesWords, overwritten}
+use Rattle.token.specs.Frame.{updateHead, cellWord, writeWords, updateWords, updatesWords}
 use Rattle.token.specs.Admission.{writesFrom, updatesFrom}
 use Rattle.token.specs.Forward.{foreign, applyAll, foreignWords}
-use Rattle.token.proofs.Filling.{Filling, fill-none, fill-same, fill-word, fill-done}
-use Rattle.token.proofs.Walking.{here}
 
 -- ---- what is still to come: the last `left` cells of an update, which is kept or the desk's own, and the updates behind them
 
@@ -133,12 +133,12 @@ module _ {desk : ℕ} {ws s₀ o s t : List ℕ} {kept : Bool} {left end i : ℕ
     at-head : left ≡ 0 → Stands desk ws s₀ o s t kept 0 end (getD ws i 0 ∷ drop (i + 1) ws)
     at-head z =
         subst (λ (m : ℕ). Stands desk ws s₀ o s t kept m end (getD ws i 0 ∷ drop (i + 1) ws)) z
-        (subst (Stands desk ws s₀ o s t kept left end) (here ws i h) (f .stands))
+        (subst (Stands desk ws s₀ o s t kept left end) (drop-here ws i 0 h) (f .stands))
 
     at-cell : (left ≡ 0 → ⊥) → Stands desk ws s₀ o s t kept (suc (left - 1)) end (getD ws i 0 ∷ drop (i + 1) ws)
     at-cell z =
         subst (λ (m : ℕ). Stands desk ws s₀ o s t kept m end (getD ws i 0 ∷ drop (i + 1) ws)) (omega arith)
-        (subst (Stands desk ws s₀ o s t kept left end) (here ws i h) (f .stands))
+        (subst (Stands desk ws s₀ o s t kept left end) (drop-here ws i 0 h) (f .stands))
 
     pub forward-own : left ≡ 0 → not (eqb (updateDesk (getD ws i 0)) desk) ≡ false
         → Forwarded desk ws s₀ o s t (not (eqb (updateDesk (getD ws i 0)) desk)) (cellCount (getD ws i 0)) end (i + 1)
@@ -186,8 +186,8 @@ module _ {desk : ℕ} {ws s₀ o s t : List ℕ} {kept : Bool} {left end i : ℕ
     module _ (z : left ≡ 0 → ⊥) where
       at-value : Stands desk ws s₀ o s t kept (suc (left - 1)) end (getD ws i 0 ∷ getD ws (i + 1) 0 ∷ drop (i + 1 + 1) ws)
       at-value =
-          subst (λ (r : List ℕ). Stands desk ws s₀ o s t kept (suc (left - 1)) end (getD ws i 0 ∷ r)) (here ws (i + 1) (forward-more z))
-          (at-cell z)
+          subst (λ (r : List ℕ). Stands desk ws s₀ o s t kept (suc (left - 1)) end (getD ws i 0 ∷ r))
+          (drop-here ws (i + 1) 0 (forward-more z)) (at-cell z)
 
       pub forward-past : kept ≡ false → Forwarded desk ws s₀ o s t kept (left - 1) end (i + 1 + 1)
       forward-past e =

@@ -6,9 +6,9 @@ use Prim.Native.Nat.{ℕ, _+_, _*_, _/_, _%_, _^_, _≤_, _<_}
 use native.Mathlib.Omega.{arith}
 use lib.Dec.{ltb, eqb}
 use borrow.Author.Tests.{eqb-true, eq-eqb, ltb-true, lt-ltb, leb-true, le-leb}
+use Rattle.lists.proofs.Laws.{and-fst, and-snd, and-true}
 use Rattle.word.specs.Field.{kindOf, addressedDesk, frameLength, updateDesk, cellCount, cellField}
 use Rattle.word.specs.Reserved.{reservedZero, sourceField, zeroBits}
-use Rattle.plan.proofs.Bool.{and-fst, and-snd, and-true}
 use Rattle.token.specs.Frame.{frameHead, updateHead, cellWord}
 use Rattle.token.specs.Admission.{updateFormed, cellFormed}
 

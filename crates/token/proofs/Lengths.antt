@@ -9,8 +9,8 @@ use native.Mathlib.Omega.{arith}
 use lib.Dec.{ltb, leb, eqb}
 use lib.ListN.{length, length-append}
 use borrow.Author.Tests.{ltb-true, leb-true, eqb-false}
-use Rattle.plan.specs.Admission.{every}
-use Rattle.plan.proofs.Bool.{and-fst, and-snd}
+use Rattle.lists.specs.Lists.{every}
+use Rattle.lists.proofs.Laws.{and-fst, and-snd}
 use Rattle.token.specs.Frame.{SentUpdate, updateWords, updatesWords}
 use Rattle.token.specs.Admission.{deskCount}
 use Rattle.token.specs.WellFormed.{updateFits, WellFormed}
@@ -34,10 +34,7 @@ count-one (suc n) u us h = go (eqb (u .desk) n) refl (count-one n u us)
     go : (b : Bool) → eqb (u .desk) n ≡ b → (u .desk < n → 1 + countBelow n us ≤ countBelow n (u ∷ us))
         → 1 + (deskCount n us + countBelow n us) ≤ cond b 1 0 + deskCount n us + countBelow n (u ∷ us)
     go true q r = omega (arith, count-mono n u us)
-    go false q r = omega (arith, r (below (eqb-false (u .desk) n q)))
-      where
-        below : (u .desk ≡ n → ⊥) → u .desk < n
-        below d = omega arith
+    go false q r = omega (arith, r (omega (arith, eqb-false (u .desk) n q)))
 
 counted-all : (n : ℕ) (us : List SentUpdate) → every (updateFits n) us ≡ true → length us ≤ countBelow n us
 unfolding every

@@ -11,6 +11,5 @@ pub mod Parts
 pub mod RoundTrip
 pub mod OneWord
 pub mod Readers
-pub mod Filling
 pub mod Forwarding
 pub mod Foreign

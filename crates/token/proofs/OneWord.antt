@@ -11,9 +11,9 @@ use lib.Dec.{eqb}
 use lib.ListN.{length, getD, take, set, length-set}
 use lib.Seq.{length-take-le, getD-set-same, getD-set-other, getD-take, take-set-le, take-set-lt}
 use borrow.Author.Tests.{eqb-true}
+use Rattle.verdict.specs.Verdict.{accepted, refused}
+use Rattle.lists.proofs.Laws.{and-fst, and-snd}
 use Rattle.plan.specs.Decode.{planOf}
-use Rattle.plan.specs.Admission.{refused}
-use Rattle.plan.proofs.Bool.{and-fst, and-snd}
 use Rattle.operation.specs.Words.{AllWords}
 use Rattle.token.specs.Frame.{sumsFrom, sumsOf}
 use Rattle.token.specs.Admission.{frameHeaded, sumsRight, frameVerdict}

@@ -9,10 +9,9 @@ use native.Mathlib.Omega.{arith}
 use lib.Dec.{ltb, leb, eqb}
 use lib.ListN.{length, getD, set}
 use lib.Seq.{getD-set-same, getD-set-other}
-use borrow.Author.Tests.{leb-true, le-leb, lt-leb, lt-ltb, ltb-true, ltb-false, eqb-true, eqb-false}
-use Rattle.plan.specs.Admission.{every}
-use Rattle.plan.proofs.Bool.{and-fst, and-snd}
-use Rattle.plan.proofs.Every.{every-same, member-every}
+use borrow.Author.Tests.{leb-true, le-leb, lt-leb, lt-ltb, eqb-true, eqb-false, le-ltb}
+use Rattle.lists.specs.Lists.{every}
+use Rattle.lists.proofs.Laws.{and-fst, and-snd, every-same, member-every, by-less}
 use Rattle.token.specs.Frame.{SentUpdate}
 use Rattle.token.specs.Admission.{deskCount, fewPerDesk}
 
@@ -58,11 +57,9 @@ moved s u us d h = go (eqb (u .desk) d) refl
         omega arith
 
 one-more : (c k : ℕ) → k ≡ 0 → leb (c + 1 + k) 32 ≡ ltb c 32
-one-more c k z = go (ltb c 32) refl
-  where
-    go : (b : Bool) → ltb c 32 ≡ b → leb (c + 1 + k) 32 ≡ ltb c 32
-    go true q = le-leb (c + 1 + k) 32 (omega (arith, ltb-true c 32 q)) ∙ sym q
-    go false q = lt-leb (c + 1 + k) 32 (omega (arith, ltb-false c 32 q)) ∙ sym q
+one-more c k z =
+    by-less c 32 (λ h. le-leb (c + 1 + k) 32 (omega arith) ∙ sym (lt-ltb c 32 h))
+    (λ h. lt-leb (c + 1 + k) 32 (omega arith) ∙ sym (le-ltb c 32 h))
 
 -- the desk's count is tested before the update is counted; where the rest passes, that is as good as the whole count
 first-test : (c k : ℕ) (e : Bool) → (e ≡ true → (k ≡ 0) ⊎ (leb (c + 1 + k) 32 ≡ true)) → (leb (c + 1 + k) 32 && e) ≡ (ltb c 32 && e)

@@ -5,8 +5,9 @@ use mathlib.Core.List.{List, []}
 use Prim.Native.Nat.{ℕ, _≤_}
 use native.Mathlib.Nat.{zero-mod}
 use native.Mathlib.Omega.{arith}
+use Rattle.verdict.specs.Verdict.{Verdict, accepted, refused}
+use Rattle.lists.specs.Lists.{every}
 use Rattle.plan.specs.Decode.{planOf}
-use Rattle.plan.specs.Admission.{every, Verdict, accepted, refused}
 use Rattle.token.specs.Frame.{updatesWords, frameAround, frameWords, startingFrame}
 use Rattle.token.specs.Admission.{frameVisit, frameUpdates, deskCount, readVerdict, ReadsAs}
 use Rattle.token.specs.WellFormed.{WellFormed}

@@ -9,10 +9,10 @@ use native.Mathlib.Omega.{arith}
 use lib.Dec.{eqb}
 use lib.ListN.{length, getD, take}
 use borrow.Author.Tests.{eqb-true, eq-eqb, le-leb}
+use Rattle.verdict.specs.Verdict.{accepted}
+use Rattle.lists.proofs.Laws.{and-fst, and-snd, and-true}
 use Rattle.word.specs.Field.{kindOf, addressedDesk, frameLength}
 use Rattle.plan.specs.Decode.{headOf}
-use Rattle.plan.specs.Admission.{accepted}
-use Rattle.plan.proofs.Bool.{and-fst, and-snd, and-true}
 use Rattle.token.specs.Frame.{SentUpdate, frameHead, writeWords, updatesWords, sumsOf, frameAround, frameWords}
 use Rattle.token.specs.Admission.{frameVisit, updatesPart, writesFrom, updatesFrom, frameUpdates, frameHeaded, sumsRight}
 use Rattle.token.specs.Admission.{wellFormed, fewPerDesk, updatesAdmitted, updatesRight, frameVerdict, ReadsAs}

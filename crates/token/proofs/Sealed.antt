@@ -7,8 +7,9 @@ use native.Mathlib.Nat.{not-suc-le-zero}
 use native.Mathlib.Omega.{arith}
 use lib.ListN.{length, set, take, drop, length-take, length-drop, take-append-drop}
 use lib.Seq.{take-at}
-use Rattle.token.specs.Frame.{frameHead, sumsOf, sealed, frameAround, overwritten}
-use Rattle.token.proofs.Written.{write-two}
+use Rattle.lists.specs.Lists.{overwritten}
+use Rattle.lists.proofs.Laws.{write-two}
+use Rattle.token.specs.Frame.{frameHead, sumsOf, sealed, frameAround}
 
 -- two words in front of those that stand there already
 pub framed : (out : List ℕ) (h v k : ℕ) → 2 + k ≤ length out

@@ -1,20 +1,21 @@
 -- What a verdict shows: each question's yes, and where the words of a frame stand.
 -- Assumes nothing.
-use mathlib.Core.Path.{_≡_, refl}
-use mathlib.Core.Bool.{Bool, true, false, cond}
+use mathlib.Core.Path.{_≡_}
+use mathlib.Core.Bool.{true}
 use mathlib.Core.List.{List}
 use Prim.Native.Nat.{ℕ, _≤_}
-use native.Mathlib.Omega.{arith}
 use lib.Dec.{leb, eqb}
 use lib.ListN.{length}
 use borrow.Author.Tests.{leb-true, eqb-true}
+use Rattle.verdict.specs.Verdict.{Verdict, accepted, refused}
+use Rattle.verdict.proofs.Verdicts.{then-accepted, ask-accepted, ask-then-accepted}
+use Rattle.lists.proofs.Laws.{and-fst, and-snd}
 use Rattle.word.specs.Field.{kindOf, frameLength, headDesks}
 use Rattle.word.specs.Reserved.{reservedZero}
 use Rattle.plan.specs.Decode.{headOf, planOf}
-use Rattle.plan.specs.Admission.{Verdict, accepted, refused, planVerdict}
-use Rattle.plan.proofs.Bool.{and-fst, and-snd}
-use Rattle.plan.proofs.Accepted.{accepted-gives, yes-of}
-use Rattle.token.specs.Admission.{frameHeaded, sumsRight, updatesRight, frameVerdict, andThen, readVerdict}
+use Rattle.plan.specs.Admission.{planVerdict}
+use Rattle.plan.proofs.Accepted.{accepted-gives}
+use Rattle.token.specs.Admission.{frameHeaded, sumsRight, updatesRight, frameVerdict, readVerdict}
 
 -- 10
 pub record Headed (ws : List ℕ) : Type 0 where
@@ -47,31 +48,14 @@ pub record Admitted (n : ℕ) (ws : List ℕ) : Type 0 where
 pub admitted : (n : ℕ) (ws : List ℕ) → frameVerdict n ws ≡ accepted → Admitted n ws
 unfolding frameVerdict
 admitted n ws e =
-    let q10 = yes-of (frameHeaded ws) _ 10 e in
-    let q11 = yes-of (sumsRight ws) _ 11 (q10 .1) in
-    let q12 = yes-of (updatesRight n ws) _ 12 (q11 .1) in
-    record { head = q10 .0; sums = q11 .0; updates = q12 .0 }
-
--- both of two questions are answered with yes
-pub both : (v w : Verdict) → andThen v w ≡ accepted → (v ≡ accepted) × (w ≡ accepted)
-both accepted w e = (refl, e)
-both (refused q) w e = let z : _≡_ {A = ℕ} 0 1 = cc in absurd (omega arith)
-
--- questions one after another, in either grouping
-pub then-associates : (u v w : Verdict) → andThen u (andThen v w) ≡ andThen (andThen u v) w
-then-associates accepted v w = refl
-then-associates (refused question) v w = refl
-
--- behind a question answered with no, the next do not matter
-pub behind : (yes : Bool) (question : ℕ) (v w : Verdict) → (yes ≡ true → v ≡ w)
-    → andThen (cond yes accepted (refused question)) v ≡ andThen (cond yes accepted (refused question)) w
-behind true question v w h = h refl
-behind false question v w h = refl
+    let q10 = ask-then-accepted 10 (frameHeaded ws) _ e in
+    let q11 = ask-then-accepted 11 (sumsRight ws) _ (q10 .1) in
+    record { head = q10 .0; sums = q11 .0; updates = ask-accepted 12 (updatesRight n ws) (q11 .1) }
 
 pub read-accepted : (plan frame : List ℕ) → readVerdict plan frame ≡ accepted
     → (planVerdict plan ≡ accepted) × (frameVerdict (planOf plan .desks) frame ≡ accepted)
 unfolding readVerdict
-read-accepted plan frame e = both (planVerdict plan) (frameVerdict (planOf plan .desks) frame) e
+read-accepted plan frame e = then-accepted (planVerdict plan) (frameVerdict (planOf plan .desks) frame) e
 
 pub read-length : (plan frame : List ℕ) → readVerdict plan frame ≡ accepted → 4 ≤ length frame
 read-length plan frame e = headed frame (admitted (planOf plan .desks) frame (read-accepted plan frame e .1) .head) .low
@@ -86,11 +70,6 @@ pub read-after : (plan frame : List ℕ) (v : Verdict) → planVerdict plan ≡ 
     → v ≡ readVerdict plan frame
 unfolding readVerdict
 read-after plan frame v p e = rw p e
-
--- n stands in the plan's head
-pub desks-of : (plan : List ℕ) → planOf plan .desks ≡ headDesks (headOf plan)
-unfolding planOf
-desks-of plan = refl
 
 pub read-refused : (plan frame : List ℕ) (q : ℕ) → planVerdict plan ≡ refused q → refused q ≡ readVerdict plan frame
 unfolding readVerdict

@@ -5,16 +5,13 @@ use mathlib.Core.Bool.{Bool, true, false, _&&_, and-assoc}
 use mathlib.Core.List.{List, [], _∷_}
 use Prim.Native.Nat.{ℕ, zero, suc, _+_, _-_, _≤_, _<_}
 use native.Mathlib.Omega.{arith}
-use native.Mathlib.Numerals.{add-one}
 use lib.Dec.{ltb, leb, eqb}
 use lib.ListN.{length, getD, set, drop, replicate, length-set, drop-of-length-le}
-use lib.Seq.{drop-cons}
 use borrow.Author.Tests.{le-ltb, lt-ltb, ltb-true, ne-eqb}
+use Rattle.lists.specs.Lists.{every}
+use Rattle.lists.proofs.Laws.{drop-here, and-fst, and-snd, every-same}
 use Rattle.word.specs.Field.{kindOf, updateDesk, cellCount}
 use Rattle.word.specs.Reserved.{reservedZero}
-use Rattle.plan.specs.Admission.{every}
-use Rattle.plan.proofs.Bool.{and-fst, and-snd}
-use Rattle.plan.proofs.Every.{every-same}
 use Rattle.token.specs.Frame.{SentUpdate, sent}
 use Rattle.token.specs.Admission.{writesFrom, updatesFrom, updateFormed, cellFormed, wellFormed, deskCount, fewPerDesk}
 use Rattle.token.specs.Admission.{updatesAdmitted}
@@ -45,9 +42,6 @@ formed-desk n w e =
 
 -- ---- one word or two at a time
 
-pub here : (ws : List ℕ) (i : ℕ) → i < length ws → drop i ws ≡ getD ws i 0 ∷ drop (i + 1) ws
-here ws i h = rw (add-one, drop-cons ws i 0 h)
-
 cell-fault : (n : ℕ) (s : List ℕ) (left w : ℕ) (ws : List ℕ) → cellFormed w ≡ false → rest n s (suc left) (w ∷ ws) ≡ false
 unfolding rest
 cell-fault n s left w [] e = refl
@@ -56,30 +50,30 @@ cell-fault n s left w (v ∷ ws) e = simp e
 module _ (n : ℕ) (s : List ℕ) (left : ℕ) (ws : List ℕ) (i : ℕ) (h : i < length ws) where
   pub at-update-fault : left ≡ 0 → updateFormed n (getD ws i 0) ≡ false → restAt n s left ws i ≡ false
   unfolding restAt rest
-  at-update-fault z e = rw (z, here ws i h) (simp e)
+  at-update-fault z e = rw (z, drop-here ws i 0 h) (simp e)
 
   pub at-update-many : left ≡ 0 → updateFormed n (getD ws i 0) ≡ true → 32 ≤ getD s (updateDesk (getD ws i 0)) 0
       → restAt n s left ws i ≡ false
   unfolding restAt rest
-  at-update-many z e m = rw (z, here ws i h) (simp (e, le-ltb (getD s (updateDesk (getD ws i 0)) 0) 32 m))
+  at-update-many z e m = rw (z, drop-here ws i 0 h) (simp (e, le-ltb (getD s (updateDesk (getD ws i 0)) 0) 32 m))
 
   pub at-update : left ≡ 0 → updateFormed n (getD ws i 0) ≡ true → getD s (updateDesk (getD ws i 0)) 0 < 32
       → restAt n s left ws i ≡ restAt n (counted s (updateDesk (getD ws i 0))) (cellCount (getD ws i 0)) ws (i + 1)
   unfolding restAt rest
-  at-update z e m = rw (z, here ws i h) (simp (e, lt-ltb (getD s (updateDesk (getD ws i 0)) 0) 32 m))
+  at-update z e m = rw (z, drop-here ws i 0 h) (simp (e, lt-ltb (getD s (updateDesk (getD ws i 0)) 0) 32 m))
 
   pub at-cell-fault : (left ≡ 0 → ⊥) → cellFormed (getD ws i 0) ≡ false → restAt n s left ws i ≡ false
   unfolding restAt
   at-cell-fault z e =
       let k : left ≡ suc (left - 1) = omega arith in
-      rw (k, here ws i h) (cell-fault n s (left - 1) (getD ws i 0) (drop (i + 1) ws) e)
+      rw (k, drop-here ws i 0 h) (cell-fault n s (left - 1) (getD ws i 0) (drop (i + 1) ws) e)
 
   pub at-cell-last : (left ≡ 0 → ⊥) → i + 1 ≡ length ws → restAt n s left ws i ≡ false
   unfolding restAt rest
   at-cell-last z e =
       let k : left ≡ suc (left - 1) = omega arith in
       let l : length ws ≤ i + 1 = omega arith in
-      rw (k, here ws i h, drop-of-length-le ws l)
+      rw (k, drop-here ws i 0 h, drop-of-length-le ws l)
 
   pub at-cell : (left ≡ 0 → ⊥) → cellFormed (getD ws i 0) ≡ true → i + 1 < length ws
       → restAt n s left ws i ≡ restAt n s (left - 1) ws (i + 1 + 1)
@@ -87,7 +81,7 @@ module _ (n : ℕ) (s : List ℕ) (left : ℕ) (ws : List ℕ) (i : ℕ) (h : i 
   at-cell z e l =
       let k : left ≡ suc (left - 1) = omega arith in
       ap (λ (x : ℕ). rest n s x (drop i ws)) k
-      ∙ ap (rest n s (suc (left - 1))) (here ws i h ∙ ap (λ (t : List ℕ). getD ws i 0 ∷ t) (here ws (i + 1) l))
+      ∙ ap (rest n s (suc (left - 1))) (drop-here ws i 0 h ∙ ap (λ (t : List ℕ). getD ws i 0 ∷ t) (drop-here ws (i + 1) 0 l))
       ∙ simp e
 
 pub at-end : (n : ℕ) (s : List ℕ) (left : ℕ) (ws : List ℕ) (i : ℕ) → length ws ≤ i → restAt n s left ws i ≡ eqb left 0

@@ -1,42 +1,18 @@
--- Words written one after another into the front of a list, and what stood behind them.
+-- The words of an update, written pair by pair into the front of a list.
 -- Assumes nothing.
-use mathlib.Core.Path.{_≡_, refl, _∙_, sym, ap, ap₂}
-use mathlib.Core.Bool.{Bool, true, false}
-use mathlib.Core.List.{List, [], _∷_, _++_, append-assoc}
+use mathlib.Core.Path.{_≡_, refl, _∙_, sym, ap}
+use mathlib.Core.List.{List, [], _∷_, _++_}
 use Prim.Native.Nat.{ℕ, zero, suc, _+_, _*_, _≤_, _<_, min}
 use native.Mathlib.Nat.{not-suc-le-zero, le-of-suc-le-suc}
-use native.Mathlib.Numerals.{add-one}
 use native.Mathlib.Omega.{arith}
-use lib.Dec.{leb}
-use borrow.Author.Tests.{leb-true, leb-false}
-use lib.ListN.{length, getD, set, drop, length-append, length-drop}
-use lib.Seq.{drop-cons, set-at, append-snoc, drop-set-lt}
+use lib.ListN.{length, getD, set}
+use lib.Seq.{drop-set-lt}
+use Rattle.lists.specs.Lists.{overwritten}
+use Rattle.lists.proofs.Laws.{write-two, by-less}
 use Rattle.operation.specs.Run.{Update}
 use Rattle.operation.specs.Answer.{pairs}
 use Rattle.operation.proofs.Updates.{pairs-next, pairs-past}
-use Rattle.token.specs.Frame.{SentUpdate, sent, cellWord, updateHead, writeWords, updateWords, overwritten}
-
--- one word more
-pub write-next : (p o : List ℕ) (x : ℕ) → length p < length o → set (overwritten p o) (length p) x ≡ overwritten (p ++ (x ∷ [])) o
-write-next p o x h =
-    ap (λ (t : List ℕ). set (p ++ t) (length p) x) (drop-cons o (length p) 0 h)
-    ∙ set-at p (getD o (length p) 0) (drop (suc (length p)) o) x (length p) refl
-    ∙ sym (append-snoc p x (drop (suc (length p)) o))
-    ∙ ap (λ (k : ℕ). (p ++ (x ∷ [])) ++ drop k o) (sym (length-append p (x ∷ []) ∙ add-one (length p)))
-
--- two words more
-pub write-two : (p o : List ℕ) (k x y : ℕ) → length p ≡ k → k + 1 < length o
-    → set (set (overwritten p o) k x) (k + 1) y ≡ overwritten (p ++ (x ∷ y ∷ [])) o
-write-two p o k x y e h =
-    let q = p ++ (x ∷ []) in
-    let m : k + 1 ≡ length q = omega (arith, length-append p (x ∷ [])) in
-    ap₂ (λ (i j : ℕ). set (set (overwritten p o) i x) j y) (sym e) m
-    ∙ ap (λ (t : List ℕ). set t (length q) y) (write-next p o x (omega arith))
-    ∙ write-next q o y (omega arith)
-    ∙ ap (λ (t : List ℕ). overwritten t o) (append-assoc p (x ∷ []) (y ∷ []))
-
-pub overwritten-length : (p o : List ℕ) → length p ≤ length o → length (overwritten p o) ≡ length o
-overwritten-length p o h = simp (length-append, length-drop) (omega arith)
+use Rattle.token.specs.Frame.{SentUpdate, sent, cellWord, updateHead, writeWords, updateWords}
 
 -- ---- the words of an update, pair by pair
 
@@ -104,14 +80,9 @@ module _ (h : ℕ) (cs vs o : List ℕ) where
 
 module _ (d n k : ℕ) (cs vs : List ℕ) (a : length cs ≡ 12) (b : length vs ≡ 12) (e : k ≡ min n 12) where
   held : pairs k cs vs ≡ pairs n cs vs
-  held = go (leb n 12) refl
-    where
-      go : (q : Bool) → leb n 12 ≡ q → pairs k cs vs ≡ pairs n cs vs
-      go true q = let same : k ≡ n = omega (arith, leb-true n 12 q) in ap (λ (j : ℕ). pairs j cs vs) same
-      go false q =
-          let all : length cs ≤ k = omega (arith, leb-false n 12 q) in
-          let more : length cs ≤ n = omega (arith, leb-false n 12 q) in
-          pairs-past k cs vs all ∙ sym (pairs-past n cs vs more)
+  held =
+      by-less 12 n (λ h. pairs-past k cs vs (omega arith) ∙ sym (pairs-past n cs vs (omega arith)))
+      (λ h. let same : k ≡ n = omega arith in ap (λ (j : ℕ). pairs j cs vs) same)
 
   pub held-words : 1 + 2 * k ≡ length (updateWords (sent d (pairs n cs vs)))
   held-words = omega (arith, update-length (sent d (pairs n cs vs)), ap length held, pairs-length k cs vs (omega arith) (omega arith))

@@ -5,10 +5,12 @@ use mathlib.Core.Bool.{Bool, true, false, _&&_, cond}
 use mathlib.Core.List.{List, [], _∷_}
 use lib.ListN.{length, getD, take, drop}
 use lib.Dec.{ltb, leb, eqb}
+use Rattle.verdict.specs.Verdict.{Verdict, accepted, ask, _then_}
+use Rattle.lists.specs.Lists.{every}
 use Rattle.word.specs.Field.{kindOf, addressedDesk, frameLength, updateDesk, cellCount, cellField}
 use Rattle.word.specs.Reserved.{reservedZero}
 use Rattle.plan.specs.Decode.{headOf, planOf}
-use Rattle.plan.specs.Admission.{every, Verdict, accepted, refused, planVerdict}
+use Rattle.plan.specs.Admission.{planVerdict}
 use Rattle.operation.specs.Run.{Update}
 use Rattle.token.specs.Frame.{SentUpdate, sent, sumsOf}
 
@@ -92,17 +94,11 @@ updatesRight n ws = eqb (addressedDesk (headOf ws)) (frameVisit ws % n) && updat
 
 -- "All of one question is put before the next": questions 10 to 12, for n desks
 unfoldable pub frameVerdict : ℕ → List ℕ → Verdict
-frameVerdict n ws =
-    cond (frameHeaded ws) (cond (sumsRight ws) (cond (updatesRight n ws) accepted (refused 12)) (refused 11)) (refused 10)
-
--- the next questions are put only where those before are answered with yes
-abbrev pub andThen : Verdict → Verdict → Verdict
-andThen accepted next = next
-andThen (refused question) next = refused question
+frameVerdict n ws = ask 10 (frameHeaded ws) then ask 11 (sumsRight ws) then ask 12 (updatesRight n ws)
 
 -- "Frame reader: 1–4, 10–12."
 unfoldable pub readVerdict : List ℕ → List ℕ → Verdict
-readVerdict plan frame = andThen (planVerdict plan) (frameVerdict (planOf plan .desks) frame)
+readVerdict plan frame = planVerdict plan then frameVerdict (planOf plan .desks) frame
 
 -- a frame for n desks reads as this visit and these updates
 pub record ReadsAs (n : ℕ) (ws : List ℕ) (visit : ℕ) (updates : List SentUpdate) : Type 0 where

@@ -2,6 +2,7 @@
 use Prim.Native.Nat.{ℕ, _+_, _-_, _*_, _%_, _^_}
 use mathlib.Core.List.{List, [], _∷_, _++_}
 use lib.ListN.{length, take, drop}
+use Rattle.lists.specs.Lists.{overwritten}
 use Rattle.operation.specs.Run.{Update}
 
 -- an update as a frame carries it: the desk whose operation made it, and the cells and values that it wrote
@@ -68,10 +69,6 @@ frameWords n v us = frameAround (v % n) v (updatesWords us)
 -- "The starting frame is visit 0 with no update."
 abbrev pub startingFrame : List ℕ
 startingFrame = frameAround 0 0 []
-
--- "Words past what is written are untouched."
-abbrev pub overwritten : List ℕ → List ℕ → List ℕ
-overwritten ws out = ws ++ drop (length ws) out
 
 -- outgoing words with a frame made of the updates that stand in them from word 2 up to `end`
 abbrev pub sealedAt : ℕ → ℕ → ℕ → List ℕ → List ℕ

@@ -4,7 +4,7 @@ use mathlib.Core.Logic.{_⊎_}
 use mathlib.Core.List.{List}
 use Prim.Native.Nat.{ℕ, _^_, _<_}
 use lib.ListN.{length, getD, set}
-use Rattle.plan.specs.Admission.{Verdict, accepted, refused}
+use Rattle.verdict.specs.Verdict.{Verdict, accepted, refused}
 use Rattle.operation.specs.Words.{AllWords}
 use Rattle.token.specs.Admission.{frameVerdict, readVerdict}
 

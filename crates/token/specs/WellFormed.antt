@@ -5,7 +5,7 @@ use mathlib.Core.Bool.{Bool, true, _&&_}
 use mathlib.Core.List.{List}
 use lib.ListN.{length}
 use lib.Dec.{ltb, leb}
-use Rattle.plan.specs.Admission.{every}
+use Rattle.lists.specs.Lists.{every}
 use Rattle.token.specs.Frame.{SentUpdate}
 use Rattle.token.specs.Admission.{deskCount}
 

@@ -6,14 +6,12 @@ mod updates;
 mod writer;
 
 pub use forward::forward_foreign;
-pub use reader::FrameCheck;
 pub use reader::VisitAnswer;
 pub use reader::check_frame;
 pub use reader::frame_visit;
 pub use reader::read_frame;
 pub use sums::Sums;
 pub use sums::frame_sums;
-pub use writer::StartAnswer;
 pub use writer::seal;
 pub use writer::starting_frame;
 pub use writer::write_update;

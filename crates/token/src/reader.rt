@@ -2,17 +2,13 @@
 ghost use mathlib.Core.Path.{_≡_};
 ghost use Prim.Native.Nat.{_≤_};
 ghost use lib.ListN.{length};
+ghost use Rattle.verdict.specs.Verdict.{verdictOf};
 ghost use Rattle.token.specs.Admission.{frameHeaded, sumsRight, updatesRight, frameVerdict, readVerdict};
-ghost use Rattle.token.specs.Answer.{verdictOf, visitOf, partRead, visitRead};
+ghost use Rattle.token.specs.Answer.{visitOf, partRead, visitRead};
 use crate::sums;
 use crate::updates;
+use verdict::Verdict;
 use word::fields;
-
-// Accepted, or refused with the number of the question whose answer is no.
-pub enum FrameCheck {
-    Accepted,
-    Refused(u32),
-}
 
 // The visit number, or the number of the question whose answer is no.
 pub enum VisitAnswer {
@@ -69,30 +65,30 @@ fn updates_right(desks: u32, frame: &[u32]) -> bool
 }
 
 // Questions 10 to 12, all of one before the next.
-pub fn check_frame(desks: u32, frame: &[u32]) -> FrameCheck
+pub fn check_frame(desks: u32, frame: &[u32]) -> Verdict
     requires { ⌜ (1 ≤ desks) × (desks ≤ 8) ⌝ }
     ensures { λ r. ⌜ verdictOf r ≡ frameVerdict desks (now (frame .entry)) ⌝ }
 {
     if !frame_headed(frame) {
-        return FrameCheck::Refused(10);
+        return Verdict::Refused(10);
     }
     if !sums_right(frame) {
-        return FrameCheck::Refused(11);
+        return Verdict::Refused(11);
     }
     if !updates_right(desks, frame) {
-        return FrameCheck::Refused(12);
+        return Verdict::Refused(12);
     }
-    FrameCheck::Accepted
+    Verdict::Accepted
 }
 
 // Questions 1 to 4, then 10 to 12: the check behind both calls.
-fn check(plan: &[u32], frame: &[u32]) -> FrameCheck
+fn check(plan: &[u32], frame: &[u32]) -> Verdict
     ensures { λ r. ⌜ verdictOf r ≡ readVerdict (now (plan .entry)) (now (frame .entry)) ⌝ }
 {
     let answer = plan::read_plan(plan);
     match answer {
-        plan::PlanAnswer::Accepted => check_frame(plan[0] / fields::DESKS % 16, frame),
-        plan::PlanAnswer::Refused(question) => FrameCheck::Refused(question),
+        Verdict::Accepted => check_frame(plan[0] / fields::DESKS % 16, frame),
+        Verdict::Refused(question) => Verdict::Refused(question),
     }
 }
 
@@ -102,11 +98,11 @@ pub fn read_frame<'a>(plan: &[u32], frame: &'a [u32]) -> &'a [u32]
 {
     let answer = check(plan, frame);
     match answer {
-        FrameCheck::Accepted => {
+        Verdict::Accepted => {
             let end = frame.len() - 2;
             &frame[2..end]
         }
-        FrameCheck::Refused(_) => &frame[..0],
+        Verdict::Refused(_) => &frame[..0],
     }
 }
 
@@ -116,7 +112,7 @@ pub fn frame_visit(plan: &[u32], frame: &[u32]) -> VisitAnswer
 {
     let answer = check(plan, frame);
     match answer {
-        FrameCheck::Accepted => VisitAnswer::Visit(frame[1]),
-        FrameCheck::Refused(question) => VisitAnswer::Refused(question),
+        Verdict::Accepted => VisitAnswer::Visit(frame[1]),
+        Verdict::Refused(question) => VisitAnswer::Refused(question),
     }
 }

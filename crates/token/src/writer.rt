@@ -2,17 +2,14 @@
 ghost use mathlib.Core.Path.{_≡_};
 ghost use Prim.Native.Nat.{_+_, _≤_, min};
 ghost use lib.ListN.{length};
+ghost use Rattle.verdict.specs.Verdict.{verdictOf};
+ghost use Rattle.lists.specs.Lists.{overwritten};
 ghost use Rattle.operation.specs.Answer.{updateOf};
-ghost use Rattle.token.specs.Frame.{sent, frameHead, updateHead, cellWord, updateWords, overwritten, sealedAt};
-ghost use Rattle.token.specs.Answer.{startOf, startVerdict, startWords};
+ghost use Rattle.token.specs.Frame.{sent, frameHead, updateHead, cellWord, updateWords, sealedAt};
+ghost use Rattle.token.specs.Answer.{startVerdict, startWords};
 use crate::sums;
+use verdict::Verdict;
 use word::fields;
-
-// Written, or refused with the number of the question whose answer is no.
-pub enum StartAnswer {
-    Written,
-    Refused(u32),
-}
 
 // Word 0 of a frame: kind 9.
 fn frame_head(desk: u32, words: usize) -> u32
@@ -76,13 +73,13 @@ pub fn seal(out: &mut [u32], desk: u32, visit: u32, end: usize)
 }
 
 // The starting frame, visit 0 with no update. Question 5: at least 4 words.
-pub fn starting_frame(out: &mut [u32]) -> StartAnswer
-    ensures answer { λ r. ⌜ startOf r ≡ startVerdict (now (out .entry)) ⌝ }
+pub fn starting_frame(out: &mut [u32]) -> Verdict
+    ensures answer { λ r. ⌜ verdictOf r ≡ startVerdict (now (out .entry)) ⌝ }
     ensures written { λ r. ⌜ now (out .exit) ≡ startWords (now (out .entry)) ⌝ }
 {
     if out.len() < 4 {
-        return StartAnswer::Refused(5);
+        return Verdict::Refused(5);
     }
     seal(out, 0, 0, 2);
-    StartAnswer::Written
+    Verdict::Accepted
 }

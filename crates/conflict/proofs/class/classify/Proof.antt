@@ -6,9 +6,9 @@ use Prim.Native.Nat.{_<_}
 use native.Mathlib.Omega.{arith}
 use lib.ListN.{length}
 use borrow.Author.Tests.{not-true, not-false}
+use Rattle.verdict.specs.Verdict.{accepted, verdictOf}
 use Rattle.plan.specs.Decode.{planOf}
-use Rattle.plan.specs.Admission.{planVerdict, accepted}
-use Rattle.plan.specs.Answer.{verdictOf}
+use Rattle.plan.specs.Admission.{planVerdict}
 use Rattle.plan.specs.Place.{StandsAt, transactionFrom}
 use Rattle.plan.proofs.Accepted.{accepted-gives}
 use Rattle.operation.specs.Admission.{transactionExists, parametersPass}

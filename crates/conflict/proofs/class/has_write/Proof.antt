@@ -5,10 +5,10 @@ use Prim.Native.Nat.{_+_, _-_, _<_}
 use native.Mathlib.Omega.{arith}
 use lib.ListN.{length, getD}
 use borrow.Author.Tests.{eq-eqb, ne-eqb}
+use Rattle.lists.specs.Lists.{some}
 use Rattle.word.specs.Field.{stepCount}
 use Rattle.plan.specs.Place.{transactionFrom}
 use Rattle.plan.proofs.Steps.{stepsFrom, steps-all, step-here}
-use Rattle.conflict.specs.Mask.{some}
 use Rattle.conflict.specs.Class.{isWrite}
 use Rattle.conflict.proofs.Named.{writing-here, writing-none}
 use borrow.Author.Needs.{needs}

@@ -4,9 +4,9 @@ use mathlib.Core.Path.{_∙_, ap}
 use Prim.Native.Nat.{ℕ}
 use mathlib.Core.List.{List}
 use lib.ListN.{length}
+use Rattle.lists.proofs.Laws.{length-tabulate}
 use Rattle.plan.specs.Decode.{planOf}
 use Rattle.conflict.specs.Touch.{deskMask}
-use Rattle.plan.proofs.Tables.{length-tabulate}
 use Rattle.conflict.proofs.Tabled.{global-tabled}
 use Rattle.conflict.proofs.class.is_global.Statement.{statement}
 use Rattle.conflict.proofs.class.is_global.Tie as tie

@@ -4,11 +4,11 @@ use mathlib.Core.Path.{_≡_, _∙_, sym}
 use Prim.Native.Nat.{_-_}
 use native.Mathlib.Omega.{arith}
 use lib.ListN.{length}
+use Rattle.lists.specs.Lists.{some}
 use Rattle.plan.specs.Plan.{reads}
 use Rattle.plan.specs.Decode.{planOf}
 use Rattle.plan.specs.Place.{transactionFrom}
 use Rattle.operation.specs.Operation.{cellsNamed}
-use Rattle.conflict.specs.Mask.{some}
 use Rattle.conflict.specs.Written.{written}
 use Rattle.conflict.proofs.WriteWords.{writtenFrom, written-start, written-here, written-other, written-done}
 use borrow.Author.Needs.{needs}

@@ -6,13 +6,13 @@ use mathlib.Core.List.{List}
 use Prim.Native.Nat.{_+_, _-_, _<_}
 use native.Mathlib.Omega.{arith}
 use lib.ListN.{length, getD}
+use Rattle.lists.specs.Lists.{some}
 use Rattle.word.specs.Field.{stepCount}
 use Rattle.plan.specs.Plan.{reads, Step}
 use Rattle.plan.specs.Decode.{stepOf}
 use Rattle.plan.specs.Place.{transactionFrom}
 use Rattle.plan.proofs.Steps.{stepsFrom, steps-all, step-here}
 use Rattle.operation.specs.Operation.{cellsNamed}
-use Rattle.conflict.specs.Mask.{some}
 use Rattle.conflict.specs.Written.{stepWrites}
 use Rattle.conflict.proofs.Named.{row-passes, read-found, read-other, read-done}
 use Rattle.conflict.proofs.WriteWords.{writes-here}

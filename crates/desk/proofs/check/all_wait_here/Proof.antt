@@ -6,10 +6,10 @@ use Prim.Native.Nat.{ℕ, _+_, _≤_, _-_}
 use native.Mathlib.Omega.{arith}
 use lib.ListN.{length, take, drop}
 use borrow.Author.Tests.{not-true, not-false}
+use Rattle.lists.specs.Lists.{every}
+use Rattle.lists.proofs.Laws.{every-take-here, every-take-past}
 use Rattle.plan.specs.Decode.{planOf}
-use Rattle.plan.specs.Admission.{every}
 use Rattle.desk.specs.Admission.{waitsHere}
-use Rattle.desk.proofs.QuestionSix.{first-here, first-past}
 use borrow.Author.Needs.{needs}
 use Rattle.desk.proofs.check.all_wait_here.Statement.{statement}
 use Rattle.desk.proofs.check.all_wait_here.Tie as tie
@@ -50,7 +50,7 @@ turned c =
     let f = waitsHere (planOf (d .args .plan .now)) (d .args .desk) in
     let fits : d .args .waiting ≤ length (d .args .t5) = omega (arith, e .loop .inv .1, d .pre .1) in
     e .loop .inv .2
-    ∙ first-here f (d .args .t5) (d .args .waiting) fits (e .loop .i) _ (c .before .before .loop-test .taken)
+    ∙ every-take-here f (d .args .t5) (d .args .waiting) fits (e .loop .i) _ (c .before .before .loop-test .taken)
     ∙ ap (λ (b : Bool). b && every f (drop (e .loop .i + 1) (take (d .args .waiting) (d .args .t5)))) (sym (c .waits-here .ensures))
 
 returns : tie.Need-returns Inv-loop μ-loop
@@ -83,7 +83,7 @@ returns-2 c =
     let fits : d .args .waiting ≤ length (d .args .t5) = omega (arith, e .loop .inv .1, d .pre .1) in
     let last : e .loop .i ≡ d .args .waiting = omega arith in
     sym (e .loop .inv .2 ∙ ap (λ (i : ℕ). every f (drop i (take (d .args .waiting) (d .args .t5)))) last
-    ∙ first-past f (d .args .t5) (d .args .waiting) fits)
+    ∙ every-take-past f (d .args .t5) (d .args .waiting) fits)
 
 pub all-wait-here-spec : {M : Type 1} → statement M
 all-wait-here-spec =

@@ -1,12 +1,13 @@
 -- Question 6: each answer is the branch of the definition that the tests before it chose.
 -- Assumes nothing.
 use mathlib.Core.Path.{_≡_, _∙_, sym}
+use Rattle.lists.specs.Lists.{every}
+use Rattle.lists.proofs.Laws.{every-take-none}
 use Rattle.plan.specs.Decode.{planOf}
-use Rattle.plan.specs.Admission.{every}
 use Rattle.plan.proofs.Accepted.{accepted-gives}
 use Rattle.desk.specs.Queueing.{waitingIn}
 use Rattle.desk.specs.Admission.{waitsHere, deskStands}
-use Rattle.desk.proofs.QuestionSix.{desk-out, too-many, other-visit, by-records, none-waits, untabled-holds}
+use Rattle.desk.proofs.QuestionSix.{desk-out, too-many, other-visit, by-records, untabled-holds}
 use borrow.Author.Needs.{needs}
 use Rattle.desk.proofs.check.standing.Statement.{statement}
 use Rattle.desk.proofs.check.standing.Tie as tie
@@ -82,7 +83,7 @@ returns-4 : tie.Need-returns-4
 returns-4 c =
     let g = c .before in
     let d = g .before .before .before .before .before .before .before .before .before in (
-      c .untabled4 .ensures .0 ∙ sym (asked (g .before) ∙ none-waits _ _ _ (g .if4 .taken)),
+      c .untabled4 .ensures .0 ∙ sym (asked (g .before) ∙ every-take-none _ _ _ (g .if4 .taken)),
       untabled-holds (d .args .plan .now) (c .untabled4 .result) (c .untabled4 .ensures .1),
     )
 

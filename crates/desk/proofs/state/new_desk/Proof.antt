@@ -2,8 +2,8 @@
 -- Assumes nothing.
 use mathlib.Core.Path.{_≡_, _∙_, sym, ap}
 use borrow.Author.Tests.{lt-ltb, le-ltb}
-use Rattle.plan.specs.Admission.{planVerdict, accepted}
-use Rattle.plan.specs.Answer.{verdictOf}
+use Rattle.verdict.specs.Verdict.{accepted, verdictOf}
+use Rattle.plan.specs.Admission.{planVerdict}
 use Rattle.plan.proofs.Accepted.{accepted-gives, desk-count}
 use Rattle.desk.specs.Answer.{newDeskResult}
 use borrow.Author.Needs.{needs}

@@ -6,8 +6,8 @@ use native.Mathlib.Omega.{arith}
 use lib.Dec.{eqb}
 use lib.ListN.{length, drop}
 use borrow.Author.Tests.{eq-eqb, ne-eqb}
-use Rattle.plan.specs.Admission.{every}
-use Rattle.plan.proofs.Every.{every-here, every-past}
+use Rattle.lists.specs.Lists.{every}
+use Rattle.lists.proofs.Laws.{every-here, every-past}
 use Rattle.operation.specs.Admission.{unusedZero}
 use borrow.Author.Needs.{needs}
 use Rattle.operation.proofs.admission.unused_zero.Statement.{statement}

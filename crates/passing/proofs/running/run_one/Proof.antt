@@ -3,10 +3,11 @@
 use mathlib.Core.Path.{_≡_, _∙_, ap}
 use native.Mathlib.Omega.{arith}
 use lib.ListN.{length}
+use Rattle.lists.specs.Lists.{overwritten}
 use Rattle.plan.specs.Decode.{planOf}
 use Rattle.operation.specs.Answer.{outcomeOf}
 use Rattle.operation.specs.Run.{Outcome, run, applyUpdate}
-use Rattle.token.specs.Frame.{sent, updateWords, overwritten}
+use Rattle.token.specs.Frame.{sent, updateWords}
 use Rattle.desk.specs.Queueing.{operationOf}
 use Rattle.passing.specs.Waiting.{replyWords}
 use Rattle.desk.proofs.Asked.{admitted-stands, parameters-passed, run-asked}

@@ -5,13 +5,12 @@ use Prim.Native.Nat.{_+_, _-_, _*_, _≤_, _<_}
 use native.Mathlib.Omega.{arith}
 use lib.ListN.{length, take, length-drop, getD}
 use lib.Seq.{length-take-le, getD-take}
+use Rattle.lists.proofs.Laws.{every-index, fill-length}
 use Rattle.plan.specs.Decode.{planOf}
-use Rattle.plan.proofs.Every.{every-index}
 use Rattle.plan.proofs.Placing.{places-long}
-use Rattle.token.proofs.Filling.{fill-length}
 use Rattle.queue.specs.Queue.{noRequest}
 use Rattle.desk.specs.Admission.{Admitted}
-use Rattle.desk.proofs.Asked.{below-32, there, place-looked-up, operation-admitted}
+use Rattle.desk.proofs.Asked.{below-32, admitted-exists, place-looked-up, operation-admitted}
 use Rattle.passing.specs.Running.{AllRun, isOperation, madeWords}
 use Rattle.passing.proofs.Remainders.{lent}
 use Rattle.passing.proofs.WaitingRuns.{Running, running-start, running-next, running-done, room-here, reply-room-here}
@@ -62,7 +61,7 @@ low : (c : tie.In-loop Inv-loop μ-loop)
 low c =
     let a = c .before .before .before .before .before .before .before .args in
     let r = getD (a .t4) (c .before .loop .at) noRequest in
-    below-32 (a .plan .now) r (admitted c .planned) (there (a .plan .now) r (admitted c))
+    below-32 (a .plan .now) r (admitted c .planned) (admitted-exists (a .plan .now) r (admitted c))
 
 cast-place : tie.Need-cast-place Inv-loop μ-loop
 cast-place c = omega (arith, low (c .before .before))
@@ -132,7 +131,8 @@ run-one-requires c κs =
     record {
       placed = record {
         admitted = e;
-        place = place-looked-up (s .args .plan .now) r (e .planned) (there (s .args .plan .now) r e) (s .args .places .now) (s .pre .1);
+        place = place-looked-up (s .args .plan .now) r (e .planned) (admitted-exists (s .args .plan .now) r e) (s .args .places .now)
+            (s .pre .1);
       };
       room = omega (arith, room d, ap length (lent (l .out) (l .end)), length-drop (l .end) (l .out));
       replyRoom = omega (arith, reply-room d, ap length (lent (l .replies) (l .at * 3)), length-drop (l .at * 3) (l .replies));

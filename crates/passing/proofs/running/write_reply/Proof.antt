@@ -4,8 +4,8 @@ use mathlib.Core.Path.{_∙_, ap}
 use mathlib.Core.List.{_∷_, []}
 use native.Mathlib.Omega.{arith}
 use lib.ListN.{length-set, drop}
-use Rattle.token.proofs.Filling.{fill-none, fill-word, fill-done}
 use borrow.Author.Needs.{needs}
+use Rattle.lists.proofs.Laws.{fill-none, fill-word, fill-done}
 use Rattle.passing.proofs.running.write_reply.Statement.{statement}
 use Rattle.passing.proofs.running.write_reply.Tie as tie
 

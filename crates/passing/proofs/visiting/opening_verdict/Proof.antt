@@ -1,9 +1,7 @@
 -- Questions 1 to 5: each answer is the branch of the definition that the questions before it chose.
 -- Assumes nothing.
 use mathlib.Core.Path.{_≡_, _∙_, sym, ap}
-use mathlib.Core.Bool.{Bool, cond}
-use Rattle.plan.specs.Admission.{accepted, refused}
-use Rattle.plan.specs.Answer.{verdictOf}
+use Rattle.verdict.specs.Verdict.{ask, verdictOf}
 use Rattle.passing.specs.Core.{openingVerdict}
 use Rattle.passing.proofs.Visited.{plan-refused, by-buffers}
 use borrow.Author.Needs.{needs}
@@ -32,19 +30,19 @@ buffers-fit-requires c κs = search needs
 decided : (c : tie.After-buffers-fit)
     → let a = c .before .before .before .before .before .before .before .before .args in
     openingVerdict (a .plan .now) (a .cells .now) (a .size) (a .out .now) (a .replies .now)
-    ≡ cond (c .buffers-fit .result) accepted (refused 5)
+    ≡ ask 5 (c .buffers-fit .result)
 decided c =
     let e = c .before in
     let a = e .before .before .before .before .before .before .before .args in
     by-buffers (a .plan .now) (a .cells .now) (a .size) (a .out .now) (a .replies .now)
     (sym (e .before .before .read-plan .ensures) ∙ ap verdictOf (e .enum-told .given .1))
-    ∙ ap (λ (b : Bool). cond b accepted (refused 5)) (sym (c .buffers-fit .ensures))
+    ∙ ap (ask 5) (sym (c .buffers-fit .ensures))
 
 returns-2 : tie.Need-returns-2
-returns-2 c = sym (decided (c .before) ∙ ap (λ (b : Bool). cond b accepted (refused 5)) (c .if1 .taken))
+returns-2 c = sym (decided (c .before) ∙ ap (ask 5) (c .if1 .taken))
 
 returns-3 : tie.Need-returns-3
-returns-3 c = sym (decided (c .before) ∙ ap (λ (b : Bool). cond b accepted (refused 5)) (c .if1 .left))
+returns-3 c = sym (decided (c .before) ∙ ap (ask 5) (c .if1 .left))
 
 pub opening-verdict-spec : {M : Type 1} → statement M
 opening-verdict-spec =

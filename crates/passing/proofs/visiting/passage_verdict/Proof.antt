@@ -4,11 +4,10 @@ use mathlib.Core.Path.{_≡_, _∙_, sym, ap}
 use mathlib.Core.Bool.{true}
 use Prim.Native.Nat.{ℕ}
 use borrow.Author.Tests.{not-true, not-false}
-use Rattle.plan.specs.Admission.{accepted}
+use Rattle.verdict.specs.Verdict.{accepted, verdictOf}
 use Rattle.plan.specs.Decode.{planOf}
 use Rattle.plan.proofs.Accepted.{accepted-gives, desk-count}
 use Rattle.token.specs.Admission.{frameVerdict}
-use Rattle.token.specs.Answer as token
 use Rattle.desk.specs.Admission.{deskStands}
 use Rattle.passing.proofs.Outgoing.{frame-size}
 use Rattle.passing.proofs.Visited.{desk-unfit, frame-refused, by-turn}
@@ -46,7 +45,7 @@ returns-2 c =
     sym (frame-refused (d .args .plan .now) (d .args .state) (d .args .records) (d .args .frame .now)
     (desk-passes (c .before .before .before .before .before)) _
     (ap (λ (n : ℕ). frameVerdict n (d .args .frame .now)) (desk-count (d .args .plan .now))
-    ∙ sym (c .before .before .before .check-frame .ensures) ∙ ap token.verdictOf (c .before .question .given .1)))
+    ∙ sym (c .before .before .before .check-frame .ensures) ∙ ap verdictOf (c .before .question .given .1)))
 
 enum-told : tie.Need-enum-told
 enum-told c = search needs
@@ -58,7 +57,7 @@ frame-passes : (c : tie.After-enum-told)
 frame-passes c =
     let a = c .before .before .before .before .before .before .before .before .before .args in
     ap (λ (n : ℕ). frameVerdict n (a .frame .now)) (desk-count (a .plan .now))
-    ∙ sym (c .before .before .check-frame .ensures) ∙ ap token.verdictOf (c .enum-told .given .1)
+    ∙ sym (c .before .before .check-frame .ensures) ∙ ap verdictOf (c .enum-told .given .1)
 
 turn-requires : tie.Need-turn-requires
 turn-requires c κs = frame-size _ _ (frame-passes c) .0

@@ -2,8 +2,8 @@
 -- Assumes nothing.
 use mathlib.Core.Path.{_≡_, _∙_, sym, ap}
 use lib.ListN.{length}
-use Rattle.plan.specs.Admission.{planVerdict, accepted}
-use Rattle.plan.specs.Answer.{verdictOf}
+use Rattle.verdict.specs.Verdict.{accepted, verdictOf}
+use Rattle.plan.specs.Admission.{planVerdict}
 use Rattle.passing.specs.Core.{openingVerdict, passageVerdict}
 use Rattle.passing.proofs.Visited.{plan-passes, opening-refused, passage-refused, left-passed, of-records}
 use borrow.Author.Needs.{needs}

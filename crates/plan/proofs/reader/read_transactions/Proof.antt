@@ -7,8 +7,9 @@ use borrow.Author.Tests.{not-true, not-false}
 use mathlib.Core.Logic.{⊎-elim}
 use native.Mathlib.Omega.{arith}
 use lib.ListN.{length, drop}
-use Rattle.plan.specs.Admission.{transactionsVerdict, accepted, refused, transactionFormed, stepFormed}
-use Rattle.plan.proofs.Rest.{there, stands, restAt, restInAt, walk-start, tx-fault, tx-step, end-more, end-done, step-fault}
+use Rattle.verdict.specs.Verdict.{accepted, refused}
+use Rattle.plan.specs.Admission.{transactionsVerdict, transactionFormed, stepFormed}
+use Rattle.plan.proofs.Rest.{formedAt, stands, restAt, restInAt, walk-start, tx-fault, tx-step, end-more, end-done, step-fault}
 use Rattle.plan.proofs.Rest.{step-step, steps-done}
 use borrow.Author.Needs.{needs}
 use Rattle.plan.proofs.reader.read_transactions.Statement.{statement}
@@ -36,15 +37,15 @@ transaction-at-requires :
 transaction-at-requires c κs = search needs
 
 -- a well-formed transaction's word stands at the place, and so does a step's
-tx-there : (c : tie.Else1 Inv-loop μ-loop Inv-transactions μ-transactions)
-    → there transactionFormed (c .before .before .before .before .before .args .plan .now) (c .before .before .before .transactions .at)
+tx-formedAt : (c : tie.Else1 Inv-loop μ-loop Inv-transactions μ-transactions)
+    → formedAt transactionFormed (c .before .before .before .before .before .args .plan .now) (c .before .before .before .transactions .at)
     ≡ true
-tx-there c = sym (c .before .transaction-at .ensures) ∙ not-false _ (c .if1 .left)
+tx-formedAt c = sym (c .before .transaction-at .ensures) ∙ not-false _ (c .if1 .left)
 
 tx-here : (c : tie.Else1 Inv-loop μ-loop Inv-transactions μ-transactions)
     → c .before .before .before .transactions .at < length (c .before .before .before .before .before .args .plan .now)
 tx-here c = stands transactionFormed (c .before .before .before .before .before .args .plan .now)
-    (c .before .before .before .transactions .at) (tx-there c) .0
+    (c .before .before .before .transactions .at) (tx-formedAt c) .0
 
 mul-word : tie.Need-mul-word Inv-loop μ-loop Inv-transactions μ-transactions
 mul-word c = let h = tx-here c in search needs
@@ -63,16 +64,16 @@ add-at c = let h = tx-here (c .before .before) in omega arith
 loop-holds : tie.Need-loop-holds Inv-loop μ-loop Inv-transactions μ-transactions
 loop-holds c =
     let d = c .before .before in
-    rw (c .partitioning-missing .ensures) (sym (tx-step _ _ _ _ _ (d .before .before .transactions-test .taken) (tx-there d))
+    rw (c .partitioning-missing .ensures) (sym (tx-step _ _ _ _ _ (d .before .before .transactions-test .taken) (tx-formedAt d))
     ∙ d .before .before .before .transactions .inv)
 
 step-at-requires : tie.Need-step-at-requires Inv-loop μ-loop Inv-transactions μ-transactions
 step-at-requires c κs = search needs
 
-step-there : (c : tie.Else2 Inv-loop μ-loop Inv-transactions μ-transactions)
-    → there stepFormed (c .before .before .before .before .before .before .before .before .before .before .before .args .plan .now)
+step-formedAt : (c : tie.Else2 Inv-loop μ-loop Inv-transactions μ-transactions)
+    → formedAt stepFormed (c .before .before .before .before .before .before .before .before .before .before .before .args .plan .now)
     (c .before .before .before .loop .at) ≡ true
-step-there c = sym (c .before .step-at .ensures) ∙ not-false _ (c .if2 .left)
+step-formedAt c = sym (c .before .step-at .ensures) ∙ not-false _ (c .if2 .left)
 
 step-here : (c : tie.Else2 Inv-loop μ-loop Inv-transactions μ-transactions)
     → c .before .before .before .loop .at < length
@@ -80,7 +81,7 @@ step-here : (c : tie.Else2 Inv-loop μ-loop Inv-transactions μ-transactions)
 step-here c =
     stands stepFormed (c .before .before .before .before .before .before .before .before .before .before .before .args .plan .now)
     (c .before .before .before .loop .at)
-    (step-there c) .0
+    (step-formedAt c) .0
 
 mul-step-missing : tie.Need-mul-step-missing Inv-loop μ-loop Inv-transactions μ-transactions
 mul-step-missing c = let h = step-here c in search needs
@@ -94,7 +95,7 @@ step-missing-requires :
 step-missing-requires c κs =
     stands stepFormed (c .before .before .before .before .before .before .before .before .before .before .before .before .args .plan .now)
     (c .before .before .before .before .loop .at)
-    (step-there (c .before)) .2
+    (step-formedAt (c .before)) .2
 
 add-at-2 : tie.Need-add-at-2 Inv-loop μ-loop Inv-transactions μ-transactions
 add-at-2 c = let h = step-here (c .before .before) in omega arith
@@ -108,7 +109,7 @@ loop-less c = omega arith
 loop-again : tie.Need-loop-again Inv-loop μ-loop Inv-transactions μ-transactions
 loop-again c =
     let d = c .before .before in
-    rw (c .step-missing .ensures) (sym (step-step _ _ _ _ _ _ _ _ (d .before .before .loop-test .taken) (step-there d))
+    rw (c .step-missing .ensures) (sym (step-step _ _ _ _ _ _ _ _ (d .before .before .loop-test .taken) (step-formedAt d))
     ∙ d .before .before .before .loop .inv)
 
 add-t : tie.Need-add-t Inv-loop μ-loop Inv-transactions μ-transactions

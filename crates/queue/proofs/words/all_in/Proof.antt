@@ -6,15 +6,16 @@ use mathlib.Core.List.{List}
 use native.Mathlib.Omega.{arith}
 use lib.ListN.{set}
 use borrow.Author.Needs.{needs}
+use Rattle.lists.proofs.Laws.{getD-tabulate}
 use Rattle.queue.specs.declared.record.Request.{Request}
-use Rattle.queue.specs.Words.{recordsIn}
-use Rattle.queue.proofs.Copying.{upto, upto-start, upto-step, upto-end, upto-length}
-use Rattle.queue.proofs.Rows.{getD-recordsIn}
+use Rattle.queue.specs.Queue.{noRequest}
+use Rattle.queue.specs.Words.{recordIn, recordsIn}
+use Rattle.queue.proofs.Copying.{upto, upto-step, upto-end}
 use Rattle.queue.proofs.words.all_in.Statement.{statement}
 use Rattle.queue.proofs.words.all_in.Tie as tie
 
 abbrev Inv-loop : tie.InvT-loop
-Inv-loop row records₀ at₀ records at = (at ≤ 32) × (records ≡ upto at (recordsIn 32 row))
+Inv-loop row records₀ at₀ records at = (at ≤ 32) × (records ≡ upto at (recordsIn row))
 
 abbrev μ-loop : tie.MeasureT-loop
 μ-loop row records₀ at₀ records at = 32 - at
@@ -47,14 +48,15 @@ loop-again c =
     let h : at < 32 = omega arith in (
       omega arith,
       ap (λ (rs : List Request). set rs at (c .record-in .result)) (c .before .before .loop .inv .1)
-          ∙ ap (set (upto at (recordsIn 32 row)) at) (c .record-in .ensures ∙ sym (getD-recordsIn 32 row at h)) ∙ upto-step (recordsIn 32 row) at h,
+          ∙ ap (set (upto at (recordsIn row)) at) (c .record-in .ensures ∙ sym (getD-tabulate 32 (recordIn row) at noRequest h))
+          ∙ upto-step (recordsIn row) at h,
     )
 
 returns : tie.Need-returns Inv-loop μ-loop
 returns c =
     let row = c .before .before .before .before .args .row .now in
     let e : c .before .loop .at ≡ 32 = omega (arith, c .before .loop .inv .0) in
-    c .before .loop .inv .1 ∙ ap (λ (n : ℕ). upto n (recordsIn 32 row)) e ∙ upto-end (recordsIn 32 row)
+    c .before .loop .inv .1 ∙ ap (λ (n : ℕ). upto n (recordsIn row)) e ∙ upto-end (recordsIn row)
 
 pub all-in-spec : {M : Type 1} → statement M
 all-in-spec =

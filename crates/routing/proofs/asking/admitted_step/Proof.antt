@@ -1,8 +1,8 @@
 -- Questions 7 and 8, and the route: each arm is the branch of the definition for its answer.
 -- Assumes nothing.
 use mathlib.Core.Path.{_∙_, sym, ap}
+use Rattle.verdict.specs.Verdict.{Verdict}
 use Rattle.plan.specs.Decode.{planOf}
-use Rattle.plan.specs.Admission.{Verdict}
 use Rattle.plan.specs.Place.{transactionPlace}
 use Rattle.operation.specs.Admission.{operationVerdict}
 use Rattle.desk.specs.Queueing.{operationOf}

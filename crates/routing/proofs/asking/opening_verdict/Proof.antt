@@ -1,8 +1,8 @@
 -- Questions 1 to 5: each answer is the branch of the definition that the questions before it chose.
 -- Assumes nothing.
 use mathlib.Core.Path.{_≡_, _∙_, sym, ap}
-use Rattle.plan.specs.Admission.{planVerdict, accepted}
-use Rattle.plan.specs.Answer.{verdictOf}
+use Rattle.verdict.specs.Verdict.{accepted, verdictOf}
+use Rattle.plan.specs.Admission.{planVerdict}
 use Rattle.routing.proofs.Handed.{plan-refused, store-unfit, queue-unfit, buffers-fit}
 use borrow.Author.Needs.{needs}
 use Rattle.routing.proofs.asking.opening_verdict.Statement.{statement}

@@ -2,8 +2,8 @@
 -- Assumes nothing.
 use mathlib.Core.Path.{_≡_, _∙_, sym, ap}
 use borrow.Author.Tests.{not-true, not-false}
-use Rattle.plan.specs.Admission.{planVerdict, accepted}
-use Rattle.plan.specs.Answer.{verdictOf}
+use Rattle.verdict.specs.Verdict.{accepted, verdictOf}
+use Rattle.plan.specs.Admission.{planVerdict}
 use Rattle.routing.specs.Step.{openingVerdict}
 use Rattle.routing.proofs.Handed.{opening-refused, desk-unfit, by-operation}
 use Rattle.routing.proofs.Handed as handed

@@ -2,9 +2,9 @@
 -- Assumes nothing.
 use mathlib.Core.Path.{_≡_, _∙_, sym, ap}
 use native.Mathlib.Omega.{arith}
-use Rattle.plan.specs.Admission.{accepted}
+use Rattle.verdict.specs.Verdict.{accepted, verdictOf}
 use Rattle.token.specs.Admission.{readVerdict}
-use Rattle.token.specs.Answer.{verdictOf, visitRead}
+use Rattle.token.specs.Answer.{visitRead}
 use Rattle.token.proofs.Verdicts.{read-length}
 use borrow.Author.Needs.{needs}
 use Rattle.token.proofs.reader.frame_visit.Statement.{statement}

@@ -4,9 +4,9 @@ use mathlib.Core.Path.{_≡_, _∙_, sym, ap}
 use Prim.Native.Nat.{ℕ, _-_}
 use native.Mathlib.Omega.{arith}
 use lib.ListN.{length, take, drop}
-use Rattle.plan.specs.Admission.{accepted}
+use Rattle.verdict.specs.Verdict.{accepted, verdictOf}
 use Rattle.token.specs.Admission.{readVerdict}
-use Rattle.token.specs.Answer.{verdictOf, partRead}
+use Rattle.token.specs.Answer.{partRead}
 use Rattle.token.proofs.Verdicts.{read-length}
 use borrow.Author.Needs.{needs}
 use Rattle.token.proofs.reader.read_frame.Statement.{statement}

@@ -1,8 +1,8 @@
--- A table of numbers by index.
+-- A table by index.
 use Prim.Native.Nat.{ℕ, zero, suc}
 use mathlib.Core.List.{List, [], _∷_, _++_}
 
--- the numbers f 0, f 1, .. f (n - 1)
-unfoldable pub tabulate : ℕ → (ℕ → ℕ) → List ℕ
+-- f 0, f 1, .. f (n - 1)
+unfoldable pub tabulate : {A : Type 0} → ℕ → (ℕ → A) → List A
 tabulate zero f = []
 tabulate (suc n) f = tabulate n f ++ (f n ∷ [])

@@ -5,11 +5,11 @@ use mathlib.Core.Bool.{Bool, true, false, _||_, or-true, or-assoc, false≢true}
 use mathlib.Core.List.{List, [], _∷_, _++_, List·Memᴰ, List·Memᴰ·head, List·Memᴰ·tail}
 use Prim.Native.Nat.{ℕ, zero, suc, _+_, _≤_, _<_, suc-le-suc}
 use native.Mathlib.Nat.{not-suc-le-zero, le-of-suc-le-suc}
-use native.Mathlib.Numerals.{add-one}
 use native.Mathlib.Omega.{arith}
 use lib.ListN.{length, getD, drop, drop-of-length-le}
-use lib.Seq.{drop-cons}
-use Rattle.conflict.specs.Mask.{some}
+use Rattle.lists.specs.Lists.Some.{some}
+use Rattle.lists.proofs.Laws.Bool.{bool-ext}
+use Rattle.lists.proofs.Laws.Places.{drop-here}
 
 module _ {A : Type 0} (f : A → Bool) where
   pub member-some : (x : A) (xs : List A) → List·Memᴰ x xs → f x ≡ true → some f xs ≡ true
@@ -46,7 +46,7 @@ module _ {A : Type 0} (f : A → Bool) where
   -- from a place on
   pub some-here : (l : List A) (i : ℕ) (d : A) → i < length l → some f (drop i l) ≡ (f (getD l i d) || some f (drop (i + 1) l))
   unfolding some
-  some-here l i d h = rw (add-one) (ap (some f) (drop-cons l i d h))
+  some-here l i d h = ap (some f) (drop-here l i d h)
 
   pub some-past : (l : List A) (i : ℕ) → length l ≤ i → some f (drop i l) ≡ false
   unfolding some
@@ -59,11 +59,6 @@ module _ {A : Type 0} (f : A → Bool) where
 
 -- ---- two tests
 
-both-true : (a b : Bool) → (a ≡ true → b ≡ true) → (b ≡ true → a ≡ true) → a ≡ b
-both-true true b f g = sym (f refl)
-both-true false true f g = g refl
-both-true false false f g = refl
-
 module _ {A B : Type 0} where
   swap-true : (f : A → B → Bool) (xs : List A) (ys : List B) → some (λ x. some (f x) ys) xs ≡ true
       → some (λ y. some (λ x. f x y) xs) ys ≡ true
@@ -74,7 +69,7 @@ module _ {A B : Type 0} where
 
   -- some pair passes, whichever list is gone through first
   pub some-swap : (f : A → B → Bool) (xs : List A) (ys : List B) → some (λ x. some (f x) ys) xs ≡ some (λ y. some (λ x. f x y) xs) ys
-  some-swap f xs ys = both-true _ _ (swap-true f xs ys) (swap-true′ f xs ys)
+  some-swap f xs ys = bool-ext _ _ (swap-true f xs ys) (swap-true′ f xs ys)
     where
       swap-true′ : (f : A → B → Bool) (xs : List A) (ys : List B) → some (λ y. some (λ x. f x y) xs) ys ≡ true
           → some (λ x. some (f x) ys) xs ≡ true

@@ -1,20 +1,21 @@
--- A test of every element of a list: at an index, of a member, and of two lists in one.
+-- A test of every element of a list: at an index, of a member, of two lists in one, and of the first elements.
 -- Assumes nothing.
 use mathlib.Core.Path.{_≡_, refl, _∙_, ap, ap₂}
 use mathlib.Core.Bool.{Bool, true, _&&_}
 use mathlib.Core.List.{List, [], _∷_, _++_, List·Memᴰ, List·Memᴰ·head, List·Memᴰ·tail}
 use Prim.Native.Nat.{ℕ, zero, suc, _+_, _≤_, _<_}
 use native.Mathlib.Nat.{not-suc-le-zero, le-of-suc-le-suc}
-use native.Mathlib.Numerals.{add-one}
-use lib.ListN.{length, getD, drop, drop-of-length-le}
-use lib.Seq.{drop-cons}
-use Rattle.plan.specs.Admission.{every}
-use Rattle.plan.proofs.Bool.{and-fst, and-snd, and-true}
+use native.Mathlib.Omega.{arith}
+use lib.ListN.{length, getD, take, drop, drop-of-length-le}
+use lib.Seq.{getD-take, length-take-le}
+use Rattle.lists.specs.Lists.Every.{every}
+use Rattle.lists.proofs.Laws.Bool.{and-fst, and-snd, and-true}
+use Rattle.lists.proofs.Laws.Places.{drop-here}
 
 module _ {A : Type 0} (f : A → Bool) where
   pub every-here : (l : List A) (i : ℕ) (d : A) → i < length l → every f (drop i l) ≡ (f (getD l i d) && every f (drop (i + 1) l))
   unfolding every
-  every-here l i d h = rw (add-one, drop-cons l i d h)
+  every-here l i d h = ap (every f) (drop-here l i d h)
 
   pub every-past : (l : List A) (i : ℕ) → length l ≤ i → every f (drop i l) ≡ true
   unfolding every
@@ -52,3 +53,19 @@ module _ {A : Type 0} (f : A → Bool) where
   pub every-last : (xs : List A) (y : A) → every f xs ≡ true → f y ≡ true → every f (xs ++ (y ∷ [])) ≡ true
   unfolding every
   every-last xs y h k = every-append xs (y ∷ []) h (and-true (f y) true k refl)
+
+-- ---- of the first n elements, from the i-th on
+
+module _ {A : Type 0} (f : A → Bool) (l : List A) (n : ℕ) (fits : n ≤ length l) where
+  pub every-take-here : (i : ℕ) (d : A) → i < n → every f (drop i (take n l)) ≡ (f (getD l i d) && every f (drop (i + 1) (take n l)))
+  every-take-here i d h =
+      every-here f (take n l) i d (omega (arith, length-take-le n l fits))
+      ∙ ap (λ (x : A). f x && every f (drop (i + 1) (take n l))) (getD-take n l i d h)
+
+  pub every-take-past : every f (drop n (take n l)) ≡ true
+  every-take-past = every-past f (take n l) n (omega (arith, length-take-le n l fits))
+
+-- of none
+pub every-take-none : {A : Type 0} (f : A → Bool) (l : List A) (n : ℕ) → n ≡ 0 → every f (take n l) ≡ true
+unfolding every
+every-take-none f l n e = rw e

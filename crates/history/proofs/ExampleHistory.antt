@@ -5,18 +5,19 @@ use mathlib.Core.Path.{_≡_, refl}
 use mathlib.Core.Bool.{Bool, true, false, true≢false}
 use mathlib.Core.List.{List, [], _∷_, map, List·Memᴰ·head, List·Memᴰ·tail}
 use native.Mathlib.Omega.{arith}
-use Rattle.plan.specs.Admission.{every}
+use Rattle.lists.specs.Lists.{every}
 use Rattle.operation.specs.Operation.{cellsNamed}
 use Rattle.operation.specs.Run.{Reply, act, runFrom}
+use Rattle.conflict.proofs.Ones.{countOf}
 use Rattle.serial.specs.Store.{Store}
 use Rattle.serial.specs.Frame.{Frame, startFrame}
 use Rattle.serial.specs.Desk.{Call, request, visit, Answer, refused, replied, waits, redirected, forwarded, isRefused}
 use Rattle.serial.specs.History.{answers, desksAfter, newDesks, Proper}
 use Rattle.serial.specs.Order.{Finished}
 use Rattle.serial.specs.SerialRun.{Serial, serial, order, storeAfter, due}
 use Rattle.serial.specs.Claim.{Serializable, Claim}
 use Rattle.serial.proofs.Claim.{serializable}
-use Rattle.serial.proofs.Example.{Op, file₀, raise, look, catalogue, example, example-laws}
+use Rattle.history.proofs.Example.{Op, file₀, raise, look, catalogue, example, example-laws}
 
 abbrev ask : ℕ → ℕ → Op → Call Op Unit
 ask p client o = request p (record { client = client; op = o }) tt
@@ -45,7 +46,7 @@ answered = answers example (newDesks example store₀) history
 expected : answered
     ≡ (replied (5, says 0) ∷ waits ∷ redirected 0 ∷ forwarded frame₁ ((7, says 3) ∷ []) ∷ replied (5, says 0) ∷ replied (6, says 8)
     ∷ forwarded frame₂ [] ∷ refused ∷ replied (5, says 3) ∷ replied (2, says 7) ∷ [])
-unfolding every cellsNamed act runFrom
+unfolding every cellsNamed countOf act runFrom
 expected = refl
 
 abbrev refusals : List Bool
@@ -56,22 +57,22 @@ serialRun = serial example history refusals
 
 -- the serial order by clients: both early looks stand before the raise
 order-is : map (λ (e : Finished Op). e .request .client) (order example serialRun) ≡ (5 ∷ 5 ∷ 7 ∷ 6 ∷ 5 ∷ 2 ∷ [])
-unfolding every cellsNamed
+unfolding every cellsNamed countOf
 order-is = refl
 
 -- the serial values, and the replies due to some calls
 store-is : storeAfter example (order example serialRun) store₀ ≡ (8 ∷ 0 ∷ 3 ∷ 7 ∷ [])
-unfolding every cellsNamed act runFrom
+unfolding every cellsNamed countOf act runFrom
 store-is = refl
 
 due-is : map (λ (i : ℕ). due example i (order example serialRun) store₀) (3 ∷ 4 ∷ 7 ∷ [])
     ≡ (((7, says 3) ∷ []) ∷ ((5, says 0) ∷ []) ∷ [] ∷ [])
-unfolding every cellsNamed act runFrom
+unfolding every cellsNamed countOf act runFrom
 due-is = refl
 
 -- the premise is met, so the claim speaks of this history
 proper : Proper example (newDesks example store₀) (startFrame ∷ []) history
-unfolding every cellsNamed act runFrom
+unfolding every cellsNamed countOf act runFrom
 proper = (
   omega arith,
   λ e. tt,

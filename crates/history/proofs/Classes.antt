@@ -1,54 +1,24 @@
 -- The laws asked of the operations hold of classes by masks: of a class computed from which desks may touch and write each cell.
 -- Assumes nothing.
-use Prim.Native.Nat.{ℕ, zero, suc, _≤_, _<_}
-use mathlib.Core.Path.{_≡_, refl}
-use mathlib.Core.Logic.{_≢_, _⊎_, inr}
+use Prim.Native.Nat.{ℕ, _<_}
+use mathlib.Core.Path.{_≡_, refl, _∙_, sym}
+use mathlib.Core.Logic.{_⊎_, inr}
 use mathlib.Core.Bool.{Bool, true, false, cond}
 use mathlib.Core.List.{List, [], _∷_, List·Memᴰ, List·Memᴰ·not-nil}
 use native.Mathlib.Omega.{arith}
 use lib.Dec.{eqb, eqb→eq}
-use Rattle.plan.specs.Admission.{every}
-use Rattle.plan.proofs.Every.{every-member}
+use Rattle.lists.specs.Lists.{every}
+use Rattle.lists.proofs.Laws.{every-member, true-T}
+use Rattle.conflict.proofs.Ones.{countOf, none-of-count, one-of-count}
 use Rattle.serial.specs.System.{Class, free, local, global}
-use Rattle.serial.proofs.Tests.{by-same, true-T}
-
--- ---- a mask, as a test of desks, and the count of ones in it
-
-abbrev pub ones : ℕ → (ℕ → Bool) → ℕ
-ones zero f = 0
-ones (suc k) f = cond (f k) (suc (ones k f)) (ones k f)
-
-module _ (f : ℕ → Bool) where
-  ones-more : (k : ℕ) (b : Bool) → ones k f ≤ cond b (suc (ones k f)) (ones k f)
-  ones-more k true = omega arith
-  ones-more k false = omega arith
-
-  -- a desk below k that is in the mask counts
-  pub ones-one : (k d : ℕ) → d < k → f d ≡ true → 1 ≤ ones k f
-  ones-one zero d h e = absurd (omega arith)
-  ones-one (suc k) d h e =
-      by-same d k (λ i. rw (← i, e) (omega arith)) (λ i. omega (arith, ones-more k (f k), ones-one k d (omega arith) e))
-
-  -- so do two
-  ones-two : (k d e : ℕ) → d < k → e < k → d ≢ e → f d ≡ true → f e ≡ true → 2 ≤ ones k f
-  ones-two zero d e h l ne a b = absurd (omega arith)
-  ones-two (suc k) d e h l ne a b =
-      by-same d k (λ i. rw (← i, a) (omega (arith, ones-one d e (omega arith) b)))
-      (λ i. by-same e k (λ j. rw (← j, b) (omega (arith, ones-one e d (omega arith) a)))
-      (λ j. omega (arith, ones-more k (f k), ones-two k d e (omega arith) (omega arith) ne a b)))
-
-  pub ones-only : (k d e : ℕ) → ones k f ≡ 1 → d < k → e < k → f d ≡ true → f e ≡ true → d ≡ e
-  ones-only k d e o h l a b = by-same d e (λ i. i) (λ i. absurd (omega (arith, ones-two k d e h l i a b)))
-
--- ---- the class
 
 module _ (n : ℕ) (touched written : ℕ → ℕ → Bool) where
   -- "the number of desks is the count of ones in it"
   abbrev touchedBy : ℕ → ℕ → Bool
-  touchedBy k c = eqb (ones n (touched c)) k
+  touchedBy k c = eqb (countOf n (touched c)) k
 
   abbrev writtenBy : ℕ → ℕ → Bool
-  writtenBy k c = eqb (ones n (written c)) k
+  writtenBy k c = eqb (countOf n (written c)) k
 
   -- of an operation by the cells it may read and write. Writing: local if just one desk may touch each cell that it writes.
   -- Writing nothing: free if no desk may write what it reads, else local.
@@ -72,15 +42,15 @@ module _ (n : ℕ) (touched written : ℕ → ℕ → Bool) where
   free-none rs [] c e m = List·Memᴰ·not-nil m
   free-none rs (w ∷ ws) c e m = by-never (every (touchedBy 1) (w ∷ ws)) e
 
-  count : (f : ℕ → ℕ → Bool) (k : ℕ) (cs : List ℕ) (c : ℕ) → every (λ c. eqb (ones n (f c)) k) cs ≡ true →
-      List·Memᴰ c cs → ones n (f c) ≡ k
-  count f k cs c e m = eqb→eq (ones n (f c)) k (true-T _ (every-member (λ c. eqb (ones n (f c)) k) cs c e m))
+  count : (f : ℕ → ℕ → Bool) (k : ℕ) (cs : List ℕ) (c : ℕ) → every (λ c. eqb (countOf n (f c)) k) cs ≡ true →
+      List·Memᴰ c cs → countOf n (f c) ≡ k
+  count f k cs c e m = eqb→eq (countOf n (f c)) k (true-T _ (every-member (λ c. eqb (countOf n (f c)) k) cs c e m))
 
-  free-unwritten : (rs ws : List ℕ) (c : ℕ) → classBy rs ws ≡ free → List·Memᴰ c rs → ones n (written c) ≡ 0
+  free-unwritten : (rs ws : List ℕ) (c : ℕ) → classBy rs ws ≡ free → List·Memᴰ c rs → countOf n (written c) ≡ 0
   free-unwritten rs [] c e m = count written 0 rs c (by-free (every (writtenBy 0) rs) e) m
   free-unwritten rs (w ∷ ws) c e m = absurd (by-never (every (touchedBy 1) (w ∷ ws)) e)
 
-  local-one : (rs ws : List ℕ) (c : ℕ) → classBy rs ws ≡ local → List·Memᴰ c ws → ones n (touched c) ≡ 1
+  local-one : (rs ws : List ℕ) (c : ℕ) → classBy rs ws ≡ local → List·Memᴰ c ws → countOf n (touched c) ≡ 1
   local-one rs [] c e m = absurd (List·Memᴰ·not-nil m)
   local-one rs (w ∷ ws) c e m = count touched 1 (w ∷ ws) c (by-local (every (touchedBy 1) (w ∷ ws)) e) m
 
@@ -95,10 +65,10 @@ module _ (n : ℕ) (touched written : ℕ → ℕ → Bool) where
     pub class-free-reads : (o : Op) → classBy (reads o) (writes o) ≡ free → (c : ℕ) → List·Memᴰ c (reads o) →
         (o′ : Op) → List·Memᴰ c (writes o′) → ⊥
     class-free-reads o e c m o′ k =
-        omega (arith, free-unwritten (reads o) (writes o) c e m, ones-one (written c) n (desk o′) (below o′) (writings o′ c k))
+        none-of-count n (written c) (free-unwritten (reads o) (writes o) c e m) (desk o′) (below o′) (writings o′ c k)
 
     pub class-local-alone : (o : Op) → classBy (reads o) (writes o) ≡ local → (c : ℕ) → List·Memᴰ c (writes o) →
         (o′ : Op) → List·Memᴰ c (reads o′) ⊎ List·Memᴰ c (writes o′) → desk o′ ≡ desk o
     class-local-alone o e c m o′ k =
-        ones-only (touched c) n (desk o′) (desk o) (local-one (reads o) (writes o) c e m) (below o′) (below o) (touches o′ c k)
-        (touches o c (inr m))
+        let one = one-of-count n (touched c) (local-one (reads o) (writes o) c e m) in
+        one .3 (desk o′) (below o′) (touches o′ c k) ∙ sym (one .3 (desk o) (below o) (touches o c (inr m)))

@@ -6,8 +6,8 @@ use Prim.Native.Nat.{ℕ, _+_, _≤_, _<_}
 use native.Mathlib.Omega.{arith}
 use lib.ListN.{length, set, take, drop, length-append}
 use lib.Seq.{take-at, drop-at, drop-drop}
-use Rattle.token.specs.Frame.{overwritten}
-use Rattle.token.proofs.Written.{write-next, overwritten-length}
+use Rattle.lists.specs.Lists.Overwritten.{overwritten}
+use Rattle.lists.proofs.Laws.Overwritten.{write-next, overwritten-length}
 
 -- `t` is `o` with the first k words of the whole written into its front; `rest` is still to come
 pub record Filling (whole o t : List ℕ) (k : ℕ) (rest : List ℕ) : Type 0 where

@@ -2,21 +2,22 @@
 -- Assumes nothing.
 use Prim.Native.Nat.{ℕ, _<_}
 use mathlib.Core.Path.{_≡_, refl}
-use mathlib.Core.Logic.{_⊎_, inl, inr, ⊎-elim}
+use mathlib.Core.Logic.{_⊎_, inl, inr}
 use mathlib.Core.Bool.{Bool, true, _||_}
 use mathlib.Core.List.{List, [], _∷_, _++_, List·Memᴰ, List·Memᴰ·eq-of-singleton, List·Memᴰ·not-nil}
-use mathlib.Core.List.{List·Memᴰ·head, List·Memᴰ·tail, List·Memᴰ·append-cases, List·Memᴰ·cases-cons, Memᴰ·append-left, Memᴰ·append-right}
 use native.Mathlib.Omega.{arith}
 use lib.ListN.{length}
 use lib.Dec.{eqb, ltb, eqb→eq}
+use Rattle.lists.specs.Lists.{every}
+use Rattle.lists.proofs.Laws.{cons-in-snoc, snoc-in-cons}
 use Rattle.plan.specs.Plan.{param, fixed, reads, writes, sets, cell, operand, Partitioning, byParam, unpartitioned, Transaction, Plan}
-use Rattle.plan.specs.Admission.{every}
 use Rattle.operation.specs.Operation.{Operation, operation, deskOf, cellsNamed, readSet, writeSet, MayRead, MayWrite}
 use Rattle.operation.specs.Run.{Reply, run}
-use Rattle.serial.specs.Desk.{Request, Desk, Call, request, visit}
+use Rattle.conflict.proofs.Ones.{countOf}
+use Rattle.serial.specs.Desk.{Desk, Call, request, visit}
 use Rattle.serial.specs.System.{free, local, global, System, Laws}
-use Rattle.serial.proofs.Transactions.{run-reply-reads, run-update-reads, run-update-writes}
-use Rattle.serial.proofs.Classes.{classBy, class-free-writes, class-free-reads, class-local-alone}
+use Rattle.history.proofs.Transactions.{run-reply-reads, run-update-reads, run-update-writes}
+use Rattle.history.proofs.Classes.{classBy, class-free-writes, class-free-reads, class-local-alone}
 
 -- ---- the operations: file d v, desk d sets its own cell d to v; raise v, desk 0 sets cell 2; look, desk 1 reads cell 2; catalogue,
 -- anywhere, reads cell 3, which none writes
@@ -97,20 +98,7 @@ writings (raise v) c m = only (λ c. written c 0 ≡ true) 2 c refl m
 writings look c m = absurd (List·Memᴰ·not-nil m)
 writings catalogue c m = absurd (List·Memᴰ·not-nil m)
 
--- ---- joining at the end, and the admission
-
-abbrev pub joinLast : {O : Type 0} → List (Request O) → Request O → List (Request O)
-joinLast q r = q ++ (r ∷ [])
-
-pub last-keeps : {O : Type 0} (q : List (Request O)) (r t : Request O) → List·Memᴰ t (r ∷ q) → List·Memᴰ t (joinLast q r)
-last-keeps q r t m =
-    ⊎-elim (λ (e : t ≡ r). Memᴰ·append-right q (List·Memᴰ·head e)) (λ (k : List·Memᴰ t q). Memᴰ·append-left (r ∷ []) k)
-    (List·Memᴰ·cases-cons m)
-
-pub last-only : {O : Type 0} (q : List (Request O)) (r t : Request O) → List·Memᴰ t (joinLast q r) → List·Memᴰ t (r ∷ q)
-last-only q r t m =
-    ⊎-elim (λ (k : List·Memᴰ t q). List·Memᴰ·tail k) (λ (k : List·Memᴰ t (r ∷ [])). List·Memᴰ·head (List·Memᴰ·eq-of-singleton k))
-    (List·Memᴰ·append-cases q m)
+-- ---- the admission
 
 abbrev admission : Desk Op → Call Op Unit → Bool
 admission d (request p r x) = ltb (length (d .queue)) 32
@@ -131,7 +119,7 @@ example =
       Writes = λ o. MayWrite plan (operationOf o);
       reply = λ o s. run plan (operationOf o) s .reply;
       update = λ o s. run plan (operationOf o) s .update;
-      join = joinLast;
+      join = λ q r. q ++ (r ∷ []);
       admits = admission;
     }
 
@@ -140,7 +128,7 @@ abbrev listed : List Op
 listed = file₀ 8 ∷ file₁ 8 ∷ raise 3 ∷ look ∷ catalogue ∷ []
 
 classes : mathlib.Core.List.map (example .class) listed ≡ (local ∷ local ∷ global ∷ local ∷ free ∷ [])
-unfolding every cellsNamed
+unfolding every cellsNamed countOf
 classes = refl
 
 pub example-laws : Laws example
@@ -154,7 +142,7 @@ example-laws =
       free-writes = class-free-writes 2 touched written readsOf writesOf deskFor below touches writings;
       free-reads = class-free-reads 2 touched written readsOf writesOf deskFor below touches writings;
       local-alone = class-local-alone 2 touched written readsOf writesOf deskFor below touches writings;
-      join-keeps = last-keeps;
-      join-only = last-only;
+      join-keeps = cons-in-snoc;
+      join-only = snoc-in-cons;
       awaited-only = λ d p f x h. eqb→eq (f .number) (d .awaited) h;
     }

@@ -1,0 +1,17 @@
+-- A list from a place on: either nothing is left, or the element there and what is behind it.
+-- Assumes nothing.
+use mathlib.Core.Path.{_≡_}
+use mathlib.Core.Logic.{_⊎_, inl, inr}
+use mathlib.Core.List.{List, [], _∷_}
+use Prim.Native.Nat.{ℕ, _+_, _<_}
+use native.Mathlib.Numerals.{add-one}
+use lib.ListN.{length, getD, drop, drop-of-length-le}
+use lib.Seq.{drop-cons}
+use Rattle.lists.proofs.Laws.Tests.{by-less}
+
+module _ {A : Type 0} (l : List A) (i : ℕ) (d : A) where
+  pub drop-here : i < length l → drop i l ≡ getD l i d ∷ drop (i + 1) l
+  drop-here h = rw (add-one, drop-cons l i d h)
+
+  pub drop-cases : (drop i l ≡ []) ⊎ ((i < length l) × (drop i l ≡ getD l i d ∷ drop (i + 1) l))
+  drop-cases = by-less i (length l) (λ h. inr (h, drop-here h)) (λ h. inl (drop-of-length-le l h))

@@ -1,0 +1,32 @@
+-- A table that holds f at each index is the list of f's values.
+-- Assumes nothing.
+use mathlib.Core.Path.{_≡_, refl, _∙_, sym, ap}
+use mathlib.Core.List.{List, [], _∷_, _++_}
+use mathlib.Core.Logic.{⊎-elim}
+use Prim.Native.Nat.{ℕ, zero, suc, _<_}
+use native.Mathlib.Nat.{le-of-suc-le-suc, not-suc-le-zero, eq-or-lt-of-le}
+use native.Mathlib.Omega.{arith}
+use lib.ListN.{length, getD, length-append, List·getD-append}
+use lib.Seq.{ext-getD, getD-append-seam}
+use Rattle.lists.specs.Lists.Tabulate.{tabulate}
+
+module _ {A : Type 0} where
+  pub length-tabulate : (n : ℕ) (f : ℕ → A) → length (tabulate n f) ≡ n
+  unfolding tabulate
+  length-tabulate zero f = refl
+  length-tabulate (suc n) f = length-append (tabulate n f) (f n ∷ []) ∙ omega (arith, length-tabulate n f)
+
+  pub getD-tabulate : (n : ℕ) (f : ℕ → A) (i : ℕ) (d : A) → i < n → getD (tabulate n f) i d ≡ f i
+  unfolding tabulate
+  getD-tabulate zero f i d h = absurd (not-suc-le-zero h)
+  getD-tabulate (suc n) f i d h =
+      ⊎-elim
+      (λ (e : i ≡ n). ap (λ (j : ℕ). getD (tabulate n f ++ (f n ∷ [])) j d) (e ∙ sym (length-tabulate n f))
+      ∙ getD-append-seam (tabulate n f) (f n) [] d ∙ ap f (sym e))
+      (λ (l : i < n). List·getD-append (tabulate n f) (f n ∷ []) d i (omega (arith, length-tabulate n f)) ∙ getD-tabulate n f i d l)
+      (eq-or-lt-of-le (le-of-suc-le-suc h))
+
+  pub whole-table : (n : ℕ) (f : ℕ → A) (l : List A) (d : A) → length l ≡ n → ((i : ℕ) → i < n → getD l i d ≡ f i) → l ≡ tabulate n f
+  whole-table n f l d e h =
+      ext-getD d l (tabulate n f) (e ∙ sym (length-tabulate n f))
+      (λ i k. let s : i < n = omega arith in h i s ∙ sym (getD-tabulate n f i d s))

@@ -1,0 +1,11 @@
+-- Notions of lists, each in a file of its own below, all named from here.
+pub mod Every
+pub mod Some
+pub mod Properties
+pub mod Tabulate
+pub mod Overwritten
+unfoldable pub use Every.{every}
+unfoldable pub use Some.{some}
+pub use Properties.{All, Pairs}
+unfoldable pub use Tabulate.{tabulate}
+pub use Overwritten.{overwritten}
