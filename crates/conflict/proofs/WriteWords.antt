@@ -10,7 +10,7 @@ use lib.ListN.{length, getD, take, drop, take-append-drop}
 use borrow.Author.Tests.{eq-eqb, ne-eqb, eqb-true, eqb-false, leb-true}
 use Rattle.verdict.specs.Verdict.{accepted}
 use Rattle.lists.specs.Lists.{every, some}
-use Rattle.lists.proofs.Laws.{and-fst, and-snd, some-here, some-past, some-append, some-swap, some-same}
+use Rattle.lists.proofs.Laws.{and-fst, and-snd, some-here, some-past, some-append, some-swap, some-same, some-none}
 use Rattle.word.specs.Field.{kindOf, stepCount, tableField, columnField}
 use Rattle.plan.specs.Plan.{Step}
 use Rattle.plan.specs.Decode.{accessBy, stepOf, rowOf, transactionsOf, planOf}
@@ -34,11 +34,6 @@ writes-none w c f n = go (leb (kindOf w) 4) (eqb (kindOf w) 3) refl refl
     go true true ea eb = simp (ea, eb)
     go true false ea eb = absurd (n (omega (arith, leb-true (kindOf w) 4 ea, step-kind-low w f, eqb-false (kindOf w) 3 eb)))
     go false b ea eb = simp ea
-
-some-none : (cs : List ℕ) → some (λ c. false) cs ≡ false
-unfolding some
-some-none [] = refl
-some-none (c ∷ cs) = some-none cs
 
 -- the word is a write step's, of a cell among these
 abbrev wordWrites : List ℕ → ℕ → Bool

@@ -96,7 +96,7 @@ module _ (ws : List ℕ) (r : Request) where
 
 found-at : (v : Verdict) (place at : ℕ) → standsAt at ≡ placeBy v place → (v ≡ accepted) × (at ≡ place)
 found-at accepted place at e = (refl, (cc))
-found-at (refused question) place at e = let z : _≡_ {A = ℕ} 0 1 = cc in absurd (omega arith)
+found-at (refused question) place at e = ((cc), (cc))
 
 pub placed-at : (ws : List ℕ) (r : Request) → planVerdict ws ≡ accepted → (at : ℕ)
     → standsAt at ≡ placeBy (operationVerdict (planOf ws) (operationOf r)) (transactionPlace ws (r .transaction)) → Placed ws r at
@@ -105,7 +105,7 @@ placed-at ws r e at h =
     record { admitted = record { planned = e; passed = f .0 }; place = f .1 }
 
 pub found-lacking : (v : Verdict) (place question : ℕ) → placeRefused question ≡ placeBy v place → v ≡ refused question
-found-lacking accepted place question e = let z : _≡_ {A = ℕ} 0 1 = cc in absurd (omega arith)
+found-lacking accepted place question e = cc
 found-lacking (refused n) place question e = cc
 
 -- a record that is an operation is admitted

@@ -8,6 +8,7 @@ pub mod Every
 pub mod Some
 pub mod Properties
 pub mod Ends
+pub mod Remainders
 pub mod Tabulate
 pub mod Overwritten
 pub mod Filled
@@ -17,9 +18,10 @@ pub use Below.{below, below-at}
 pub use Places.{drop-here, drop-cases}
 pub use Every.{every-here, every-past, every-index, every-member, member-every, every-same, every-append, every-last}
 pub use Every.{every-take-here, every-take-past, every-take-none}
-pub use Some.{member-some, some-member, index-some, some-index, some-here, some-past, some-append, some-swap, some-same}
+pub use Some.{member-some, some-member, index-some, some-index, some-here, some-past, some-append, some-swap, some-same, some-none}
 pub use Properties.{All-append, All-left, All-right, All-part, All-mem, mem-All, All-getD, Pairs-append, Pairs-part, Pairs-getD}
 pub use Ends.{none-left, none-right, one-more, snoc-own, snoc-other, snoc-nil, cons-in-snoc, snoc-in-cons}
+pub use Remainders.{take-remainder, put-remainder}
 pub use Tabulate.{length-tabulate, getD-tabulate, whole-table}
 pub use Overwritten.{write-next, write-two, overwritten-length, overwritten-twice}
 pub use Filled.{Filling, fill-none, fill-size, fill-length, fill-same, fill-word, fill-part, fill-done}

@@ -83,28 +83,28 @@ run-writes ps (operand g v ∷ ss) s x u =
     (λ y. run-writes ps ss s y u)
 
 module _ (t : Transaction) (ps : List ℕ) (s : Store) where
-  both : Writes (cellsNamed writes ps (t .steps)) (runTransaction t ps s)
-  both = run-writes ps (t .steps) s 0 []
+  run-outcome : Writes (cellsNamed writes ps (t .steps)) (runTransaction t ps s)
+  run-outcome = run-writes ps (t .steps) s 0 []
 
   -- "the list of written cells and values in step order"
   pub done-writes : runTransaction t ps s .reply .done ≡ true → cellsOf (runTransaction t ps s .update) ≡ cellsNamed writes ps (t .steps)
-  done-writes d = ⊎-elim (λ h. h .1) (λ h. absurd (false≢true (sym (h .0) ∙ d))) both
+  done-writes d = ⊎-elim (λ h. h .1) (λ h. absurd (false≢true (sym (h .0) ∙ d))) run-outcome
 
   -- "A declined run writes nothing."
   pub declined-writes : runTransaction t ps s .reply .done ≡ false → runTransaction t ps s .update ≡ []
-  declined-writes d = ⊎-elim (λ h. absurd (false≢true (sym d ∙ h .0))) (λ h. h .1) both
+  declined-writes d = ⊎-elim (λ h. absurd (false≢true (sym d ∙ h .0))) (λ h. h .1) run-outcome
 
   -- "It may .. write the cells of all its .. write steps"
   pub writes-within : (w : ℕ × ℕ) → List·Memᴰ w (runTransaction t ps s .update) → List·Memᴰ (w .0) (cellsNamed writes ps (t .steps))
   writes-within w m =
       ⊎-elim (λ h. subst (λ (cs : List ℕ). List·Memᴰ (w .0) cs) (h .1) (Memᴰ·map (λ (v : ℕ × ℕ). v .0) m))
-      (λ h. absurd (List·Memᴰ·not-nil (subst (λ (u : Update). List·Memᴰ w u) (h .1) m))) both
+      (λ h. absurd (List·Memᴰ·not-nil (subst (λ (u : Update). List·Memᴰ w u) (h .1) m))) run-outcome
 
   -- no more pairs than write steps
   pub writes-few : length (runTransaction t ps s .update) ≤ length (cellsNamed writes ps (t .steps))
   writes-few =
       ⊎-elim (λ h. omega (arith, ap length (h .1), length-map (runTransaction t ps s .update) (λ w. w .0)))
-      (λ h. omega (arith, ap length (h .1))) both
+      (λ h. omega (arith, ap length (h .1))) run-outcome
 
 pub named-few : (a : Access) (ps : List ℕ) (ss : List Step) → length (cellsNamed a ps ss) ≤ length ss
 unfolding cellsNamed

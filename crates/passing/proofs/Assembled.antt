@@ -8,9 +8,8 @@ use lib.ListN.{length, take, drop, length-append, take-append-drop}
 use lib.Seq.{length-take-le, take-at, drop-at}
 use borrow.Rule.Slice.PartMut.{putMid}
 use Rattle.lists.specs.Lists.{overwritten}
-use Rattle.lists.proofs.Laws.{overwritten-twice, Filling, fill-length, fill-part, fill-done, fill-same}
+use Rattle.lists.proofs.Laws.{overwritten-twice, Filling, fill-length, fill-part, fill-done, fill-same, take-remainder, put-remainder}
 use Rattle.token.specs.Frame.{frameHead, sumsOf, frameAround}
-use Rattle.passing.proofs.Remainders.{lent, back}
 
 pub frame-length : (d v : ℕ) (body : List ℕ) → length (frameAround d v body) ≡ length body + 4
 unfolding frameAround
@@ -39,7 +38,7 @@ pub record Joined (o F U o₁ : List ℕ) (copied : ℕ) (o₂ : List ℕ) (end 
 module _ {o F U o₁ : List ℕ} {copied : ℕ} where
   copied-in : Copied o F U o₁ copied → Filling (take 2 o ++ (F ++ U)) o o₁ copied U
   copied-in c =
-      rw (c .words, c .count, back o (overwritten F (take (length o - 2) (drop 2 o))) 2, lent o 2)
+      rw (c .words, c .count, put-remainder o (overwritten F (take (length o - 2) (drop 2 o))) 2, take-remainder o 2)
       (fill-part F (from-two o (F ++ U) (omega (arith, c .room))))
 
   two : Copied o F U o₁ copied → length (take 2 o) ≡ 2
@@ -57,7 +56,8 @@ module _ {o F U o₁ : List ℕ} {copied : ℕ} where
   module _ {o₂ : List ℕ} {end : ℕ} (j : Joined o F U o₁ copied o₂ end) where
     all-in : Filling (take 2 o ++ (F ++ U)) o o₂ end []
     all-in =
-        rw (j .words, j .count, back o₁ (overwritten U (take (length o₁ - copied) (drop copied o₁))) copied, lent o₁ copied)
+        let part = take (length o₁ - copied) (drop copied o₁) in
+        rw (j .words, j .count, put-remainder o₁ (overwritten U part) copied, take-remainder o₁ copied)
         (fill-part U (fill-same (copied-in (j .before)) (sym (append-nil U))))
 
     pub end-is : end ≡ 2 + length (F ++ U)

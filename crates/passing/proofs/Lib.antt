@@ -1,4 +1,3 @@
-pub mod Remainders
 pub mod WaitingRuns
 pub mod OwnUpdates
 pub mod Assembled

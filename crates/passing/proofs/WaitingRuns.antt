@@ -8,7 +8,7 @@ use native.Mathlib.Omega.{arith}
 use lib.ListN.{length, getD, take, drop, length-append, drop-of-length-le}
 use lib.Seq.{drop-cons}
 use Rattle.lists.specs.Lists.{overwritten}
-use Rattle.lists.proofs.Laws.{Filling, fill-none, fill-size, fill-length, fill-same, fill-part, fill-done}
+use Rattle.lists.proofs.Laws.{Filling, fill-none, fill-size, fill-length, fill-same, fill-part, fill-done, take-remainder, put-remainder}
 use Rattle.plan.specs.Plan.{Plan}
 use Rattle.operation.specs.Run.{Store, applyUpdate, run}
 use Rattle.token.specs.Frame.{updatesWords}
@@ -17,7 +17,6 @@ use Rattle.queue.specs.declared.record.Request.{Request}
 use Rattle.desk.specs.Queueing.{operationOf}
 use Rattle.passing.specs.Waiting.{runAll, updatesOf, repliesOf, replyWords, repliesWords}
 use borrow.Rule.Slice.PartMut.{putMid}
-use Rattle.passing.proofs.Remainders.{lent, back}
 use Rattle.passing.specs.Running.{madeWords, replyTo, allMade, allReplies, Ran, AllRan}
 
 -- ---- the first of them, and those behind it
@@ -97,15 +96,15 @@ module _ (p : Plan) (desk : ℕ) (rs : List Request) (s₀ o₀ q₀ : List ℕ)
         → Running s′ (putMid end (length o - end) o o′) (putMid (at * 3) (length q - at * 3) q q′) (end + words) (at + 1)
     running-next words s′ o′ q′ x =
         let wrote : o′ ≡ overwritten (madeWords p desk r s) (drop end o) = x .update
-        ∙ ap (overwritten (madeWords p desk r s)) (lent o end) in
+        ∙ ap (overwritten (madeWords p desk r s)) (take-remainder o end) in
         let replied : q′ ≡ overwritten (replyWords (replyTo p r s)) (drop (at * 3) q) =
-        x .reply ∙ ap (overwritten (replyWords (replyTo p r s))) (lent q (at * 3)) in
+        x .reply ∙ ap (overwritten (replyWords (replyTo p r s))) (take-remainder q (at * 3)) in
         let three : (at + 1) * 3 ≡ at * 3 + 3 = omega arith in
         record {
           store = ap (runAll p (drop (at + 1) rs)) (x .store) ∙ sym (store-first p desk r (drop (at + 1) rs) s)
               ∙ ap (λ (l : List Request). runAll p l s) (sym here) ∙ v .store;
-          words = rw (back o o′ end, wrote, x .count, x .store) (fill-part (madeWords p desk r s) words-here);
-          replies = rw (back q q′ (at * 3), replied, x .store, three) (fill-part (replyWords (replyTo p r s)) replies-here);
+          words = rw (put-remainder o o′ end, wrote, x .count, x .store) (fill-part (madeWords p desk r s) words-here);
+          replies = rw (put-remainder q q′ (at * 3), replied, x .store, three) (fill-part (replyWords (replyTo p r s)) replies-here);
         }
 
   pub running-done : (s o q : List ℕ) (end at : ℕ) → Running s o q end at → length rs ≤ at → AllRan p rs desk s₀ o₀ q₀ end s o q

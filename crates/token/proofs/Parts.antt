@@ -3,7 +3,6 @@
 use mathlib.Core.Path.{_≡_, refl, _∙_, sym, ap, ap₂}
 use mathlib.Core.List.{List, [], _∷_, _++_}
 use Prim.Native.Nat.{ℕ, suc, _+_, _-_, _≤_}
-use native.Mathlib.Nat.{not-suc-le-zero}
 use native.Mathlib.Omega.{arith}
 use lib.ListN.{length, getD, take, drop, length-append, take-append-drop, drop-of-length-le}
 use lib.Seq.{drop-cons, take-at, getD-append-add}
@@ -35,14 +34,8 @@ module _ (h v : ℕ) (body : List ℕ) (a b : ℕ) where
 -- ---- any four words or more are laid out so
 
 front-two : (ws : List ℕ) (k : ℕ) → 2 ≤ length ws → take (suc (suc k)) ws ≡ getD ws 0 0 ∷ getD ws 1 0 ∷ take k (drop 2 ws)
-front-two [] k h = absurd (not-suc-le-zero (none h))
-  where
-    none : 2 ≤ 0 → 1 ≤ 0
-    none m = omega arith
-front-two (a ∷ []) k h = absurd (not-suc-le-zero (one h))
-  where
-    one : 2 ≤ 1 → 1 ≤ 0
-    one m = omega arith
+front-two [] k h = absurd (omega arith)
+front-two (a ∷ []) k h = absurd (omega arith)
 front-two (a ∷ b ∷ ws) k h = refl
 
 last-two : (ws : List ℕ) → 4 ≤ length ws → drop (length ws - 2) ws ≡ getD ws (length ws - 2) 0 ∷ getD ws (length ws - 1) 0 ∷ []

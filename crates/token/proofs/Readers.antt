@@ -24,12 +24,12 @@ pub record Agree (plan frame : List ℕ) : Type 0 where
       × (partRead (readVerdict plan frame) frame ≡ updatesWords (frameUpdates frame))
 
 refused-part : (r : Verdict) (frame : List ℕ) (q : ℕ) → visitRead r frame ≡ refusal q → partRead r frame ≡ []
-refused-part accepted frame q e = let z : _≡_ {A = ℕ} 0 1 = cc in absurd (omega arith)
+refused-part accepted frame q e = cc
 refused-part (refused k) frame q e = refl
 
 visit-accepted : (r : Verdict) (frame : List ℕ) (v : ℕ) → visitRead r frame ≡ visitNumber v → (r ≡ accepted) × (frameVisit frame ≡ v)
 visit-accepted accepted frame v e = (refl, (cc))
-visit-accepted (refused k) frame v e = let z : _≡_ {A = ℕ} 0 1 = cc in absurd (omega arith)
+visit-accepted (refused k) frame v e = ((cc), (cc))
 
 pub readers-agree : (plan frame : List ℕ) → Agree plan frame
 readers-agree plan frame =

@@ -3,7 +3,6 @@
 use mathlib.Core.Path.{_≡_, _∙_, sym, ap}
 use mathlib.Core.List.{List, [], _∷_, _++_}
 use Prim.Native.Nat.{ℕ, _+_, _-_, _≤_}
-use native.Mathlib.Nat.{not-suc-le-zero}
 use native.Mathlib.Omega.{arith}
 use lib.ListN.{length, set, take, drop, length-take, length-drop, take-append-drop}
 use lib.Seq.{take-at}
@@ -14,14 +13,8 @@ use Rattle.token.specs.Frame.{frameHead, sumsOf, sealed, frameAround}
 -- two words in front of those that stand there already
 pub framed : (out : List ℕ) (h v k : ℕ) → 2 + k ≤ length out
     → set (set out 0 h) 1 v ≡ overwritten (h ∷ v ∷ take k (drop 2 out)) out
-framed [] h v k l = absurd (not-suc-le-zero (le0 l))
-  where
-    le0 : 2 + k ≤ 0 → 1 ≤ 0
-    le0 m = omega arith
-framed (a ∷ []) h v k l = absurd (not-suc-le-zero (le1 l))
-  where
-    le1 : 2 + k ≤ 1 → 1 ≤ 0
-    le1 m = omega arith
+framed [] h v k l = absurd (omega arith)
+framed (a ∷ []) h v k l = absurd (omega arith)
 framed (a ∷ b ∷ r) h v k l =
     let n : length (take k r) ≡ k = length-take k r ∙ omega arith in
     ap (λ (t : List ℕ). h ∷ v ∷ t) (sym (take-append-drop k r) ∙ ap (λ (m : ℕ). take k r ++ drop m r) (sym n))

@@ -132,10 +132,10 @@ no-count (suc n) (suc d) = no-count n d
 
 none-counted : (us : List SentUpdate) → fewOn (noCounts 8) us ≡ fewPerDesk us
 unfolding fewPerDesk
-none-counted us = every-same _ (λ u. leb (deskCount (u .desk) us) 32) us (λ u m. ap (λ (c : ℕ). leb c 32) (alone (u .desk)))
+none-counted us = every-same _ (λ u. leb (deskCount (u .desk) us) 32) us (λ u m. ap (λ (c : ℕ). leb c 32) (from-zero (u .desk)))
   where
-    alone : (d : ℕ) → getD (noCounts 8) d 0 + deskCount d us ≡ deskCount d us
-    alone d = omega (arith, no-count 8 d)
+    from-zero : (d : ℕ) → getD (noCounts 8) d 0 + deskCount d us ≡ deskCount d us
+    from-zero d = omega (arith, no-count 8 d)
 
 pub walk-start : (n : ℕ) (ws : List ℕ) → n ≤ 8 → restAt n (noCounts 8) 0 ws 0 ≡ updatesAdmitted n ws
 unfolding restAt

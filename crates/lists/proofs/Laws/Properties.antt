@@ -42,11 +42,11 @@ Pairs-append R (x ∷ xs) ys h k c = (All-append (R x) xs ys (h .0) (c .0), Pair
 pub Pairs-part : {A : Type 0} (P : A → Type 0) (R Q : A → A → Type 0) (xs : List A) → ((x y : A) → P x → P y → R x y → Q x y) →
     All P xs → Pairs R xs → Pairs Q xs
 Pairs-part P R Q [] f h k = tt
-Pairs-part P R Q (x ∷ xs) f h k = (both xs (h .1) (k .0), Pairs-part P R Q xs f (h .1) (k .1))
+Pairs-part P R Q (x ∷ xs) f h k = (related xs (h .1) (k .0), Pairs-part P R Q xs f (h .1) (k .1))
   where
-    both : (ys : List _) → All P ys → All (R x) ys → All (Q x) ys
-    both [] a b = tt
-    both (y ∷ ys) a b = (f x y (h .0) (a .0) (b .0), both ys (a .1) (b .1))
+    related : (ys : List _) → All P ys → All (R x) ys → All (Q x) ys
+    related [] a b = tt
+    related (y ∷ ys) a b = (f x y (h .0) (a .0) (b .0), related ys (a .1) (b .1))
 
 -- at one place, and at two
 pub All-getD : {A : Type 0} (P : A → Type 0) (xs : List A) (d : A) → All P xs → (i : ℕ) → i < length xs → P (getD xs i d)

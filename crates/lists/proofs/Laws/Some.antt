@@ -80,3 +80,8 @@ module _ {A B : Type 0} where
 
 pub some-same : {A : Type 0} (f g : A → Bool) (xs : List A) → ((x : A) → f x ≡ g x) → some f xs ≡ some g xs
 some-same f g xs h = ap (λ (k : _ → Bool). some k xs) (fun-ext h)
+
+pub some-none : {A : Type 0} (xs : List A) → some (λ x. false) xs ≡ false
+unfolding some
+some-none [] = refl
+some-none (x ∷ xs) = some-none xs

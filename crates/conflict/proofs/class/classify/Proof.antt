@@ -50,17 +50,17 @@ returns-2 c =
 transaction-place-requires : tie.Need-transaction-place-requires
 transaction-place-requires c κs = search needs
 
-there : (c : tie.Else1)
+exists : (c : tie.Else1)
     → transactionExists (planOf (c .before .before .before .before .before .before .args .plan .now))
     (c .before .before .before .before .before .before .args .transaction) ≡ true
-there c = sym (c .before .transaction-exists .ensures) ∙ not-false _ (c .if1 .left)
+exists c = sym (c .before .transaction-exists .ensures) ∙ not-false _ (c .if1 .left)
 
 -- the transaction stands at its place
 placed : (c : tie.After-transaction-place)
     → StandsAt (c .before .before .before .before .before .before .before .args .plan .now) (c .transaction-place .result)
 placed c =
     let d = c .before .before .before .before .before .before .before in
-    stands (d .args .plan .now) (d .args .transaction) (d .args .params) (plan-passes (c .before .before .before)) (there (c .before)) _
+    stands (d .args .plan .now) (d .args .transaction) (d .args .params) (plan-passes (c .before .before .before)) (exists (c .before)) _
     (c .transaction-place .ensures)
 
 parameters-pass-requires : tie.Need-parameters-pass-requires
@@ -71,7 +71,7 @@ returns-3 c =
     let e = c .before .before in
     let d = e .before .before .before .before .before .before .before in
     sym (parameters-refused (d .args .plan .now) (d .args .transaction) (d .args .params) (plan-passes (e .before .before .before))
-    (there (e .before)) _
+    (exists (e .before)) _
     (e .transaction-place .ensures) (sym (c .before .parameters-pass .ensures) ∙ not-true _ (c .if2 .taken)))
 
 -- its word stands within the plan
@@ -124,7 +124,7 @@ found c =
     let e = f .before .before in
     let d = e .before .before .before .before .before .before .before in
     classified (d .args .plan .now) (d .args .transaction) (d .args .params) (plan-passes (e .before .before .before))
-    (there (e .before)) _
+    (exists (e .before)) _
     (e .transaction-place .ensures) _ _ (passed f) (c .class-of .ensures) (c .before .desk .ensures)
 
 returns-4 : tie.Need-returns-4

@@ -5,13 +5,13 @@ use Prim.Native.Nat.{ℕ, _+_, _-_, _≤_}
 use native.Mathlib.Omega.{arith}
 use lib.ListN.{length, take, drop, length-drop}
 use borrow.Rule.Slice.PartMut.{putMid}
+use Rattle.lists.proofs.Laws.{take-remainder}
 use Rattle.plan.specs.Decode.{planOf}
 use Rattle.plan.proofs.Accepted.{accepted-gives, desk-count}
 use Rattle.token.specs.Forward.{foreignWords}
 use Rattle.desk.specs.Queueing.{waitingIn}
 use Rattle.passing.specs.Running.{allMade}
 use Rattle.passing.proofs.Questions.{Passable, questions-give}
-use Rattle.passing.proofs.Remainders.{lent}
 use Rattle.passing.proofs.Assembled.{Copied, Joined, copied-length, copied-room, end-is, all-length, sealed-over}
 use Rattle.passing.proofs.Outgoing.{frame-size, part-is, written, body-room, words-fit, all-run, passed-is}
 use borrow.Author.Needs.{needs}
@@ -110,7 +110,7 @@ run-waiting-requires c κs =
       adm s .waiting,
       s .pre .1,
       all-run _ _ _ _ _ _ _ (adm s) _ (part-is (s .args .frame .now)) _ (k .forward-foreign .ensures .0) _
-          (omega (arith, copied-room (copied k), copied-length (copied k), ap length (lent o1 n), length-drop n o1)),
+          (omega (arith, copied-room (copied k), copied-length (copied k), ap length (take-remainder o1 n), length-drop n o1)),
     )
 
 -- the desk's own words behind the others'

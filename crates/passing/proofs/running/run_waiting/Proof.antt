@@ -5,14 +5,13 @@ use Prim.Native.Nat.{_+_, _-_, _*_, _≤_, _<_}
 use native.Mathlib.Omega.{arith}
 use lib.ListN.{length, take, length-drop, getD}
 use lib.Seq.{length-take-le, getD-take}
-use Rattle.lists.proofs.Laws.{every-index, fill-length}
+use Rattle.lists.proofs.Laws.{every-index, fill-length, take-remainder}
 use Rattle.plan.specs.Decode.{planOf}
 use Rattle.plan.proofs.Placing.{places-long}
 use Rattle.queue.specs.Queue.{noRequest}
 use Rattle.desk.specs.Admission.{Admitted}
 use Rattle.desk.proofs.Asked.{below-32, admitted-exists, place-looked-up, operation-admitted}
 use Rattle.passing.specs.Running.{AllRun, isOperation, madeWords}
-use Rattle.passing.proofs.Remainders.{lent}
 use Rattle.passing.proofs.WaitingRuns.{Running, running-start, running-next, running-done, room-here, reply-room-here}
 use Rattle.passing.proofs.WaitingRuns.{replies-length}
 use borrow.Author.Needs.{needs}
@@ -134,8 +133,8 @@ run-one-requires c κs =
         place = place-looked-up (s .args .plan .now) r (e .planned) (admitted-exists (s .args .plan .now) r e) (s .args .places .now)
             (s .pre .1);
       };
-      room = omega (arith, room d, ap length (lent (l .out) (l .end)), length-drop (l .end) (l .out));
-      replyRoom = omega (arith, reply-room d, ap length (lent (l .replies) (l .at * 3)), length-drop (l .at * 3) (l .replies));
+      room = omega (arith, room d, ap length (take-remainder (l .out) (l .end)), length-drop (l .end) (l .out));
+      replyRoom = omega (arith, reply-room d, ap length (take-remainder (l .replies) (l .at * 3)), length-drop (l .at * 3) (l .replies));
     }
 
 add-end : tie.Need-add-end Inv-loop μ-loop

@@ -8,10 +8,10 @@ use lib.ListN.{length, take, drop, length-drop, drop-of-length-le}
 use lib.Seq.{take-all}
 use borrow.Rule.Slice.PartMut.{putMid}
 
-pub lent : (o : List ℕ) (k : ℕ) → take (length o - k) (drop k o) ≡ drop k o
-lent o k = take-all (length o - k) (drop k o) (omega (arith, length-drop k o))
+pub take-remainder : (o : List ℕ) (k : ℕ) → take (length o - k) (drop k o) ≡ drop k o
+take-remainder o k = take-all (length o - k) (drop k o) (omega (arith, length-drop k o))
 
-pub back : (o p : List ℕ) (k : ℕ) → putMid k (length o - k) o p ≡ take k o ++ p
-back o p k =
+pub put-remainder : (o p : List ℕ) (k : ℕ) → putMid k (length o - k) o p ≡ take k o ++ p
+put-remainder o p k =
     let none : length (drop k o) ≤ length o - k = omega (arith, length-drop k o) in
     ap (λ (t : List ℕ). take k o ++ (p ++ t)) (drop-of-length-le (drop k o) none) ∙ ap (λ (t : List ℕ). take k o ++ t) (append-nil p)
