@@ -38,10 +38,10 @@ pub fn has_write(plan: &[u32], at: usize) -> bool
     requires { ⌜ StandsAt (now plan) at ⌝ }
     ensures { λ r. ⌜ r ≡ some isWrite (transactionFrom (now (plan .entry)) at .steps) ⌝ }
 {
-    let steps = (plan[at] / fields::STEPS % 16) as usize;
+    let steps = plan::step_count(plan, at);
     let mut s: usize = 0;
     while s < steps {
-        if plan[at + 1 + s] / fields::KIND == 4 {
+        if plan::step_word(plan, at, s) / fields::KIND == 4 {
             return true;
         }
         s = s + 1;
@@ -62,10 +62,10 @@ fn one_desk_each(plan: &[u32], at: usize, params: [u32; 4], masks: &[u8]) -> boo
     ensures { λ r. ⌜ r ≡ oneDeskEach (λ c. getD (now (masks .entry)) c 0)
         (cellsNamed writes params (transactionFrom (now (plan .entry)) at .steps)) ⌝ }
 {
-    let steps = (plan[at] / fields::STEPS % 16) as usize;
+    let steps = plan::step_count(plan, at);
     let mut s: usize = 0;
     while s < steps {
-        let word = plan[at + 1 + s];
+        let word = plan::step_word(plan, at, s);
         s = s + 1;
         if word / fields::KIND == 4 {
             let cell = operation::cell_named(word, params) as usize;

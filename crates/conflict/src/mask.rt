@@ -39,16 +39,19 @@ pub fn desk_masks(plan: &[u32]) -> [u8; 1024]
     let mut at: usize = 1;
     let mut t: u32 = 0;
     while t < transactions {
-        let word = plan[at];
-        let partitioning = word / fields::PARTITIONING % 16;
-        let steps = word / fields::STEPS % 16;
-        at = at + 1;
-        let mut s: u32 = 0;
+        let partitioning = plan[at] / fields::PARTITIONING % 16;
+        let steps = plan::step_count(plan, at);
+        let mut s: usize = 0;
         while s < steps {
-            mark(&mut table, plan[at], partitioning, desks);
-            at = at + 1;
+            mark(
+                &mut table,
+                plan::step_word(plan, at, s),
+                partitioning,
+                desks,
+            );
             s = s + 1;
         }
+        at = at + 1 + steps;
         t = t + 1;
     }
     table

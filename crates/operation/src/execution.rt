@@ -112,10 +112,10 @@ pub fn run(plan: &[u32], at: usize, params: [u32; 4], store: &[u32]) -> Outcome
     let mut values: [u32; 12] = [0; 12];
     let mut count: usize = 0;
     let mut number: u32 = 0;
-    let steps = (plan[at] / fields::STEPS % 16) as usize;
+    let steps = plan::step_count(plan, at);
     let mut s: usize = 0;
     while s < steps {
-        let word = plan[at + 1 + s];
+        let word = plan::step_word(plan, at, s);
         let kind = word / fields::KIND;
         s = s + 1;
         if kind == 3 {

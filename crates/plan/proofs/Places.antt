@@ -2,7 +2,7 @@
 -- Assumes nothing.
 use mathlib.Core.Path.{_≡_, refl, _∙_, sym, ap}
 use mathlib.Core.Bool.{Bool, true, false, false≢true}
-use mathlib.Core.List.{List, _∷_}
+use mathlib.Core.List.{List, [], _∷_}
 use Prim.Native.Nat.{ℕ, zero, suc, _+_, _-_, _≤_, _<_}
 use native.Mathlib.Nat.{sub-zero, add-zero}
 use native.Mathlib.Numerals.{add-one}
@@ -18,7 +18,7 @@ use Rattle.plan.specs.Decode.{transactionsOf, planOf, headOf}
 use Rattle.plan.specs.Admission.{wellFormed, transactionFormed, stepFormed, every, planVerdict, accepted}
 use Rattle.plan.specs.Place.{transactionPlace, transactionFrom, StandsAt}
 use Rattle.plan.proofs.Bool.{and-fst, and-snd}
-use Rattle.plan.proofs.Accepted.{accepted-gives}
+use Rattle.plan.proofs.Accepted.{accepted-gives, transaction-count}
 
 pub lt-or-ge : (a b : ℕ) → (a < b) ⊎ (b ≤ a)
 lt-or-ge a b = go (ltb a b) refl
@@ -102,3 +102,23 @@ module _ (ws : List ℕ) (e : planVerdict ws ≡ accepted) (k : ℕ) (h : k < he
       ∙ sym (getD-drop k (planOf ws .transactions) 0 noTransaction)
       ∙ ap (λ (l : List Transaction). getD l 0 noTransaction)
       (rest-here ws (headTransactions (headOf ws)) k (transactionPlace ws k) h (past-at ws e k (omega arith)))
+
+-- the transactions from k on
+pub transactionsFrom : List ℕ → ℕ → List Transaction
+transactionsFrom ws k = drop k (planOf ws .transactions)
+
+pub transactions-all : (ws : List ℕ) → transactionsFrom ws 0 ≡ planOf ws .transactions
+unfolding transactionsFrom
+transactions-all ws = refl
+
+module _ (ws : List ℕ) (e : planVerdict ws ≡ accepted) (k : ℕ) where
+  pub transactions-cons : k < headTransactions (headOf ws)
+      → transactionsFrom ws k ≡ transactionFrom ws (transactionPlace ws k) ∷ transactionsFrom ws (k + 1)
+  unfolding transactionsFrom
+  transactions-cons h =
+      let l : k < length (planOf ws .transactions) = omega (arith, transaction-count ws e) in
+      rw (add-one k, drop-cons (planOf ws .transactions) k noTransaction l, transaction-is ws e k h)
+
+  pub transactions-none : headTransactions (headOf ws) ≤ k → transactionsFrom ws k ≡ []
+  unfolding transactionsFrom
+  transactions-none h = drop-of-length-le (planOf ws .transactions) {i = k} (omega (arith, transaction-count ws e))
