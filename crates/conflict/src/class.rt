@@ -9,6 +9,7 @@ ghost use Rattle.plan.specs.Admission.{planVerdict, accepted};
 ghost use Rattle.plan.specs.Place.{StandsAt, transactionFrom};
 ghost use Rattle.operation.specs.Operation.{cellsNamed};
 ghost use Rattle.operation.specs.Admission.{parametersPass};
+ghost use Rattle.operation.specs.Run.{storeSize};
 ghost use Rattle.conflict.specs.Mask.{some};
 ghost use Rattle.conflict.specs.Touch.{maskTable};
 ghost use Rattle.conflict.specs.Class.{classBy, isWrite, oneDeskEach, isFree, isGlobal};
@@ -58,7 +59,8 @@ fn desks_in(mask: u8) -> u32
 
 // Whether each cell that the operation may write has one desk in its mask.
 fn one_desk_each(plan: &[u32], at: usize, params: [u32; 4], masks: &[u8]) -> bool
-    requires { ⌜ StandsAt (now plan) at × (parametersPass (transactionFrom (now plan) at) params ≡ true) × (length (now masks) ≡ 1024) ⌝ }
+    requires { ⌜ StandsAt (now plan) at × (parametersPass (transactionFrom (now plan) at) params ≡ true)
+        × (length (now masks) ≡ storeSize) ⌝ }
     ensures { λ r. ⌜ r ≡ oneDeskEach (λ c. getD (now (masks .entry)) c 0)
         (cellsNamed writes params (transactionFrom (now (plan .entry)) at .steps)) ⌝ }
 {

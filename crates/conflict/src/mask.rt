@@ -4,14 +4,16 @@ ghost use Prim.Native.Nat.{_≤_};
 ghost use lib.ListN.{length};
 ghost use Rattle.plan.specs.Decode.{planOf, stepOf, partBy};
 ghost use Rattle.plan.specs.Admission.{planVerdict, accepted};
+ghost use Rattle.operation.specs.Run.{storeSize};
 ghost use Rattle.conflict.specs.Mask.{maskOf};
 ghost use Rattle.conflict.specs.Touch.{stepTouches, Joined, maskTable};
 use crate::row;
+use operation::STORE_SIZE;
 use word::fields;
 
 // Joins the desks of the step in this word to the masks of the cells that it names.
-fn mark(table: &mut [u8; 1024], word: u32, partitioning: u32, desks: u32)
-    requires { ⌜ (1 ≤ desks) × (desks ≤ 8) × (length (now table) ≡ 1024) ⌝ }
+fn mark(table: &mut [u8; STORE_SIZE], word: u32, partitioning: u32, desks: u32)
+    requires { ⌜ (1 ≤ desks) × (desks ≤ 8) × (length (now table) ≡ storeSize) ⌝ }
     ensures { λ r. ⌜ Joined (now (table .entry)) (now (table .exit))
         (λ c. maskOf desks (stepTouches desks (partBy partitioning) (stepOf word) c)) ⌝ }
 {
@@ -28,11 +30,11 @@ fn mark(table: &mut [u8; 1024], word: u32, partitioning: u32, desks: u32)
 }
 
 // The mask of each cell, of a plan that the plan reader accepts.
-pub fn desk_masks(plan: &[u32]) -> [u8; 1024]
+pub fn desk_masks(plan: &[u32]) -> [u8; STORE_SIZE]
     requires { ⌜ planVerdict (now plan) ≡ accepted ⌝ }
     ensures { λ r. ⌜ r ≡ maskTable (planOf (now (plan .entry))) ⌝ }
 {
-    let mut table = [0u8; 1024];
+    let mut table = [0u8; STORE_SIZE];
     let head = plan[0];
     let desks = head / fields::DESKS % 16;
     let transactions = head / fields::TRANSACTIONS % 256;

@@ -20,7 +20,7 @@ use Rattle.conflict.specs.Mask.{maskOf, some}
 use Rattle.conflict.specs.Touch.{rowTouched, cellTouched, stepTouches, deskMask}
 use Rattle.conflict.specs.Written.{cellGiven, stepWrites, written}
 use Rattle.conflict.specs.Class.{classBy, classOf}
-use Rattle.token.specs.Frame.{writeWords, updateWords, updatesWords, sumsFrom, frameAround}
+use Rattle.token.specs.Frame.{writeWords, updateWords, updatesWords, sumsFrom, frameAround, longestFrame}
 use Rattle.token.specs.Admission.{writesFrom, updatesFrom, deskCount, frameHeaded, sumsRight, updateFormed, cellFormed}
 use Rattle.token.specs.Admission.{wellFormed, fewPerDesk, updatesRight, frameVerdict}
 use Rattle.starred.specs.Table.{planP, sentFrame}
@@ -33,7 +33,7 @@ use Rattle.routing.specs.Request as asked
 use Rattle.token.specs.Forward.{foreign, applyAll}
 use Rattle.passing.specs.Visit.{visitVerdict, visitResult}
 use Rattle.passing.specs.Visit as passing
-use Rattle.passing.specs.Waiting.{Answered, runAll, updatesOf, repliesOf, repliesWords}
+use Rattle.passing.specs.Waiting.{Answered, runAll, updatesOf, repliesOf, repliesSize, repliesWords}
 use Rattle.history.specs.History.{Call, request, visit, Outcome, requested, visited, isRefused, outcomes, start, ProperFromStart}
 use Rattle.history.specs.SerialRun.{Serial, serial, order, storeAfter, due}
 
@@ -53,7 +53,7 @@ abbrev blank : ℕ → List Request
 blank p = replicate 32 noRequest
 
 abbrev passes : ℕ → List ℕ → Call
-passes p frame = visit p frame (replicate 6404 0) (replicate 96 0)
+passes p frame = visit p frame (replicate longestFrame 0) (replicate repliesSize 0)
 
 -- T2(1) at desk 1, T1(0, 3) at desk 0, the visits 0 and 1, a replay, and T2(1) again
 abbrev calls : List Call

@@ -12,6 +12,9 @@ ghost use Rattle.operation.specs.Answer.{nextOf, pairs, updateOf, outcom
 use crate::cell;
 use word::fields;
 
+// The cells of a store.
+pub const STORE_SIZE: usize = 1024;
+
 // Done or declined, with the accumulator at the end or stop.
 pub struct Reply {
     pub done: bool,

@@ -10,7 +10,7 @@ use Rattle.plan.specs.Decode.{planOf}
 use Rattle.plan.specs.Admission.{accepted}
 use Rattle.plan.proofs.Accepted.{accepted-gives, desk-count}
 use Rattle.operation.specs.Run.{Store}
-use Rattle.token.specs.Frame.{sent, updatesWords, frameAround, overwritten}
+use Rattle.token.specs.Frame.{sent, updatesWords, frameAround, overwritten, leastFrame, longestFrame}
 use Rattle.token.specs.Admission.{frameVerdict, frameVisit, updatesPart, updatesFrom, frameUpdates}
 use Rattle.token.specs.Forward.{foreign, applyAll, foreignWords}
 use Rattle.token.specs.WellFormed.{WellFormed}
@@ -33,7 +33,7 @@ visited-same : (a b : Passage) (t u : Desk) (c c′ o o′ q q′ : List ℕ) �
     (record { answer = b; state = u; cells = c′; out = o′; replies = q′ })
 visited-same a b t u c c′ o o′ q q′ ea et ec eo eq = rw (ea, et, ec, eo, eq)
 
-pub frame-size : (n : ℕ) (f : List ℕ) → frameVerdict n f ≡ accepted → (4 ≤ length f) × (length f ≤ 6404)
+pub frame-size : (n : ℕ) (f : List ℕ) → frameVerdict n f ≡ accepted → (leastFrame ≤ length f) × (length f ≤ longestFrame)
 frame-size n f e = let h = headed f (admitted n f e .head) in (h .low, h .high)
 
 -- the words between word 1 and the sums

@@ -7,12 +7,14 @@ use lib.ListN.{length}
 use Rattle.word.specs.Field.{addressedDesk}
 use Rattle.plan.specs.Decode.{headOf}
 use Rattle.plan.specs.Admission.{Verdict, accepted, refused}
+use Rattle.token.specs.Frame.{longestFrame}
 use Rattle.token.specs.Admission.{frameVisit}
 use Rattle.desk.specs.declared.state.Desk.{Desk}
+use Rattle.passing.specs.Waiting.{repliesSize}
 
 -- 5: "for a visit, outgoing at least 6,404 and replies at least 96 words"
 unfoldable pub visitBuffersFit : List ℕ → List ℕ → Bool
-visitBuffersFit out replies = leb 6404 (length out) && leb 96 (length replies)
+visitBuffersFit out replies = leb longestFrame (length out) && leb repliesSize (length replies)
 
 -- 13: "Is the addressed desk this one?" 14: "Is the visit the awaited one?" 15: "Is the visit below 4,294,967,295?"
 unfoldable pub turnVerdict : Desk → List ℕ → Verdict

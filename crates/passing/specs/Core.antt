@@ -6,7 +6,9 @@ use lib.Dec.{eqb}
 use lib.ListN.{length}
 use Rattle.plan.specs.Decode.{planOf}
 use Rattle.plan.specs.Admission.{Verdict, accepted, refused, planVerdict}
+use Rattle.operation.specs.Run.{storeSize}
 use Rattle.token.specs.Admission.{andThen, frameVerdict}
+use Rattle.queue.specs.Queue.{queueSize}
 use Rattle.queue.specs.declared.record.Request.{Request}
 use Rattle.desk.specs.declared.state.Desk.{Desk}
 use Rattle.desk.specs.Admission.{deskStands}
@@ -16,7 +18,7 @@ use Rattle.passing.specs.Admission.{visitBuffersFit, turnVerdict}
 unfoldable pub openingVerdict : List ℕ → List ℕ → ℕ → List ℕ → List ℕ → Verdict
 openingVerdict ws cells size out replies =
     andThen (planVerdict ws)
-    (cond ((eqb (length cells) 1024 && eqb size 32) && visitBuffersFit out replies) accepted (refused 5))
+    (cond ((eqb (length cells) storeSize && eqb size queueSize) && visitBuffersFit out replies) accepted (refused 5))
 
 -- questions 6 and 10 to 15
 unfoldable pub passageVerdict : List ℕ → Desk → List Request → List ℕ → Verdict

@@ -6,7 +6,9 @@ use mathlib.Core.List.{List}
 use lib.Dec.{eqb}
 use lib.ListN.{length, set}
 use Rattle.plan.specs.Admission.{Verdict, accepted, refused, planVerdict}
+use Rattle.operation.specs.Run.{storeSize}
 use Rattle.token.specs.Admission.{andThen}
+use Rattle.queue.specs.Queue.{queueSize}
 use Rattle.queue.specs.declared.record.Request.{Request}
 use Rattle.routing.specs.declared.asking.RequestStep.{RequestStep}
 use Rattle.routing.specs.Request.{Requested}
@@ -19,4 +21,4 @@ steppedOf s cells queue = requestedOf (s .result) cells (set queue (s .place) (s
 -- questions 1 to 5
 unfoldable pub openingVerdict : List ℕ → List ℕ → ℕ → Verdict
 openingVerdict ws cells size =
-    andThen (planVerdict ws) (cond (eqb (length cells) 1024 && eqb size 32) accepted (refused 5))
+    andThen (planVerdict ws) (cond (eqb (length cells) storeSize && eqb size queueSize) accepted (refused 5))

@@ -7,13 +7,15 @@ use Rattle.plan.specs.Decode.{planOf}
 use Rattle.plan.specs.Admission.{Verdict, accepted, refused, planVerdict}
 use Rattle.operation.specs.Operation.{operation, writeSet}
 use Rattle.operation.specs.Admission.{operationVerdict}
-use Rattle.token.specs.Frame.{SentUpdate, sent, startingFrame}
+use Rattle.operation.specs.Run.{storeSize}
+use Rattle.token.specs.Frame.{SentUpdate, sent, startingFrame, longestFrame}
 use Rattle.token.specs.Admission.{readVerdict, updatesFrom}
 use Rattle.token.specs.Answer.{VisitRead, visitNumber, refusal, visitRead, partRead}
-use Rattle.queue.specs.Queue.{noRequest}
+use Rattle.queue.specs.Queue.{queueSize, noRequest}
 use Rattle.queue.specs.declared.record.Request.{Request}
 use Rattle.desk.specs.declared.state.Desk.{Desk}
 use Rattle.routing.specs.Request.{recordOf}
+use Rattle.passing.specs.Waiting.{replySize, repliesSize}
 use Rattle.passing.specs.Visit as passing
 use Rattle.passing.specs.Visit.{visitResult}
 use Rattle.conflict.specs.Answer.{Classified, isFree, isLocal, isGlobal, isRefused, classifyResult}
@@ -60,7 +62,7 @@ pub data Result : Type 0 where
   visited : passing.Passage → List ℕ → List ℕ → Result
 
 abbrev shown : passing.Visited → Result
-shown v = visited (v .answer) (take 7 (v .out)) (take 3 (v .replies))
+shown v = visited (v .answer) (take 7 (v .out)) (take replySize (v .replies))
 
 abbrev pub resultOf : Input → Result
 resultOf readPlan = verdict (planVerdict planP)
@@ -70,8 +72,8 @@ resultOf (cellsWritten k ps) = cells (writeSet (planOf planP) (operation k ps))
 resultOf startFrame = words startingFrame
 resultOf (readFrame ws) = frame (visitRead (readVerdict planP ws) ws) (updatesFrom 0 (partRead (readVerdict planP ws) ws))
 resultOf (visit d waiting ws) =
-    shown (visitResult planP d (replicate 1024 0) (waiting ++ replicate (32 - length waiting) noRequest) ws (replicate 6404 0)
-    (replicate 96 0))
+    shown (visitResult planP d (replicate storeSize 0) (waiting ++ replicate (queueSize - length waiting) noRequest) ws
+    (replicate longestFrame 0) (replicate repliesSize 0))
 
 pub record Row : Type 0 where
   pub input : Input

@@ -109,7 +109,6 @@ module _ (w v left : ℕ) (ws : List ℕ) where
 
 -- with `rest` still to come, the store is `s` and the outgoing words, `end` of them written, are `t`
 record Stands (desk : ℕ) (ws s₀ o s t : List ℕ) (kept : Bool) (left end : ℕ) (rest : List ℕ) : Type 0 where
-  room : length (foreignWords desk ws) ≤ length o
   reads : Reads left rest
   store : applies desk s kept left rest ≡ applyAll (foreign desk (updatesFrom 0 ws)) s₀
   words : Filling (foreignWords desk ws) o t end (coming desk kept left rest)
@@ -118,15 +117,13 @@ record Stands (desk : ℕ) (ws s₀ o s t : List ℕ) (kept : Bool) (left end : 
 pub record Forwarded (desk : ℕ) (ws s₀ o s t : List ℕ) (kept : Bool) (left end i : ℕ) : Type 0 where
   stands : Stands desk ws s₀ o s t kept left end (drop i ws)
 
-pub forward-start : (desk : ℕ) (ws s o : List ℕ) → ws ≡ updatesWords (updatesFrom 0 ws) → length (foreignWords desk ws) ≤ length o
-    → Forwarded desk ws s o s o false 0 0 0
+pub forward-start : (desk : ℕ) (ws s o : List ℕ) → ws ≡ updatesWords (updatesFrom 0 ws) → Forwarded desk ws s o s o false 0 0 0
 unfolding Reads applies coming writesFrom writeWords
-forward-start desk ws s o r h =
-    record { stands = record { room = h; reads = r; store = refl; words = fill-none (foreignWords desk ws) o } }
+forward-start desk ws s o r = record { stands = record { reads = r; store = refl; words = fill-none (foreignWords desk ws) o } }
 
 module _ {desk : ℕ} {ws s₀ o s t : List ℕ} {kept : Bool} {left end i : ℕ} (f : Forwarded desk ws s₀ o s t kept left end i) where
-  pub forward-length : length t ≡ length o
-  forward-length = fill-length (f .stands .words) (f .stands .room)
+  pub forward-length : length (foreignWords desk ws) ≤ length o → length t ≡ length o
+  forward-length = fill-length (f .stands .words)
 
   pub forward-end : length ws ≤ i
       → (s ≡ applyAll (foreign desk (updatesFrom 0 ws)) s₀) × (end ≡ length (foreignWords desk ws))
@@ -157,14 +154,13 @@ module _ {desk : ℕ} {ws s₀ o s t : List ℕ} {kept : Bool} {left end i : ℕ
         rw e
         (record {
           stands = record {
-            room = g .room;
             reads = head-reads w rest (g .reads) .0;
             store = sym (head-applies w rest desk s kept true own) ∙ g .store;
             words = fill-same (g .words) (own-coming w rest desk kept own);
           };
         })
 
-    module _ (z : left ≡ 0) (e : not (eqb (updateDesk (getD ws i 0)) desk) ≡ true) where
+    module _ (room : length (foreignWords desk ws) ≤ length o) (z : left ≡ 0) (e : not (eqb (updateDesk (getD ws i 0)) desk) ≡ true) where
       head-words : Filling (foreignWords desk ws) o t end (getD ws i 0 ∷ coming desk true (cellCount (getD ws i 0)) (drop (i + 1) ws))
       head-words =
           let w = getD ws i 0 in
@@ -174,7 +170,7 @@ module _ {desk : ℕ} {ws s₀ o s t : List ℕ} {kept : Bool} {left end i : ℕ
           (head-coming w rest desk kept (not-true (eqb (updateDesk w) desk) e) (head-reads w rest (g .reads) .1))
 
       pub head-room : end < length t
-      head-room = omega (arith, fill-size head-words, f .stands .room, forward-length)
+      head-room = omega (arith, fill-size head-words, forward-length room)
 
       pub forward-head : Forwarded desk ws s₀ o s (set t end (getD ws i 0)) (not (eqb (updateDesk (getD ws i 0)) desk))
           (cellCount (getD ws i 0)) (end + 1) (i + 1)
@@ -185,10 +181,9 @@ module _ {desk : ℕ} {ws s₀ o s t : List ℕ} {kept : Bool} {left end i : ℕ
           rw e
           (record {
             stands = record {
-              room = g .room;
               reads = head-reads w rest (g .reads) .0;
               store = sym (head-applies w rest desk s kept false (not-true (eqb (updateDesk w) desk) e)) ∙ g .store;
-              words = fill-word head-words (omega (arith, head-room, forward-length));
+              words = fill-word head-words (omega (arith, fill-size head-words));
             };
           })
 
@@ -216,14 +211,13 @@ module _ {desk : ℕ} {ws s₀ o s t : List ℕ} {kept : Bool} {left end i : ℕ
           rw e
           (record {
             stands = record {
-              room = g .room;
               reads = cell-reads w v (left - 1) rest (g .reads) .0;
               store = sym (cell-applies w v (left - 1) rest desk s false) ∙ g .store;
               words = fill-same (g .words) (past-coming w v (left - 1) rest desk);
             };
           })
 
-      module _ (e : kept ≡ true) where
+      module _ (room : length (foreignWords desk ws) ≤ length o) (e : kept ≡ true) where
         kept-here : Stands desk ws s₀ o s t true (suc (left - 1)) end (getD ws i 0 ∷ getD ws (i + 1) 0 ∷ drop (i + 1 + 1) ws)
         kept-here = rw e at at-value
 
@@ -236,7 +230,7 @@ module _ {desk : ℕ} {ws s₀ o s t : List ℕ} {kept : Bool} {left end i : ℕ
             fill-same (kept-here .words) (cell-coming w v (left - 1) rest desk (cell-reads w v (left - 1) rest (kept-here .reads) .1))
 
         pub cell-room : end + 1 < length t
-        cell-room = omega (arith, fill-size cell-words, f .stands .room, forward-length)
+        cell-room = omega (arith, fill-size cell-words, forward-length room)
 
         pub forward-cell : Forwarded desk ws s₀ o (set s (cellField (getD ws i 0)) (getD ws (i + 1) 0))
             (set (set t end (getD ws i 0)) (end + 1) (getD ws (i + 1) 0)) kept (left - 1) (end + 2) (i + 1 + 1)
@@ -245,13 +239,12 @@ module _ {desk : ℕ} {ws s₀ o s t : List ℕ} {kept : Bool} {left end i : ℕ
             let v = getD ws (i + 1) 0 in
             let rest = drop (i + 1 + 1) ws in
             let two : end + 1 + 1 ≡ end + 2 = omega arith in
-            let room : end + 1 < length o = omega (arith, cell-room, forward-length) in
+            let size = fill-size cell-words in
             rw (e, ← two)
             (record {
               stands = record {
-                room = f .stands .room;
                 reads = cell-reads w v (left - 1) rest (kept-here .reads) .0;
                 store = sym (cell-applies w v (left - 1) rest desk s true) ∙ kept-here .store;
-                words = fill-word (fill-word cell-words (omega arith)) room;
+                words = fill-word (fill-word cell-words (omega arith)) (omega arith);
               };
             })

@@ -13,7 +13,7 @@ use Rattle.word.specs.Field.{kindOf, addressedDesk, frameLength}
 use Rattle.plan.specs.Decode.{headOf}
 use Rattle.plan.specs.Admission.{accepted}
 use Rattle.plan.proofs.Bool.{and-fst, and-snd, and-true}
-use Rattle.token.specs.Frame.{SentUpdate, frameHead, writeWords, updatesWords, sumsOf, frameAround, frameWords}
+use Rattle.token.specs.Frame.{SentUpdate, frameHead, writeWords, updatesWords, sumsOf, frameAround, frameWords, longestFrame}
 use Rattle.token.specs.Admission.{frameVisit, updatesPart, writesFrom, updatesFrom, frameUpdates, frameHeaded, sumsRight}
 use Rattle.token.specs.Admission.{wellFormed, fewPerDesk, updatesAdmitted, updatesRight, frameVerdict, ReadsAs}
 use Rattle.token.specs.WellFormed.{WellFormed}
@@ -93,7 +93,7 @@ module _ (n v : ℕ) (us : List SentUpdate) (low : 1 ≤ n) (high : n ≤ 8) (f 
   desk-fits : v % n < 16
   desk-fits = omega (arith, mod-lt v low)
 
-  body-length : length body + 4 ≤ 6404
+  body-length : length body + 4 ≤ longestFrame
   unfolding body
   body-length = omega (arith, updates-length n us high f)
 
@@ -107,7 +107,7 @@ module _ (n v : ℕ) (us : List SentUpdate) (low : 1 ≤ n) (high : n ≤ 8) (f 
       let fits : length body + 4 < 2 ^ 16 = omega (arith, body-length) in
       let l = frame-length in
       and-true _ _ (le-leb 4 (length frame) (omega arith))
-      (and-true _ _ (le-leb (length frame) 6404 (omega (arith, body-length)))
+      (and-true _ _ (le-leb (length frame) longestFrame (omega (arith, body-length)))
       (and-true _ _ (eq-eqb (kindOf head) 9 (head-kind (v % n) (length body + 4) desk-fits fits))
       (and-true _ _ (head-zero (v % n) (length body + 4) desk-fits fits)
       (eq-eqb (frameLength head) (length frame) (head-length (v % n) (length body + 4) desk-fits fits ∙ sym l)))))
@@ -153,7 +153,7 @@ reads-exactly n low high ws v us =
     (reads-written n ws v us, λ w. subst (λ (x : List ℕ). ReadsAs n x v us) (sym (w .0)) (written-reads n v us low high (w .1)))
 
 -- "4–6,404" words
-pub written-length : (n v : ℕ) (us : List SentUpdate) → 1 ≤ n → n ≤ 8 → WellFormed n us → length (frameWords n v us) ≤ 6404
+pub written-length : (n v : ℕ) (us : List SentUpdate) → 1 ≤ n → n ≤ 8 → WellFormed n us → length (frameWords n v us) ≤ longestFrame
 written-length n v us low high f =
     headed (frameWords n v us) (admitted n (frameWords n v us) (written-reads n v us low high f .verdict) .head) .high
 

@@ -5,7 +5,7 @@ use mathlib.Core.List.{List, []}
 use lib.Dec.{leb}
 use lib.ListN.{length}
 use Rattle.plan.specs.Admission.{Verdict, accepted, refused}
-use Rattle.token.specs.Frame.{startingFrame, overwritten}
+use Rattle.token.specs.Frame.{leastFrame, startingFrame, overwritten}
 use Rattle.token.specs.Admission.{updatesPart, frameVisit}
 use Rattle.token.specs.declared.reader.FrameCheck.{FrameCheck}
 use Rattle.token.specs.declared.reader.FrameCheck.the-variants as check
@@ -42,8 +42,8 @@ startOf (start.Refused question) = refused question
 
 -- 5: "Are buffers fit: .. for the starting frame at least 4?" "Starting frame: 5 alone."
 abbrev pub startVerdict : List ℕ → Verdict
-startVerdict out = cond (leb 4 (length out)) accepted (refused 5)
+startVerdict out = cond (leb leastFrame (length out)) accepted (refused 5)
 
 -- the outgoing words behind the call: a refusal changes nothing
 abbrev pub startWords : List ℕ → List ℕ
-startWords out = cond (leb 4 (length out)) (overwritten startingFrame out) out
+startWords out = cond (leb leastFrame (length out)) (overwritten startingFrame out) out

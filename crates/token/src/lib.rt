@@ -7,6 +7,7 @@ mod writer;
 
 pub use forward::forward_foreign;
 pub use reader::FrameCheck;
+pub use reader::LONGEST_FRAME;
 pub use reader::VisitAnswer;
 pub use reader::check_frame;
 pub use reader::frame_visit;

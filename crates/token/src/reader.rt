@@ -2,11 +2,17 @@
 ghost use mathlib.Core.Path.{_≡_};
 ghost use Prim.Native.Nat.{_≤_};
 ghost use lib.ListN.{length};
+ghost use Rattle.token.specs.Frame.{leastFrame};
 ghost use Rattle.token.specs.Admission.{frameHeaded, sumsRight, updatesRight, frameVerdict, readVerdict};
 ghost use Rattle.token.specs.Answer.{verdictOf, visitOf, partRead, visitRead};
 use crate::sums;
 use crate::updates;
 use word::fields;
+
+// The words of a frame: at least those of one with no update, at most 32 updates of 12 cells from each of 8 desks.
+pub const LEAST_FRAME: usize = 4;
+
+pub const LONGEST_FRAME: usize = 6404;
 
 // Accepted, or refused with the number of the question whose answer is no.
 pub enum FrameCheck {
@@ -25,10 +31,10 @@ fn frame_headed(frame: &[u32]) -> bool
     ensures { λ r. ⌜ r ≡ frameHeaded (now (frame .entry)) ⌝ }
 {
     let words = frame.len();
-    if words < 4 {
+    if words < LEAST_FRAME {
         return false;
     }
-    if 6404 < words {
+    if LONGEST_FRAME < words {
         return false;
     }
     let head = frame[0];
@@ -43,7 +49,7 @@ fn frame_headed(frame: &[u32]) -> bool
 
 // Question 11.
 fn sums_right(frame: &[u32]) -> bool
-    requires { ⌜ 4 ≤ length (now frame) ⌝ }
+    requires { ⌜ leastFrame ≤ length (now frame) ⌝ }
     ensures { λ r. ⌜ r ≡ sumsRight (now (frame .entry)) ⌝ }
 {
     let end = frame.len() - 2;
@@ -56,7 +62,7 @@ fn sums_right(frame: &[u32]) -> bool
 
 // Question 12.
 fn updates_right(desks: u32, frame: &[u32]) -> bool
-    requires { ⌜ (1 ≤ desks) × (desks ≤ 8) × (4 ≤ length (now frame)) ⌝ }
+    requires { ⌜ (1 ≤ desks) × (desks ≤ 8) × (leastFrame ≤ length (now frame)) ⌝ }
     ensures { λ r. ⌜ r ≡ updatesRight desks (now (frame .entry)) ⌝ }
 {
     let head = frame[0];

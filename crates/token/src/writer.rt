@@ -5,6 +5,7 @@ ghost use lib.ListN.{length};
 ghost use Rattle.operation.specs.Answer.{updateOf};
 ghost use Rattle.token.specs.Frame.{sent, frameHead, updateHead, cellWord, updateWords, overwritten, sealedAt};
 ghost use Rattle.token.specs.Answer.{startOf, startVerdict, startWords};
+use crate::reader::LEAST_FRAME;
 use crate::sums;
 use word::fields;
 
@@ -75,12 +76,12 @@ pub fn seal(out: &mut [u32], desk: u32, visit: u32, end: usize)
     out[end + 1] = sums.second;
 }
 
-// The starting frame, visit 0 with no update. Question 5: at least 4 words.
+// The starting frame, visit 0 with no update. Question 5: at least its 4 words.
 pub fn starting_frame(out: &mut [u32]) -> StartAnswer
     ensures answer { λ r. ⌜ startOf r ≡ startVerdict (now (out .entry)) ⌝ }
     ensures written { λ r. ⌜ now (out .exit) ≡ startWords (now (out .entry)) ⌝ }
 {
-    if out.len() < 4 {
+    if out.len() < LEAST_FRAME {
         return StartAnswer::Refused(5);
     }
     seal(out, 0, 0, 2);

@@ -14,6 +14,7 @@ use Rattle.desk.specs.Admission.{Admitted}
 use Rattle.desk.proofs.Asked.{below-32, there, place-looked-up, operation-admitted}
 use Rattle.passing.specs.Running.{AllRun, isOperation, madeWords}
 use Rattle.passing.proofs.Remainders.{lent}
+use Rattle.passing.specs.Waiting.{replySize}
 use Rattle.passing.proofs.WaitingRuns.{Running, running-start, running-next, running-done, room-here, reply-room-here}
 use Rattle.passing.proofs.WaitingRuns.{replies-length}
 use borrow.Author.Needs.{needs}
@@ -86,7 +87,7 @@ room : (c : tie.In-loop Inv-loop μ-loop)
     ≤ length (c .before .loop .out)
 room c = let v = c .before .loop .inv in room-here _ _ _ _ _ _ _ _ _ _ _ (v .4) (omega arith) _ (next c) (v .3 .room)
 
-reply-room : (c : tie.In-loop Inv-loop μ-loop) → c .before .loop .at * 3 + 3 ≤ length (c .before .loop .replies)
+reply-room : (c : tie.In-loop Inv-loop μ-loop) → c .before .loop .at * replySize + replySize ≤ length (c .before .loop .replies)
 reply-room c = let v = c .before .loop .inv in reply-room-here _ _ _ _ _ _ _ _ _ _ _ (v .4) (omega arith) _ (next c) (v .3 .replyRoom)
 
 mul-run-one : tie.Need-mul-run-one Inv-loop μ-loop
@@ -135,7 +136,8 @@ run-one-requires c κs =
         place = place-looked-up (s .args .plan .now) r (e .planned) (there (s .args .plan .now) r e) (s .args .places .now) (s .pre .1);
       };
       room = omega (arith, room d, ap length (lent (l .out) (l .end)), length-drop (l .end) (l .out));
-      replyRoom = omega (arith, reply-room d, ap length (lent (l .replies) (l .at * 3)), length-drop (l .at * 3) (l .replies));
+      replyRoom =
+          let i = l .at * replySize in omega (arith, reply-room d, ap length (lent (l .replies) i), length-drop i (l .replies));
     }
 
 add-end : tie.Need-add-end Inv-loop μ-loop

@@ -18,7 +18,7 @@ abbrev μ-loop : tie.MeasureT-loop
 μ-loop body desk cells₀ out₀ kept₀ left₀ end₀ at₀ cells out kept left end at = length body - at
 
 loop-holds : tie.Need-loop-holds Inv-loop μ-loop
-loop-holds c = let p = c .before .before .before .pre in (omega arith, refl, forward-start _ _ _ _ (p .0) (p .1))
+loop-holds c = (omega arith, refl, forward-start _ _ _ _ (c .before .before .before .pre .0))
 
 mul-word : tie.Need-mul-word Inv-loop μ-loop
 mul-word c = search needs
@@ -36,7 +36,8 @@ one-more : (c : tie.Then2 Inv-loop μ-loop)
 one-more c =
     let d = c .before .before .before in
     let f = d .before .loop .inv .2 in
-    (head-room f (d .loop-test .taken) (c .before .if1 .taken) (c .if2 .taken), forward-length f)
+    let p = d .before .before .before .before .before .pre .1 in
+    (head-room f (d .loop-test .taken) p (c .before .if1 .taken) (c .if2 .taken), forward-length f p)
 
 mul-out : tie.Need-mul-out Inv-loop μ-loop
 mul-out c = let h = one-more c in search needs
@@ -54,7 +55,8 @@ loop-again : tie.Need-loop-again Inv-loop μ-loop
 loop-again c =
     let d = c .before .before .before in
     let v = d .before .loop .inv in
-    (omega arith, v .1, forward-head (v .2) (d .loop-test .taken) (c .before .if1 .taken) (c .if2 .taken))
+    let p = d .before .before .before .before .before .pre .1 in
+    (omega arith, v .1, forward-head (v .2) (d .loop-test .taken) p (c .before .if1 .taken) (c .if2 .taken))
 
 loop-less-2 : tie.Need-loop-less-2 Inv-loop μ-loop
 loop-less-2 c = search needs
@@ -97,7 +99,8 @@ two-more c =
     let e = q .before .before in
     let d = e .before .before in
     let f = d .before .loop .inv .2 in
-    (cell-room f (d .loop-test .taken) (e .if1 .left) (q .if3 .taken), forward-length f)
+    let p = d .before .before .before .before .before .pre .1 in
+    (cell-room f (d .loop-test .taken) (e .if1 .left) p (q .if3 .taken), forward-length f p)
 
 mul-out-2 : tie.Need-mul-out-2 Inv-loop μ-loop
 mul-out-2 c = let h = two-more c in search needs
@@ -129,7 +132,8 @@ loop-again-3 c =
     let v = d .before .loop .inv in (
       omega (arith, more e),
       ap length (p .put-value .ensures) ∙ length-set (d .before .loop .cells) _ _ ∙ v .1,
-      rw (p .put-value .ensures) (forward-cell (v .2) (d .loop-test .taken) (e .if1 .left) (q .if3 .taken)),
+      rw (p .put-value .ensures)
+          (forward-cell (v .2) (d .loop-test .taken) (e .if1 .left) (d .before .before .before .before .before .pre .1) (q .if3 .taken)),
     )
 
 loop-less-4 : tie.Need-loop-less-4 Inv-loop μ-loop
@@ -146,7 +150,7 @@ same-length : tie.Need-same-length Inv-loop μ-loop
 same-length c = search needs
 
 same-length-2 : tie.Need-same-length-2 Inv-loop μ-loop
-same-length-2 c = forward-length (c .before .loop .inv .2)
+same-length-2 c = forward-length (c .before .loop .inv .2) (c .before .before .before .before .before .pre .1)
 
 returns : tie.Need-returns Inv-loop μ-loop
 returns c =
