@@ -7,15 +7,14 @@ use Prim.Native.Nat.{ℕ, _+_, _≤_, _<_}
 use native.Mathlib.Omega.{arith}
 use lib.Count.{ones}
 use lib.Dec.{leb, eqb}
-use lib.ListN.{getD}
 use borrow.Author.Tests.{eqb-true, eqb-false, leb-true, leb-false, eq-eqb, ne-eqb, le-leb}
 use Rattle.lists.specs.Lists.{every, some}
 use Rattle.lists.proofs.Laws.{and-snd}
-use Rattle.word.specs.Field.{kindOf, stepCount, tableField, columnField}
+use Rattle.word.specs.Field.{kindOf, tableField, columnField}
 use Rattle.plan.specs.Plan.{reads, writes, Step}
 use Rattle.plan.specs.Decode.{accessBy, stepOf, rowOf}
 use Rattle.plan.specs.Admission.{stepFormed}
-use Rattle.plan.specs.Place.{StandsAt, transactionFrom}
+use Rattle.plan.specs.Place.{StandsAt, transactionFrom, stepsAt, stepWord}
 use Rattle.plan.proofs.Words.{step-kind-low}
 use Rattle.plan.proofs.Steps.{stepsFrom, steps-none, steps-cons, step-formed, every-step}
 use Rattle.operation.specs.Operation.{sameAccess, valueOf, cellNumber, cellsNamed}
@@ -68,83 +67,73 @@ write-kind w f = go (leb (kindOf w) 4) (eqb (kindOf w) 3) refl refl
 -- ---- along the steps of the transaction at `at`
 
 module _ (ws : List ℕ) (at : ℕ) (p : StandsAt ws at) where
-  -- what the steps from s on say of a write
-  pub writing-here : (s : ℕ) → s < stepCount (getD ws at 0)
-      → some isWrite (stepsFrom ws at s) ≡ (eqb (kindOf (getD ws (at + 1 + s) 0)) 4 || some isWrite (stepsFrom ws at (s + 1)))
-  unfolding some
-  writing-here s h =
-      ap (some isWrite) (steps-cons ws at s p h)
-      ∙ ap (λ (b : Bool). b || some isWrite (stepsFrom ws at (s + 1))) (write-kind (getD ws (at + 1 + s) 0) (step-formed ws at s p h))
+  -- when no step is left
+  module _ (s : ℕ) (h : stepsAt ws at ≤ s) where
+    pub writing-none : some isWrite (stepsFrom ws at s) ≡ false
+    unfolding some
+    writing-none = ap (some isWrite) (steps-none ws at s h)
 
-  pub writing-none : (s : ℕ) → stepCount (getD ws at 0) ≤ s → some isWrite (stepsFrom ws at s) ≡ false
-  unfolding some
-  writing-none s h = ap (some isWrite) (steps-none ws at s h)
-
-  pub row-passes : (ps : List ℕ) → parametersPass (transactionFrom ws at) ps ≡ true → (s : ℕ) → s < stepCount (getD ws at 0)
-      → kindOf (getD ws (at + 1 + s) 0) ≤ 4 → valueOf ps (rowOf (getD ws (at + 1 + s) 0)) ≤ 31
-  unfolding parametersPass
-  row-passes ps e s h k =
-      row-bound ps (getD ws (at + 1 + s) 0) k
-      (every-step (rowInRange ps) ws at p (and-snd (unusedZero (transactionFrom ws at .params) ps) _ e) s h)
-
-  -- the masks of the cells that the steps from s on may write
-  module _ (ps : List ℕ) (mask : ℕ → ℕ) (s : ℕ) where
-    one-here : s < stepCount (getD ws at 0) → kindOf (getD ws (at + 1 + s) 0) ≡ 4
-        → oneDeskEach mask (cellsNamed writes ps (stepsFrom ws at s))
-        ≡ (eqb (ones (mask (cellOf ps (getD ws (at + 1 + s) 0)))) 1 && oneDeskEach mask (cellsNamed writes ps (stepsFrom ws at (s + 1))))
-    unfolding every accessBy
-    one-here h e =
-        ap (λ (ss : List Step). oneDeskEach mask (cellsNamed writes ps ss)) (steps-cons ws at s p h)
-        ∙ ap (oneDeskEach mask) (named-here 4 (omega arith) (omega arith) ps (getD ws (at + 1 + s) 0) (stepsFrom ws at (s + 1))
-        (step-formed ws at s p h) e)
-
-    module _ (h : s < stepCount (getD ws at 0)) (e : kindOf (getD ws (at + 1 + s) 0) ≡ 4) (c x : ℕ)
-        (i : c ≡ cellOf ps (getD ws (at + 1 + s) 0))
-        (q : x ≡ ones (mask c)) where
-      pub one-fails : (x ≡ 1 → ⊥) → oneDeskEach mask (cellsNamed writes ps (stepsFrom ws at s)) ≡ false
-      one-fails f = one-here h e ∙ rw (← i, ← q, ne-eqb x 1 f)
-
-      pub one-passes : x ≡ 1
-          → oneDeskEach mask (cellsNamed writes ps (stepsFrom ws at s)) ≡ oneDeskEach mask (cellsNamed writes ps (stepsFrom ws at (s + 1)))
-      one-passes f = one-here h e ∙ rw (← i, ← q, eq-eqb x 1 f)
-
-    pub one-other : s < stepCount (getD ws at 0) → (kindOf (getD ws (at + 1 + s) 0) ≡ 4 → ⊥)
-        → oneDeskEach mask (cellsNamed writes ps (stepsFrom ws at s)) ≡ oneDeskEach mask (cellsNamed writes ps (stepsFrom ws at (s + 1)))
-    unfolding accessBy
-    one-other h e =
-        ap (λ (ss : List Step). oneDeskEach mask (cellsNamed writes ps ss)) (steps-cons ws at s p h)
-        ∙ ap (oneDeskEach mask) (named-other 4 (omega arith) (omega arith) ps (getD ws (at + 1 + s) 0) (stepsFrom ws at (s + 1))
-        (step-formed ws at s p h) e)
-
-    pub one-done : stepCount (getD ws at 0) ≤ s → oneDeskEach mask (cellsNamed writes ps (stepsFrom ws at s)) ≡ true
+    pub one-done : (ps : List ℕ) (mask : ℕ → ℕ) → oneDeskEach mask (cellsNamed writes ps (stepsFrom ws at s)) ≡ true
     unfolding every cellsNamed
-    one-done h = ap (λ (ss : List Step). oneDeskEach mask (cellsNamed writes ps ss)) (steps-none ws at s h)
+    one-done ps mask = ap (λ (ss : List Step). oneDeskEach mask (cellsNamed writes ps ss)) (steps-none ws at s h)
 
-  -- a test of the cells that the steps from s on may read
-  module _ (ps : List ℕ) (f : ℕ → Bool) (s : ℕ) where
-    read-here : s < stepCount (getD ws at 0) → kindOf (getD ws (at + 1 + s) 0) ≡ 3
-        → some f (cellsNamed reads ps (stepsFrom ws at s))
-        ≡ (f (cellOf ps (getD ws (at + 1 + s) 0)) || some f (cellsNamed reads ps (stepsFrom ws at (s + 1))))
-    unfolding some accessBy
-    read-here h e =
-        ap (λ (ss : List Step). some f (cellsNamed reads ps ss)) (steps-cons ws at s p h)
-        ∙ ap (some f) (named-here 3 (omega arith) (omega arith) ps (getD ws (at + 1 + s) 0) (stepsFrom ws at (s + 1))
-        (step-formed ws at s p h) e)
-
-    -- the same, by what was found of its cell
-    pub read-found : s < stepCount (getD ws at 0) → kindOf (getD ws (at + 1 + s) 0) ≡ 3 → (c : ℕ) (b : Bool)
-        → c ≡ cellOf ps (getD ws (at + 1 + s) 0) → b ≡ f c
-        → some f (cellsNamed reads ps (stepsFrom ws at s)) ≡ (b || some f (cellsNamed reads ps (stepsFrom ws at (s + 1))))
-    read-found h e c b i q = read-here h e ∙ rw (← i, ← q)
-
-    pub read-other : s < stepCount (getD ws at 0) → (kindOf (getD ws (at + 1 + s) 0) ≡ 3 → ⊥)
-        → some f (cellsNamed reads ps (stepsFrom ws at s)) ≡ some f (cellsNamed reads ps (stepsFrom ws at (s + 1)))
-    unfolding accessBy
-    read-other h e =
-        ap (λ (ss : List Step). some f (cellsNamed reads ps ss)) (steps-cons ws at s p h)
-        ∙ ap (some f) (named-other 3 (omega arith) (omega arith) ps (getD ws (at + 1 + s) 0) (stepsFrom ws at (s + 1))
-        (step-formed ws at s p h) e)
-
-    pub read-done : stepCount (getD ws at 0) ≤ s → some f (cellsNamed reads ps (stepsFrom ws at s)) ≡ false
+    pub read-done : (ps : List ℕ) (f : ℕ → Bool) → some f (cellsNamed reads ps (stepsFrom ws at s)) ≡ false
     unfolding some cellsNamed
-    read-done h = ap (λ (ss : List Step). some f (cellsNamed reads ps ss)) (steps-none ws at s h)
+    read-done ps f = ap (λ (ss : List Step). some f (cellsNamed reads ps ss)) (steps-none ws at s h)
+
+  -- at step s, whose word is w
+  module _ (s : ℕ) (h : s < stepsAt ws at) (w : ℕ) (i : w ≡ stepWord ws at s) where
+    -- what the steps from s on say of a write
+    pub writing-here : some isWrite (stepsFrom ws at s) ≡ (eqb (kindOf w) 4 || some isWrite (stepsFrom ws at (s + 1)))
+    unfolding some
+    writing-here =
+        ap (some isWrite) (steps-cons ws at s p h w i)
+        ∙ ap (λ (b : Bool). b || some isWrite (stepsFrom ws at (s + 1))) (write-kind w (step-formed ws at s p h w i))
+
+    module _ (ps : List ℕ) where
+      pub row-passes : parametersPass (transactionFrom ws at) ps ≡ true → kindOf w ≤ 4 → valueOf ps (rowOf w) ≤ 31
+      unfolding parametersPass
+      row-passes e k =
+          row-bound ps w k
+          (every-step (rowInRange ps) ws at p (and-snd (unusedZero (transactionFrom ws at .params) ps) _ e) s h w i)
+
+      -- the cells that the steps from s on name as the k-th kind does
+      module _ (k : ℕ) (low : 3 ≤ k) (high : k ≤ 4) where
+        cells-here : kindOf w ≡ k
+            → cellsNamed (accessBy k) ps (stepsFrom ws at s) ≡ cellOf ps w ∷ cellsNamed (accessBy k) ps (stepsFrom ws at (s + 1))
+        cells-here e =
+            ap (cellsNamed (accessBy k) ps) (steps-cons ws at s p h w i)
+            ∙ named-here k low high ps w (stepsFrom ws at (s + 1)) (step-formed ws at s p h w i) e
+
+        cells-other : (kindOf w ≡ k → ⊥)
+            → cellsNamed (accessBy k) ps (stepsFrom ws at s) ≡ cellsNamed (accessBy k) ps (stepsFrom ws at (s + 1))
+        cells-other e =
+            ap (cellsNamed (accessBy k) ps) (steps-cons ws at s p h w i)
+            ∙ named-other k low high ps w (stepsFrom ws at (s + 1)) (step-formed ws at s p h w i) e
+
+      -- the masks of the cells that the steps from s on may write
+      module _ (mask : ℕ → ℕ) where
+        -- by the count x of desks in the mask of its cell c
+        pub one-here : kindOf w ≡ 4 → (c x : ℕ) → c ≡ cellOf ps w → x ≡ ones (mask c)
+            → oneDeskEach mask (cellsNamed writes ps (stepsFrom ws at s))
+            ≡ (eqb x 1 && oneDeskEach mask (cellsNamed writes ps (stepsFrom ws at (s + 1))))
+        unfolding every accessBy
+        one-here e c x j q = ap (oneDeskEach mask) (cells-here 4 (omega arith) (omega arith) e) ∙ rw (← j, ← q)
+
+        pub one-other : (kindOf w ≡ 4 → ⊥)
+            → oneDeskEach mask (cellsNamed writes ps (stepsFrom ws at s)) ≡ oneDeskEach mask (cellsNamed writes ps (stepsFrom ws at (s + 1)))
+        unfolding accessBy
+        one-other e = ap (oneDeskEach mask) (cells-other 4 (omega arith) (omega arith) e)
+
+      -- a test of the cells that the steps from s on may read
+      module _ (f : ℕ → Bool) where
+        -- by what was found of its cell c
+        pub read-found : kindOf w ≡ 3 → (c : ℕ) (b : Bool) → c ≡ cellOf ps w → b ≡ f c
+            → some f (cellsNamed reads ps (stepsFrom ws at s)) ≡ (b || some f (cellsNamed reads ps (stepsFrom ws at (s + 1))))
+        unfolding some accessBy
+        read-found e c b j q = ap (some f) (cells-here 3 (omega arith) (omega arith) e) ∙ rw (← j, ← q)
+
+        pub read-other : (kindOf w ≡ 3 → ⊥)
+            → some f (cellsNamed reads ps (stepsFrom ws at s)) ≡ some f (cellsNamed reads ps (stepsFrom ws at (s + 1)))
+        unfolding accessBy
+        read-other e = ap (some f) (cells-other 3 (omega arith) (omega arith) e)

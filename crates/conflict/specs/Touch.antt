@@ -7,9 +7,9 @@ use lib.Bits.{bitOr}
 use lib.ListN.{length, getD}
 use lib.Dec.{ltb, eqb}
 use Rattle.lists.specs.Lists.{tabulate, some}
-use Rattle.plan.specs.Plan.{Source, param, fixed, Step, cell, operand, Partitioning, byParam, unpartitioned}
-use Rattle.plan.specs.Plan.{Transaction, Plan}
+use Rattle.plan.specs.Plan.{Source, param, fixed, Step, cell, operand, Partitioning, byParam, unpartitioned, Transaction, Plan}
 use Rattle.conflict.specs.Mask.{maskOf}
+use Rattle.operation.specs.Run.{storeSize}
 
 -- with n desks, some operation of desk d gives this row to the source: with no partitioning desk 0 alone has operations; where the
 -- row is the partitioning parameter, row r is at desk r mod n; else every desk has one
@@ -41,9 +41,9 @@ deskMask p c = maskOf (p .desks) (transactionsTouch (p .desks) (p .transactions)
 
 -- "The masks fill a table of 1,024 entries"
 abbrev pub maskTable : Plan → List ℕ
-maskTable p = tabulate 1024 (deskMask p)
+maskTable p = tabulate storeSize (deskMask p)
 
 -- the table l is l₀ with the mask m of each cell joined to it
 pub record Joined (l₀ l : List ℕ) (m : ℕ → ℕ) : Type 0 where
-  pub long : length l ≡ 1024
-  pub cells : (c : ℕ) → c < 1024 → getD l c 0 ≡ bitOr (getD l₀ c 0) (m c)
+  pub long : length l ≡ storeSize
+  pub cells : (c : ℕ) → c < storeSize → getD l c 0 ≡ bitOr (getD l₀ c 0) (m c)

@@ -14,6 +14,7 @@ ghost use Rattle.operation.specs.Admission.{parametersPass};
 ghost use Rattle.conflict.specs.Touch.{maskTable};
 ghost use Rattle.conflict.specs.Class.{classBy, isWrite, oneDeskEach, isFree, isGlobal};
 ghost use Rattle.conflict.specs.Answer.{classOfCode, classifiedOf, classifyResult};
+ghost use Rattle.operation.specs.Run.{storeSize};
 use crate::mask;
 use crate::written;
 use verdict::Verdict;
@@ -39,10 +40,10 @@ pub fn has_write(plan: &[u32], at: usize) -> bool
     requires { ⌜ StandsAt (now plan) at ⌝ }
     ensures { λ r. ⌜ r ≡ some isWrite (transactionFrom (now (plan .entry)) at .steps) ⌝ }
 {
-    let steps = (plan[at] / fields::STEPS % 16) as usize;
+    let steps = plan::step_count(plan, at);
     let mut s: usize = 0;
     while s < steps {
-        if plan[at + 1 + s] / fields::KIND == 4 {
+        if plan::step_word(plan, at, s) / fields::KIND == 4 {
             return true;
         }
         s = s + 1;
@@ -59,14 +60,15 @@ fn desks_in(mask: u8) -> u32
 
 // Whether each cell that the operation may write has one desk in its mask.
 fn one_desk_each(plan: &[u32], at: usize, params: [u32; 4], masks: &[u8]) -> bool
-    requires { ⌜ StandsAt (now plan) at × (parametersPass (transactionFrom (now plan) at) params ≡ true) × (length (now masks) ≡ 1024) ⌝ }
+    requires { ⌜ StandsAt (now plan) at × (parametersPass (transactionFrom (now plan) at) params ≡ true)
+        × (length (now masks) ≡ storeSize) ⌝ }
     ensures { λ r. ⌜ r ≡ oneDeskEach (λ c. getD (now (masks .entry)) c 0)
         (cellsNamed writes params (transactionFrom (now (plan .entry)) at .steps)) ⌝ }
 {
-    let steps = (plan[at] / fields::STEPS % 16) as usize;
+    let steps = plan::step_count(plan, at);
     let mut s: usize = 0;
     while s < steps {
-        let word = plan[at + 1 + s];
+        let word = plan::step_word(plan, at, s);
         s = s + 1;
         if word / fields::KIND == 4 {
             let cell = operation::cell_named(word, params) as usize;

@@ -7,12 +7,14 @@ ghost use Rattle.plan.specs.Decode.{planOf, stepOf, partBy};
 ghost use Rattle.plan.specs.Admission.{planVerdict};
 ghost use Rattle.conflict.specs.Mask.{maskOf};
 ghost use Rattle.conflict.specs.Touch.{stepTouches, Joined, maskTable};
+ghost use Rattle.operation.specs.Run.{storeSize};
 use crate::row;
+use operation::STORE_SIZE;
 use word::fields;
 
 // Joins the desks of the step in this word to the masks of the cells that it names.
-fn mark(table: &mut [u8; 1024], word: u32, partitioning: u32, desks: u32)
-    requires { ⌜ (1 ≤ desks) × (desks ≤ 8) × (length (now table) ≡ 1024) ⌝ }
+fn mark(table: &mut [u8; STORE_SIZE], word: u32, partitioning: u32, desks: u32)
+    requires { ⌜ (1 ≤ desks) × (desks ≤ 8) × (length (now table) ≡ storeSize) ⌝ }
     ensures { λ r. ⌜ Joined (now (table .entry)) (now (table .exit))
         (λ c. maskOf desks (stepTouches desks (partBy partitioning) (stepOf word) c)) ⌝ }
 {
@@ -29,27 +31,30 @@ fn mark(table: &mut [u8; 1024], word: u32, partitioning: u32, desks: u32)
 }
 
 // The mask of each cell, of a plan that the plan reader accepts.
-pub fn desk_masks(plan: &[u32]) -> [u8; 1024]
+pub fn desk_masks(plan: &[u32]) -> [u8; STORE_SIZE]
     requires { ⌜ planVerdict (now plan) ≡ accepted ⌝ }
     ensures { λ r. ⌜ r ≡ maskTable (planOf (now (plan .entry))) ⌝ }
 {
-    let mut table = [0u8; 1024];
+    let mut table = [0u8; STORE_SIZE];
     let head = plan[0];
     let desks = head / fields::DESKS % 16;
     let transactions = head / fields::TRANSACTIONS % 256;
     let mut at: usize = 1;
     let mut t: u32 = 0;
     while t < transactions {
-        let word = plan[at];
-        let partitioning = word / fields::PARTITIONING % 16;
-        let steps = word / fields::STEPS % 16;
-        at = at + 1;
-        let mut s: u32 = 0;
+        let partitioning = plan[at] / fields::PARTITIONING % 16;
+        let steps = plan::step_count(plan, at);
+        let mut s: usize = 0;
         while s < steps {
-            mark(&mut table, plan[at], partitioning, desks);
-            at = at + 1;
+            mark(
+                &mut table,
+                plan::step_word(plan, at, s),
+                partitioning,
+                desks,
+            );
             s = s + 1;
         }
+        at = at + 1 + steps;
         t = t + 1;
     }
     table

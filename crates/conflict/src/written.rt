@@ -34,10 +34,10 @@ fn writes_read(word: u32, plan: &[u32], at: usize, params: [u32; 4]) -> bool
     requires { ⌜ (kindOf word ≡ 4) × StandsAt (now plan) at × (parametersPass (transactionFrom (now plan) at) params ≡ true) ⌝ }
     ensures { λ r. ⌜ r ≡ some (stepWrites (stepOf word)) (cellsNamed reads params (transactionFrom (now (plan .entry)) at .steps)) ⌝ }
 {
-    let steps = (plan[at] / fields::STEPS % 16) as usize;
+    let steps = plan::step_count(plan, at);
     let mut s: usize = 0;
     while s < steps {
-        let step = plan[at + 1 + s];
+        let step = plan::step_word(plan, at, s);
         s = s + 1;
         if step / fields::KIND == 3 {
             if cell_given(word, operation::cell_named(step, params)) {

@@ -12,7 +12,9 @@ use Rattle.plan.specs.Decode.{planOf}
 use Rattle.plan.specs.Admission.{planVerdict}
 use Rattle.operation.specs.Operation.{deskOf}
 use Rattle.operation.specs.Admission.{operationVerdict}
+use Rattle.operation.specs.Run.{storeSize}
 use Rattle.conflict.specs.Class.{isGlobal, classOf}
+use Rattle.queue.specs.Queue.{queueSize}
 use Rattle.queue.specs.declared.record.Request.{Request}
 use Rattle.desk.specs.declared.state.Desk.{Desk}
 use Rattle.desk.specs.Queueing.{operationOf, waitingIn}
@@ -24,7 +26,7 @@ pub record Admitted (ws : List ℕ) (r : Request) : Type 0 where
 
 -- 5: "book exactly 1,024, row exactly 32"
 unfoldable pub deskBuffersFit : List ℕ → List Request → Bool
-deskBuffersFit cells queue = eqb (length cells) 1024 && eqb (length queue) 32
+deskBuffersFit cells queue = eqb (length cells) storeSize && eqb (length queue) queueSize
 
 -- 6: "each waiting record a global operation of this desk"
 unfoldable pub waitsHere : Plan → ℕ → Request → Bool
@@ -36,5 +38,5 @@ waitsHere p desk r =
 -- of this desk?"
 unfoldable pub deskStands : Plan → Desk → List Request → Bool
 deskStands p d queue =
-    ltb (d .desk) (p .desks) && (leb (d .waiting) 32 && (eqb (d .awaited % p .desks) (d .desk)
+    ltb (d .desk) (p .desks) && (leb (d .waiting) queueSize && (eqb (d .awaited % p .desks) (d .desk)
     && every (waitsHere p (d .desk)) (waitingIn (d .waiting) queue)))

@@ -7,7 +7,6 @@ ghost use Rattle.plan.specs.Place.{transactionPlace, transactionPlaces};
 ghost use Rattle.operation.specs.Operation.{deskOf};
 ghost use Rattle.operation.specs.Admission.{operationVerdict};
 ghost use Rattle.operation.specs.Run.{applyUpdate, run as runOf};
-ghost use Rattle.operation.specs.Answer.{replyOf};
 ghost use Rattle.desk.specs.Queueing.{operationOf};
 ghost use Rattle.desk.specs.Place.{placeOf, placeBy, Placed};
 use operation::Reply;
@@ -52,7 +51,7 @@ pub fn operation_desk(plan: &[u32], at: usize, request: Request) -> u32
 // Runs the operation, and applies its update.
 pub fn run_operation(plan: &[u32], at: usize, request: Request, cells: &mut [u32]) -> Reply
     requires { ⌜ Placed (now plan) request at ⌝ }
-    ensures replied { λ r. ⌜ replyOf r ≡ runOf (planOf (now (plan .entry))) (operationOf request) (now (cells .entry)) .reply ⌝ }
+    ensures replied { λ r. ⌜ r ≡ runOf (planOf (now (plan .entry))) (operationOf request) (now (cells .entry)) .reply ⌝ }
     ensures applied { λ r. ⌜ now (cells .exit)
         ≡ applyUpdate (runOf (planOf (now (plan .entry))) (operationOf request) (now (cells .entry)) .update) (now (cells .entry)) ⌝ }
 {

@@ -8,12 +8,15 @@ ghost use Rattle.plan.specs.Decode.{planOf};
 ghost use Rattle.plan.specs.Admission.{planVerdict};
 ghost use Rattle.plan.specs.Place.{transactionPlaces};
 ghost use Rattle.conflict.specs.Touch.{maskTable};
+ghost use Rattle.queue.specs.Queue.{queueSize};
 ghost use Rattle.desk.specs.Queueing.{waitingIn};
 ghost use Rattle.desk.specs.Admission.{waitsHere, deskStands};
 ghost use Rattle.desk.specs.Place.{TableHolds};
 use crate::admitted;
 use crate::admitted::Located;
 use crate::state::Desk;
+use operation::STORE_SIZE;
+use queue::QUEUE_SIZE;
 use queue::Request;
 use word::fields;
 
@@ -21,7 +24,7 @@ use word::fields;
 pub struct DeskCheck {
     pub stands: bool,
     pub known: bool,
-    pub masks: [u8; 1024],
+    pub masks: [u8; STORE_SIZE],
 }
 
 // Whether the record is a global operation of this desk.
@@ -45,10 +48,10 @@ fn all_wait_here(
     places: &[usize],
     desk: u32,
     waiting: usize,
-    records: [Request; 32],
+    records: [Request; QUEUE_SIZE],
     masks: &[u8],
 ) -> bool
-    requires { ⌜ (planVerdict (now plan) ≡ accepted) × (waiting ≤ 32) × (now places ≡ transactionPlaces (now plan))
+    requires { ⌜ (planVerdict (now plan) ≡ accepted) × (waiting ≤ queueSize) × (now places ≡ transactionPlaces (now plan))
         × (now masks ≡ maskTable (planOf (now plan))) ⌝ }
     ensures { λ r. ⌜ r ≡ every (waitsHere (planOf (now (plan .entry))) desk) (waitingIn waiting records) ⌝ }
 {
@@ -68,7 +71,7 @@ fn untabled(stands: bool) -> DeskCheck
     ensures stands { λ r. ⌜ r .stands ≡ stands ⌝ }
     ensures unknown { λ r. ⌜ r .known ≡ false ⌝ }
 {
-    let masks = [0u8; 1024];
+    let masks = [0u8; STORE_SIZE];
     DeskCheck {
         stands: stands,
         known: false,
@@ -77,7 +80,12 @@ fn untabled(stands: bool) -> DeskCheck
 }
 
 // Question 6. The table is filled if requests wait.
-pub fn standing(plan: &[u32], places: &[usize], state: Desk, records: [Request; 32]) -> DeskCheck
+pub fn standing(
+    plan: &[u32],
+    places: &[usize],
+    state: Desk,
+    records: [Request; QUEUE_SIZE],
+) -> DeskCheck
     requires { ⌜ (planVerdict (now plan) ≡ accepted) × (now places ≡ transactionPlaces (now plan)) ⌝ }
     ensures stands { λ r. ⌜ r .stands ≡ deskStands (planOf (now (plan .entry))) state records ⌝ }
     ensures table { λ r. ⌜ TableHolds (now (plan .entry)) r ⌝ }
@@ -88,7 +96,7 @@ pub fn standing(plan: &[u32], places: &[usize], state: Desk, records: [Request; 
     if desks <= desk {
         return untabled(false);
     }
-    if 32 < waiting {
+    if QUEUE_SIZE < waiting {
         return untabled(false);
     }
     if state.awaited % desks as u64 != desk as u64 {
@@ -107,7 +115,12 @@ pub fn standing(plan: &[u32], places: &[usize], state: Desk, records: [Request; 
 }
 
 // Question 6 alone.
-pub fn desk_stands(plan: &[u32], places: &[usize], state: Desk, records: [Request; 32]) -> bool
+pub fn desk_stands(
+    plan: &[u32],
+    places: &[usize],
+    state: Desk,
+    records: [Request; QUEUE_SIZE],
+) -> bool
     requires { ⌜ (planVerdict (now plan) ≡ accepted) × (now places ≡ transactionPlaces (now plan)) ⌝ }
     ensures { λ r. ⌜ r ≡ deskStands (planOf (now (plan .entry))) state records ⌝ }
 {

@@ -11,7 +11,6 @@ use Rattle.word.specs.Reserved.{reservedZero, sourceField}
 use Rattle.plan.specs.Decode.{stepOf, partBy, accessBy, actionBy, transactionsOf, planOf}
 use Rattle.plan.specs.Admission.{hasHead, countsInRange, transactionFormed, stepFormed, sourceExists, stepExists, partExists}
 use Rattle.plan.specs.Admission.{parametersExist, transactionsVerdict, planVerdict}
-use Rattle.plan.specs.Admission as plans
 use Rattle.operation.specs.Operation.{cellsNamed}
 use Rattle.operation.specs.Admission.{transactionExists, unusedZero, rowInRange, parametersPass, operationVerdict}
 use Rattle.operation.specs.Run.{applyUpdate, act, runFrom}
@@ -20,8 +19,8 @@ use Rattle.conflict.specs.Touch.{rowTouched, cellTouched, stepTouches, deskMask
 use Rattle.conflict.specs.Written.{cellGiven, stepWrites, written}
 use Rattle.conflict.specs.Class.{classBy}
 use Rattle.token.specs.Frame.{writeWords, updateWords, updatesWords, sumsFrom, frameAround}
-use Rattle.token.specs.Admission.{writesFrom, updatesFrom, deskCount, frameHeaded, sumsRight, updateFormed, cellFormed}
-use Rattle.token.specs.Admission.{wellFormed, fewPerDesk, updatesRight, frameVerdict}
+use Rattle.token.specs.Admission.{writesFrom, updatesFrom, deskCount, frameHeaded, sumsRight, updateFormed, cellFormed, wellFormed}
+use Rattle.token.specs.Admission.{fewPerDesk, updatesRight, frameVerdict}
 use Rattle.desk.specs.Admission.{deskBuffersFit, waitsHere, deskStands}
 use Rattle.passing.specs.Admission.{visitBuffersFit, turnVerdict}
 use Rattle.routing.specs.Request.{requestVerdict, requestResult}
@@ -29,6 +28,7 @@ use Rattle.token.specs.Forward.{foreign, applyAll}
 use Rattle.passing.specs.Visit.{visitVerdict, visitResult}
 use Rattle.passing.specs.Waiting.{runAll, updatesOf, repliesOf, repliesWords}
 use Rattle.history.specs.Course.{Course}
+use Rattle.plan.specs.Admission as plans
 
 -- parameters are words
 small : (a b : ℕ) → a < 9 → b < 9 → (i : ℕ) → getD (a ∷ b ∷ 0 ∷ 0 ∷ []) i 0 < 2 ^ 32

@@ -6,9 +6,9 @@ use mathlib.Core.List.{List}
 use Prim.Native.Nat.{ℕ, _+_, _≤_, _<_}
 use lib.ListN.{getD}
 use Rattle.lists.specs.Lists.{every}
-use Rattle.word.specs.Field.{parameterCount, stepCount}
+use Rattle.word.specs.Field.{parameterCount}
 use Rattle.plan.specs.Decode.{stepOf}
-use Rattle.plan.specs.Place.{StandsAt, transactionFrom}
+use Rattle.plan.specs.Place.{StandsAt, transactionFrom, stepsAt, stepWord}
 use Rattle.plan.proofs.Steps.{stepsFrom, steps-all, steps-none, steps-cons}
 use Rattle.operation.specs.Admission.{parametersPass, unusedZero, rowInRange}
 
@@ -27,19 +27,18 @@ module _ (ws : List ℕ) (at : ℕ) (ps : List ℕ) where
   asking-start p e = record { whole = p; rest = rw (e, steps-all ws at) }
 
   module _ (s : ℕ) (q : Asking s) where
-    rest-here : s < stepCount (getD ws at 0)
-        → parametersPass (transactionFrom ws at) ps
-        ≡ (rowInRange ps (stepOf (getD ws (at + 1 + s) 0)) && every (rowInRange ps) (stepsFrom ws at (s + 1)))
+    rest-here : s < stepsAt ws at → (w : ℕ) → w ≡ stepWord ws at s
+        → parametersPass (transactionFrom ws at) ps ≡ (rowInRange ps (stepOf w) && every (rowInRange ps) (stepsFrom ws at (s + 1)))
     unfolding every
-    rest-here h = q .rest ∙ rw (steps-cons ws at s (q .whole) h)
+    rest-here h w e = q .rest ∙ rw (steps-cons ws at s (q .whole) h w e)
 
-    pub asking-fails : s < stepCount (getD ws at 0) → rowInRange ps (stepOf (getD ws (at + 1 + s) 0)) ≡ false
+    pub asking-fails : s < stepsAt ws at → (w : ℕ) → w ≡ stepWord ws at s → rowInRange ps (stepOf w) ≡ false
         → parametersPass (transactionFrom ws at) ps ≡ false
-    asking-fails h e = rest-here h ∙ rw e
+    asking-fails h w e f = rest-here h w e ∙ rw f
 
-    pub asking-next : s < stepCount (getD ws at 0) → rowInRange ps (stepOf (getD ws (at + 1 + s) 0)) ≡ true → Asking (s + 1)
-    asking-next h e = record { whole = q .whole; rest = rest-here h ∙ rw e }
+    pub asking-next : s < stepsAt ws at → (w : ℕ) → w ≡ stepWord ws at s → rowInRange ps (stepOf w) ≡ true → Asking (s + 1)
+    asking-next h w e f = record { whole = q .whole; rest = rest-here h w e ∙ rw f }
 
-    pub asking-done : stepCount (getD ws at 0) ≤ s → parametersPass (transactionFrom ws at) ps ≡ true
+    pub asking-done : stepsAt ws at ≤ s → parametersPass (transactionFrom ws at) ps ≡ true
     unfolding every
     asking-done h = q .rest ∙ rw (steps-none ws at s h)

@@ -1,8 +1,7 @@
--- What the code's replies, updates and outcomes of a run say in the definition's terms.
+-- What the code's updates and outcomes of a run say in the definition's terms.
 use Prim.Native.Nat.{ℕ, zero, suc}
 use mathlib.Core.List.{List, [], _∷_}
 use Rattle.operation.specs.Run as run
-use Rattle.operation.specs.declared.execution.Reply.{Reply}
 use Rattle.operation.specs.declared.execution.Update.{Update}
 use Rattle.operation.specs.declared.execution.Outcome.{Outcome}
 use Rattle.operation.specs.declared.execution.Next.{Next}
@@ -18,12 +17,8 @@ pairs (suc n) (c ∷ cs) (v ∷ vs) = (c, v) ∷ pairs n cs vs
 abbrev pub updateOf : Update → run.Update
 updateOf u = pairs (u .count) (u .cells) (u .values)
 
--- "The reply is done or declined, with the working number at the end or stop."
-abbrev pub replyOf : Reply → run.Reply
-replyOf r = record { done = r .done; number = r .number }
-
 abbrev pub outcomeOf : Outcome → run.Outcome
-outcomeOf o = record { reply = replyOf (o .reply); update = updateOf (o .update) }
+outcomeOf o = record { reply = o .reply; update = updateOf (o .update) }
 
 abbrev pub nextOf : Next → run.Next
 nextOf (Continue x) = run.continues x

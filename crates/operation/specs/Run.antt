@@ -6,10 +6,14 @@ use lib.ListN.{getD, set}
 use lib.Dec.{leb}
 use Rattle.plan.specs.Plan.{reads, writes, Action, sets, adds, needs, takes, Step, cell, operand, Transaction, Plan}
 use Rattle.operation.specs.Operation.{Operation, transactionOf, valueOf, cellNumber}
+use Rattle.operation.specs.declared.execution.Reply as code
 
 -- "A book is 1,024 words, one per cell."
 abbrev pub Store : Type 0
 Store = List ℕ
+
+abbrev pub storeSize : ℕ
+storeSize = 1024
 
 -- "the list of written cells and values in step order"; "a cell written twice is in it twice"
 abbrev pub Update : Type 0
@@ -19,10 +23,9 @@ unfoldable pub applyUpdate : Update → Store → Store
 applyUpdate [] s = s
 applyUpdate (w ∷ u) s = applyUpdate u (set s (w .0) (w .1))
 
--- "The reply is done or declined, with the working number at the end or stop."
-pub record Reply : Type 0 where
-  pub done : Bool
-  pub number : ℕ
+-- "The reply is done or declined, with the working number at the end or stop.": the code's own struct
+abbrev pub Reply : Type 0
+Reply = code.Reply
 
 pub record Outcome : Type 0 where
   pub reply : Reply

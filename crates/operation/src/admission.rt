@@ -22,14 +22,13 @@ pub fn parameters_pass(plan: &[u32], at: usize, params: [u32; 4]) -> bool
     requires { ⌜ StandsAt (now plan) at ⌝ }
     ensures { λ r. ⌜ r ≡ parametersPass (transactionFrom (now (plan .entry)) at) params ⌝ }
 {
-    let word = plan[at];
-    if !unused_zero(word / fields::PARAMETERS % 16, params) {
+    if !unused_zero(plan[at] / fields::PARAMETERS % 16, params) {
         return false;
     }
-    let steps = (word / fields::STEPS % 16) as usize;
+    let steps = plan::step_count(plan, at);
     let mut s: usize = 0;
     while s < steps {
-        if !row_in_range(plan[at + 1 + s], params) {
+        if !row_in_range(plan::step_word(plan, at, s), params) {
             return false;
         }
         s = s + 1;

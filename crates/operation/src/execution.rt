@@ -12,6 +12,9 @@ ghost use Rattle.operation.specs.Answer.{nextOf, pairs, updateOf, outcom
 use crate::cell;
 use word::fields;
 
+// The cells of a store.
+pub const STORE_SIZE: usize = 1024;
+
 // Done or declined, with the accumulator at the end or stop.
 pub struct Reply {
     pub done: bool,
@@ -112,10 +115,10 @@ pub fn run(plan: &[u32], at: usize, params: [u32; 4], store: &[u32]) -> Outcome
     let mut values: [u32; 12] = [0; 12];
     let mut count: usize = 0;
     let mut number: u32 = 0;
-    let steps = (plan[at] / fields::STEPS % 16) as usize;
+    let steps = plan::step_count(plan, at);
     let mut s: usize = 0;
     while s < steps {
-        let word = plan[at + 1 + s];
+        let word = plan::step_word(plan, at, s);
         let kind = word / fields::KIND;
         s = s + 1;
         if kind == 3 {

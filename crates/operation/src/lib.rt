@@ -11,6 +11,7 @@ pub use cell::parameter;
 pub use cell::source_value;
 pub use execution::Outcome;
 pub use execution::Reply;
+pub use execution::STORE_SIZE;
 pub use execution::Update;
 pub use execution::apply;
 pub use execution::run;

@@ -4,14 +4,14 @@ use mathlib.Core.Path.{_≡_, refl, _∙_, sym, ap, ap₂}
 use mathlib.Core.List.{List, _++_, map}
 use Prim.Native.Nat.{ℕ, _+_, _-_, _%_, _≤_}
 use native.Mathlib.Omega.{arith}
-use lib.ListN.{length, take, drop, length-take, length-drop}
+use lib.ListN.{length, take, drop, length-take, length-drop, length-append}
 use lib.Seq.{length-take-le}
 use Rattle.verdict.specs.Verdict.{accepted}
 use Rattle.lists.specs.Lists.{overwritten}
 use Rattle.plan.specs.Decode.{planOf}
 use Rattle.plan.proofs.Accepted.{accepted-gives, desk-count}
 use Rattle.operation.specs.Run.{Store}
-use Rattle.token.specs.Frame.{sent, updatesWords, frameAround}
+use Rattle.token.specs.Frame.{sent, updatesWords, frameAround, leastFrame, longestFrame}
 use Rattle.token.specs.Admission.{frameVerdict, frameVisit, updatesPart, updatesFrom, frameUpdates}
 use Rattle.token.specs.Forward.{foreign, applyAll, foreignWords}
 use Rattle.token.specs.WellFormed.{WellFormed}
@@ -34,7 +34,7 @@ visited-same : (a b : Passage) (t u : Desk) (c c′ o o′ q q′ : List ℕ) �
     (record { answer = b; state = u; cells = c′; out = o′; replies = q′ })
 visited-same a b t u c c′ o o′ q q′ ea et ec eo eq = rw (ea, et, ec, eo, eq)
 
-pub frame-size : (n : ℕ) (f : List ℕ) → frameVerdict n f ≡ accepted → (4 ≤ length f) × (length f ≤ 6404)
+pub frame-size : (n : ℕ) (f : List ℕ) → frameVerdict n f ≡ accepted → (leastFrame ≤ length f) × (length f ≤ longestFrame)
 frame-size n f e = let h = headed f (admitted n f e .head) in (h .low, h .high)
 
 -- the words between word 1 and the sums
@@ -48,17 +48,6 @@ module _ (ws : List ℕ) (d : Desk) (cells : List ℕ) (queue : List Request) (f
     (a : Passable ws d cells queue f out replies) (body : List ℕ) (b : body ≡ updatesPart f) where
   pub written : body ≡ updatesWords (updatesFrom 0 body)
   written = rw b (part-written (planOf ws .desks) f (a .frame))
-
-  pub body-room : length body ≤ length (take (length out - 2) (drop 2 out))
-  body-room =
-      let l : length body ≤ length f - 4 = omega (arith, ap length b, length-take (length f - 4) (drop 2 f)) in
-      omega (
-        arith,
-        frame-size (planOf ws .desks) f (a .frame) .1,
-        a .room,
-        length-take-le (length out - 2) (drop 2 out)
-            (omega (arith, length-drop 2 out)),
-      )
 
   module _ (s : Store) (e : s ≡ applyAll (foreign (d .desk) (updatesFrom 0 body)) cells) where
     -- the outgoing frame carries them
@@ -131,3 +120,13 @@ module _ (ws : List ℕ) (d : Desk) (cells : List ℕ) (queue : List Request) (f
         es
         (eo ∙ ap₂ (λ (m : ℕ) (t : List ℕ). overwritten (frameAround (v % m) v t) out) en words-are)
         eq)
+
+  -- the others' updates alone have room behind words 0 and 1
+  pub body-room : length (foreignWords (d .desk) body) ≤ length (take (length out - 2) (drop 2 out))
+  body-room =
+      omega (
+        arith,
+        simp length-append at (words-fit _ refl),
+        length-take-le (length out - 2) (drop 2 out)
+            (omega (arith, length-drop 2 out)),
+      )

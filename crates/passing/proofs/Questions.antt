@@ -23,15 +23,19 @@ use Rattle.desk.specs.Admission.{deskBuffersFit, waitsHere, deskStands}
 use Rattle.passing.specs.Admission.{visitBuffersFit, turnVerdict}
 use Rattle.passing.specs.Visit.{visitVerdict}
 use Rattle.passing.specs.Running.{isOperation}
+use Rattle.operation.specs.Run.{storeSize}
+use Rattle.token.specs.Frame.{longestFrame}
+use Rattle.queue.specs.Queue.{queueSize}
+use Rattle.passing.specs.Waiting.{repliesSize}
 
 pub record Passable (ws : List ℕ) (d : Desk) (cells : List ℕ) (queue : List Request) (f out replies : List ℕ) : Type 0 where
   pub plan : planVerdict ws ≡ accepted
-  pub cellsLong : length cells ≡ 1024
-  pub queueLong : length queue ≡ 32
-  pub room : 6404 ≤ length out
-  pub replyRoom : 96 ≤ length replies
+  pub cellsLong : length cells ≡ storeSize
+  pub queueLong : length queue ≡ queueSize
+  pub room : longestFrame ≤ length out
+  pub replyRoom : repliesSize ≤ length replies
   pub desk : d .desk < planOf ws .desks
-  pub waiting : d .waiting ≤ 32
+  pub waiting : d .waiting ≤ queueSize
   pub operations : every (isOperation (planOf ws)) (waitingIn (d .waiting) queue) ≡ true
   pub frame : frameVerdict (planOf ws .desks) f ≡ accepted
   pub visit : frameVisit f < 4294967295
@@ -52,18 +56,18 @@ questions-give ws d cells queue frame out replies e =
     let visit5 = and-snd (deskBuffersFit cells queue) _ (q5 .0) in
     let q6 = ask-then-accepted 6 (deskStands (planOf ws) d queue) _ (q5 .1) in
     let w6 = and-snd (ltb (d .desk) (planOf ws .desks)) _ (q6 .0) in
-    let a6 = and-snd (leb (d .waiting) 32) _ w6 in
+    let a6 = and-snd (leb (d .waiting) queueSize) _ w6 in
     let q12 = then-accepted (frameVerdict (planOf ws .desks) frame) _ (q6 .1) in
     let q13 = ask-then-accepted 13 (eqb (addressedDesk (headOf frame)) (d .desk)) _ (q12 .1) in
     let q14 = ask-then-accepted 14 (eqb (frameVisit frame) (d .awaited)) _ (q13 .1) in
     record {
       plan = q4 .0;
-      cellsLong = eqb-true (length cells) 1024 (and-fst _ _ desk5);
-      queueLong = eqb-true (length queue) 32 (and-snd (eqb (length cells) 1024) _ desk5);
-      room = leb-true 6404 (length out) (and-fst _ _ visit5);
-      replyRoom = leb-true 96 (length replies) (and-snd (leb 6404 (length out)) _ visit5);
+      cellsLong = eqb-true (length cells) storeSize (and-fst _ _ desk5);
+      queueLong = eqb-true (length queue) queueSize (and-snd (eqb (length cells) storeSize) _ desk5);
+      room = leb-true longestFrame (length out) (and-fst _ _ visit5);
+      replyRoom = leb-true repliesSize (length replies) (and-snd (leb longestFrame (length out)) _ visit5);
       desk = ltb-true (d .desk) (planOf ws .desks) (and-fst _ _ (q6 .0));
-      waiting = leb-true (d .waiting) 32 (and-fst _ _ w6);
+      waiting = leb-true (d .waiting) queueSize (and-fst _ _ w6);
       operations = operations-here (planOf ws) (d .desk) (waitingIn (d .waiting) queue)
           (and-snd (eqb (d .awaited % planOf ws .desks) (d .desk)) _ a6);
       frame = q12 .0;

@@ -1,6 +1,6 @@
 -- The questions of a visit as its core puts them. It is handed the queue's length and its first 32 records in place of the queue.
 use Prim.Native.Nat.{ℕ}
-use mathlib.Core.Bool.{_&&_, cond}
+use mathlib.Core.Bool.{_&&_}
 use mathlib.Core.List.{List}
 use lib.Dec.{eqb}
 use lib.ListN.{length}
@@ -12,11 +12,13 @@ use Rattle.queue.specs.declared.record.Request.{Request}
 use Rattle.desk.specs.declared.state.Desk.{Desk}
 use Rattle.desk.specs.Admission.{deskStands}
 use Rattle.passing.specs.Admission.{visitBuffersFit, turnVerdict}
+use Rattle.operation.specs.Run.{storeSize}
+use Rattle.queue.specs.Queue.{queueSize}
 
 -- questions 1 to 5
 unfoldable pub openingVerdict : List ℕ → List ℕ → ℕ → List ℕ → List ℕ → Verdict
 openingVerdict ws cells size out replies =
-    planVerdict ws then ask 5 ((eqb (length cells) 1024 && eqb size 32) && visitBuffersFit out replies)
+    planVerdict ws then ask 5 ((eqb (length cells) storeSize && eqb size queueSize) && visitBuffersFit out replies)
 
 -- questions 6 and 10 to 15
 unfoldable pub passageVerdict : List ℕ → Desk → List Request → List ℕ → Verdict

@@ -1,5 +1,5 @@
-pub mod Admission
 pub mod Waiting
+pub mod Admission
 pub mod Running
 pub mod Core
 pub mod Visit

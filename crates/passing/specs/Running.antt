@@ -15,7 +15,7 @@ use Rattle.token.specs.Frame.{sent, updateWords, updatesWords}
 use Rattle.queue.specs.declared.record.Request.{Request}
 use Rattle.desk.specs.Queueing.{operationOf}
 use Rattle.desk.specs.Place.{Placed}
-use Rattle.passing.specs.Waiting.{runAll, updatesOf, Answered, repliesOf, replyWords, repliesWords}
+use Rattle.passing.specs.Waiting.{runAll, updatesOf, Answered, answered, repliesOf, replySize, replyWords, repliesWords}
 
 -- a record's operation passes questions 7 and 8
 abbrev pub isOperation : Plan → Request → Bool
@@ -28,12 +28,12 @@ abbrev pub madeWords : Plan → ℕ → Request → Store → List ℕ
 madeWords p desk r s = updateWords (sent desk (run p (operationOf r) s .update))
 
 abbrev pub replyTo : Plan → Request → Store → Answered
-replyTo p r s = record { client = r .client; reply = run p (operationOf r) s .reply }
+replyTo p r s = answered (r .client) (run p (operationOf r) s .reply)
 
 pub record Runs (ws : List ℕ) (at : ℕ) (r : Request) (desk : ℕ) (cells out replies : List ℕ) : Type 0 where
   pub placed : Placed ws r at
   pub room : length (madeWords (planOf ws) desk r cells) ≤ length out
-  pub replyRoom : 3 ≤ length replies
+  pub replyRoom : replySize ≤ length replies
 
 -- `words` outgoing words are written
 pub record Ran (p : Plan) (r : Request) (desk : ℕ) (cells out replies : List ℕ) (words : ℕ) (cells′ out′ replies′ : List ℕ) : Type 0 where
@@ -54,7 +54,7 @@ pub record AllRun (ws : List ℕ) (rs : List Request) (desk : ℕ) (cells out re
   pub plan : planVerdict ws ≡ accepted
   pub operations : every (isOperation (planOf ws)) rs ≡ true
   pub room : length (allMade (planOf ws) desk rs cells) ≤ length out
-  pub replyRoom : 3 * length rs ≤ length replies
+  pub replyRoom : replySize * length rs ≤ length replies
 
 pub record AllRan (p : Plan) (rs : List Request) (desk : ℕ) (cells out replies : List ℕ) (words : ℕ)
     (cells′ out′ replies′ : List ℕ) : Type 0 where

@@ -4,6 +4,7 @@ use mathlib.Core.Bool.{Bool, cond}
 use mathlib.Core.List.{List, [], _∷_, _++_}
 use Rattle.plan.specs.Plan.{Plan}
 use Rattle.operation.specs.Run.{Store, Update, Reply, applyUpdate, run}
+use Rattle.queue.specs.Queue.{queueSize}
 use Rattle.queue.specs.declared.record.Request.{Request}
 use Rattle.desk.specs.Queueing.{operationOf}
 
@@ -22,11 +23,21 @@ pub record Answered : Type 0 where
   pub client : ℕ
   pub reply : Reply
 
+abbrev pub answered : ℕ → Reply → Answered
+answered client reply = record { client = client; reply = reply }
+
 unfoldable pub repliesOf : Plan → List Request → Store → List Answered
 repliesOf p [] s = []
 repliesOf p (r ∷ rs) s =
-    record { client = r .client; reply = run p (operationOf r) s .reply } ∷ repliesOf p rs
+    answered (r .client) (run p (operationOf r) s .reply) ∷ repliesOf p rs
     (applyUpdate (run p (operationOf r) s .update) s)
+
+abbrev pub replySize : ℕ
+replySize = 3
+
+-- as many as may wait are answered
+abbrev pub repliesSize : ℕ
+repliesSize = replySize * queueSize
 
 -- "three words each: kind 12 with bit 0 set if done, the client's word, the number"
 abbrev pub replyHead : Bool → ℕ

@@ -9,6 +9,7 @@ use crate::running;
 use crate::visiting::VisitAnswer;
 use crate::visiting::VisitResult;
 use desk::Desk;
+use queue::QUEUE_SIZE;
 use queue::Request;
 use word::fields;
 
@@ -18,7 +19,7 @@ pub(crate) fn visit_passed(
     places: &[usize],
     state: Desk,
     cells: &mut [u32],
-    records: [Request; 32],
+    records: [Request; QUEUE_SIZE],
     frame: &[u32],
     out: &mut [u32],
     replies: &mut [u32],

@@ -8,15 +8,21 @@ ghost use lib.ListN.{length};
 ghost use Rattle.verdict.specs.Verdict.{accepted, verdictOf};
 ghost use Rattle.plan.specs.Admission.{planVerdict};
 ghost use Rattle.plan.specs.Place.{transactionPlaces};
-ghost use Rattle.queue.specs.Queue.{recordsOf};
+ghost use Rattle.queue.specs.Queue.{recordsOf, queueSize};
 ghost use Rattle.queue.specs.declared.record.Request.{Request as Queued};
 ghost use Rattle.passing.specs.Admission.{visitBuffersFit, turnVerdict};
 ghost use Rattle.passing.specs.Visit.{visitResult};
 ghost use Rattle.passing.specs.Core.{openingVerdict, passageVerdict};
 ghost use Rattle.passing.specs.Answer.{visitedOf};
+ghost use Rattle.operation.specs.Run.{storeSize};
+ghost use Rattle.token.specs.Frame.{leastFrame};
 use crate::passed;
+use crate::running;
 use desk::Desk;
+use operation::STORE_SIZE;
+use queue::QUEUE_SIZE;
 use queue::Request;
+use token::LONGEST_FRAME;
 use verdict::Verdict;
 use word::fields;
 
@@ -34,24 +40,24 @@ pub struct VisitResult {
 
 // Question 5.
 fn buffers_fit(cells: &[u32], size: usize, out: &[u32], replies: &[u32]) -> bool
-    ensures { λ r. ⌜ r ≡ ((eqb (length (now (cells .entry))) 1024 && eqb size 32)
+    ensures { λ r. ⌜ r ≡ ((eqb (length (now (cells .entry))) storeSize && eqb size queueSize)
         && visitBuffersFit (now (out .entry)) (now (replies .entry))) ⌝ }
 {
-    if cells.len() != 1024 {
+    if cells.len() != STORE_SIZE {
         return false;
     }
-    if size != 32 {
+    if size != QUEUE_SIZE {
         return false;
     }
-    if out.len() < 6404 {
+    if out.len() < LONGEST_FRAME {
         return false;
     }
-    96 <= replies.len()
+    running::REPLIES_SIZE <= replies.len()
 }
 
 // Questions 13 to 15. The visit and the awaited number are compared in 64 bits.
 fn turn(state: Desk, frame: &[u32]) -> Verdict
-    requires { ⌜ 4 ≤ length (now frame) ⌝ }
+    requires { ⌜ leastFrame ≤ length (now frame) ⌝ }
     ensures { λ r. ⌜ verdictOf r ≡ turnVerdict state (now (frame .entry)) ⌝ }
 {
     let addressed = frame[0] / fields::ADDRESSED % 16;
@@ -93,7 +99,7 @@ fn passage_verdict(
     plan: &[u32],
     places: &[usize],
     state: Desk,
-    records: [Request; 32],
+    records: [Request; QUEUE_SIZE],
     frame: &[u32],
 ) -> Verdict
     requires { ⌜ (planVerdict (now plan) ≡ accepted) × (now places ≡ transactionPlaces (now plan)) ⌝ }
@@ -114,7 +120,7 @@ pub fn visit_core(
     state: Desk,
     cells: &mut [u32],
     size: usize,
-    records: [Request; 32],
+    records: [Request; QUEUE_SIZE],
     frame: &[u32],
     out: &mut [u32],
     replies: &mut [u32],

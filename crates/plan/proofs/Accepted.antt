@@ -13,13 +13,13 @@ use Rattle.lists.specs.Lists.{every}
 use Rattle.lists.proofs.Laws.{and-fst, and-snd}
 use Rattle.word.specs.Field.{headDesks, headTransactions, stepCount}
 use Rattle.plan.specs.Decode.{headOf, transactionsOf, planOf}
-use Rattle.plan.specs.Admission.{hasHead, countsInRange, wellFormed, transactionFormed, stepFormed}
-use Rattle.plan.specs.Admission.{parametersExist, transactionsVerdict, planVerdict}
+use Rattle.plan.specs.Admission.{hasHead, countsInRange, wellFormed, transactionFormed, stepFormed, parametersExist}
+use Rattle.plan.specs.Admission.{transactionsVerdict, planVerdict, longestPlan}
 
 pub record Accepted (ws : List ℕ) : Type 0 where
   -- 1
   pub words-low : 1 ≤ length ws
-  pub words-high : length ws ≤ 417
+  pub words-high : length ws ≤ longestPlan
   -- 2
   pub desks-low : 1 ≤ headDesks (headOf ws)
   pub desks-high : headDesks (headOf ws) ≤ 8
@@ -41,7 +41,7 @@ accepted-gives ws e =
     let transactions = and-snd (leb (headDesks (headOf ws)) 8) _ desks in
     record {
       words-low = leb-true 1 (length ws) (and-fst _ _ (q1 .0));
-      words-high = leb-true (length ws) 417 (and-fst _ _ words);
+      words-high = leb-true (length ws) longestPlan (and-fst _ _ words);
       desks-low = leb-true 1 (headDesks (headOf ws)) (and-fst _ _ (q2 .0));
       desks-high = leb-true (headDesks (headOf ws)) 8 (and-fst _ _ desks);
       transactions-low = leb-true 1 (headTransactions (headOf ws)) (and-fst _ _ transactions);

@@ -1,6 +1,6 @@
 -- Transaction k of an accepted plan stands whole at its place, and decodes to entry k.
 -- Assumes nothing.
-use mathlib.Core.Path.{_≡_, _∙_, sym, ap}
+use mathlib.Core.Path.{_≡_, _∙_, sym, ap, refl}
 use mathlib.Core.Bool.{true, false, false≢true}
 use mathlib.Core.List.{List, [], _∷_}
 use Prim.Native.Nat.{ℕ, zero, suc, _+_, _-_, _≤_, _<_}
@@ -9,8 +9,8 @@ use native.Mathlib.Numerals.{add-one}
 use native.Mathlib.Omega.{arith}
 use mathlib.Core.Logic.{_⊎_, ⊎-elim}
 use lib.Dec.{leb}
-use lib.ListN.{length, getD, take, drop, length-drop}
-use lib.Seq.{drop-drop, getD-drop}
+use lib.ListN.{length, getD, take, drop, length-drop, drop-of-length-le}
+use lib.Seq.{drop-drop, getD-drop, drop-cons}
 use borrow.Author.Tests.{leb-true}
 use Rattle.verdict.specs.Verdict.{accepted}
 use Rattle.lists.specs.Lists.{every}
@@ -20,7 +20,7 @@ use Rattle.plan.specs.Plan.{Transaction, noTransaction, transactionAt}
 use Rattle.plan.specs.Decode.{transactionsOf, planOf, headOf}
 use Rattle.plan.specs.Admission.{wellFormed, transactionFormed, stepFormed, planVerdict}
 use Rattle.plan.specs.Place.{transactionPlace, transactionFrom, StandsAt}
-use Rattle.plan.proofs.Accepted.{accepted-gives}
+use Rattle.plan.proofs.Accepted.{accepted-gives, transaction-count}
 
 pub place-next : (ws : List ℕ) (k : ℕ) → transactionPlace ws (k + 1)
     ≡ transactionPlace ws k + 1 + stepCount (getD ws (transactionPlace ws k) 0)
@@ -92,3 +92,23 @@ module _ (ws : List ℕ) (e : planVerdict ws ≡ accepted) (k : ℕ) (h : k < he
       ∙ sym (getD-drop k (planOf ws .transactions) 0 noTransaction)
       ∙ ap (λ (l : List Transaction). getD l 0 noTransaction)
       (rest-here ws (headTransactions (headOf ws)) k (transactionPlace ws k) h (past-at ws e k (omega arith)))
+
+-- the transactions from k on
+pub transactionsFrom : List ℕ → ℕ → List Transaction
+transactionsFrom ws k = drop k (planOf ws .transactions)
+
+pub transactions-all : (ws : List ℕ) → transactionsFrom ws 0 ≡ planOf ws .transactions
+unfolding transactionsFrom
+transactions-all ws = refl
+
+module _ (ws : List ℕ) (e : planVerdict ws ≡ accepted) (k : ℕ) where
+  pub transactions-cons : k < headTransactions (headOf ws)
+      → transactionsFrom ws k ≡ transactionFrom ws (transactionPlace ws k) ∷ transactionsFrom ws (k + 1)
+  unfolding transactionsFrom
+  transactions-cons h =
+      let l : k < length (planOf ws .transactions) = omega (arith, transaction-count ws e) in
+      rw (add-one k, drop-cons (planOf ws .transactions) k noTransaction l, transaction-is ws e k h)
+
+  pub transactions-none : headTransactions (headOf ws) ≤ k → transactionsFrom ws k ≡ []
+  unfolding transactionsFrom
+  transactions-none h = drop-of-length-le (planOf ws .transactions) {i = k} (omega (arith, transaction-count ws e))

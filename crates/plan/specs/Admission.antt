@@ -11,9 +11,13 @@ use Rattle.word.specs.Reserved.{sourceField, reservedZero}
 use Rattle.plan.specs.Plan.{Source, param, fixed, Step, cell, operand, Partitioning, byParam, unpartitioned, Transaction}
 use Rattle.plan.specs.Decode.{headOf, transactionsOf}
 
+-- "words in the plan (at most 417)"
+abbrev pub longestPlan : ℕ
+longestPlan = 417
+
 -- 1: "Has the plan a head word of kind 1 whose count is the words handed in, 1–417?"
 unfoldable pub hasHead : List ℕ → Bool
-hasHead ws = leb 1 (length ws) && (leb (length ws) 417 && (eqb (kindOf (headOf ws)) 1 && eqb (headWords (headOf ws)) (length ws)))
+hasHead ws = leb 1 (length ws) && (leb (length ws) longestPlan && (eqb (kindOf (headOf ws)) 1 && eqb (headWords (headOf ws)) (length ws)))
 
 -- 2: "Are desks and transactions in range?"
 unfoldable pub countsInRange : ℕ → Bool

@@ -1,4 +1,4 @@
--- Where a transaction stands among the words of a plan.
+-- Where a transaction and its steps stand among the words of a plan.
 use Prim.Native.Nat.{ℕ, zero, suc, _+_, _≤_}
 use mathlib.Core.Path.{_≡_}
 use mathlib.Core.Bool.{true, cond}
@@ -24,8 +24,15 @@ transactionPlaces ws = tabulate 32 (λ k. cond (ltb k (headTransactions (headOf 
 abbrev pub transactionFrom : List ℕ → ℕ → Transaction
 transactionFrom ws at = transactionOf (getD ws at 0) (drop (at + 1) ws)
 
+-- how many steps it has, and the word of its step s
+abbrev pub stepsAt : List ℕ → ℕ → ℕ
+stepsAt ws at = stepCount (getD ws at 0)
+
+abbrev pub stepWord : List ℕ → ℕ → ℕ → ℕ
+stepWord ws at s = getD ws (at + 1 + s) 0
+
 -- a well-formed transaction stands at `at`, whole
 pub record StandsAt (ws : List ℕ) (at : ℕ) : Type 0 where
-  pub room : at + 1 + stepCount (getD ws at 0) ≤ length ws
+  pub room : at + 1 + stepsAt ws at ≤ length ws
   pub form : transactionFormed (getD ws at 0) ≡ true
-  pub steps : every stepFormed (take (stepCount (getD ws at 0)) (drop (at + 1) ws)) ≡ true
+  pub steps : every stepFormed (take (stepsAt ws at) (drop (at + 1) ws)) ≡ true

@@ -1,8 +1,10 @@
-// Plans: the plan reader (questions 1 to 4), and where a transaction stands.
+// Plans: the plan reader (questions 1 to 4), and where a transaction and its steps stand.
 mod form;
 mod place;
 mod reader;
 
+pub use place::step_count;
+pub use place::step_word;
 pub use place::transaction_place;
 pub use place::transaction_places;
 pub use place::word_at;

@@ -5,6 +5,10 @@ use mathlib.Core.List.{List, [], _∷_, _++_}
 use lib.ListN.{getD, take, replicate}
 use Rattle.queue.specs.declared.record.Request.{Request}
 
+-- "a lent row of 32 records"
+abbrev pub queueSize : ℕ
+queueSize = 32
+
 -- the record of zeros: what is read where the queue has no record
 abbrev pub noRequest : Request
 noRequest = record { client = 0; transaction = 0; p0 = 0; p1 = 0; p2 = 0; p3 = 0 }
@@ -17,6 +21,6 @@ paramsOf r = r .p0 ∷ r .p1 ∷ r .p2 ∷ r .p3 ∷ []
 abbrev pub recordAt : List Request → ℕ → Request
 recordAt queue at = getD queue at noRequest
 
--- "a lent row of 32 records": the first 32 of a queue of any length, blank where it has none
+-- the first 32 of a queue of any length, blank where it has none
 abbrev pub recordsOf : List Request → List Request
-recordsOf queue = take 32 (queue ++ replicate 32 noRequest)
+recordsOf queue = take queueSize (queue ++ replicate queueSize noRequest)

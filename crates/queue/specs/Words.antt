@@ -11,26 +11,33 @@ use lib.Dec.{eqb, ltb}
 use lib.ListN.{length, getD, set}
 use Rattle.lists.specs.Lists.{tabulate}
 use Rattle.queue.specs.declared.record.Request.{Request}
+use Rattle.queue.specs.Queue.{queueSize}
+
+abbrev pub recordSize : ℕ
+recordSize = 6
+
+abbrev pub queueWords : ℕ
+queueWords = recordSize * queueSize
 
 -- the record at a place
 abbrev pub recordIn : List ℕ → ℕ → Request
 recordIn ws at =
     record {
-      client = getD ws (at * 6) 0;
-      transaction = getD ws (at * 6 + 1) 0;
-      p0 = getD ws (at * 6 + 2) 0;
-      p1 = getD ws (at * 6 + 3) 0;
-      p2 = getD ws (at * 6 + 4) 0;
-      p3 = getD ws (at * 6 + 5) 0;
+      client = getD ws (at * recordSize) 0;
+      transaction = getD ws (at * recordSize + 1) 0;
+      p0 = getD ws (at * recordSize + 2) 0;
+      p1 = getD ws (at * recordSize + 3) 0;
+      p2 = getD ws (at * recordSize + 4) 0;
+      p3 = getD ws (at * recordSize + 5) 0;
     }
 
 -- 32 records, one after the other
 abbrev pub recordsIn : List ℕ → List Request
-recordsIn ws = tabulate 32 (recordIn ws)
+recordsIn ws = tabulate queueSize (recordIn ws)
 
 -- "a lent row of 32 records": other words than 192 are no row, which question 5 refuses as it refuses an empty one
 unfoldable pub queueIn : List ℕ → List Request
-queueIn ws = cond (eqb (length ws) 192) (recordsIn ws) []
+queueIn ws = cond (eqb (length ws) queueWords) (recordsIn ws) []
 
 -- the six words of a record from word i on
 abbrev pub overRecord : List ℕ → ℕ → Request → List ℕ
@@ -40,8 +47,8 @@ overRecord ws i r =
 
 -- a record stored at a place of a row; past its end, or in what is no row, nothing changes
 unfoldable pub storedIn : List ℕ → ℕ → Request → List ℕ
-storedIn ws at r = cond (eqb (length ws) 192 && ltb at 32) (overRecord ws (at * 6) r) ws
+storedIn ws at r = cond (eqb (length ws) queueWords && ltb at queueSize) (overRecord ws (at * recordSize) r) ws
 
 -- what is no row is as before, and no word is added or lost
 abbrev pub KeptUnlessRow : List ℕ → List ℕ → Type 0
-KeptUnlessRow before after = (length after ≡ length before) × (eqb (length before) 192 ≡ false → after ≡ before)
+KeptUnlessRow before after = (length after ≡ length before) × (eqb (length before) queueWords ≡ false → after ≡ before)

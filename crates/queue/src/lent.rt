@@ -2,6 +2,7 @@
 ghost use mathlib.Core.Path.{_≡_};
 ghost use lib.ListN.{length, set};
 ghost use Rattle.queue.specs.Queue.{recordAt, recordsOf};
+use crate::record::QUEUE_SIZE;
 use crate::record::Request;
 use crate::record::blank;
 use crate::record::blanks;
@@ -33,12 +34,12 @@ pub fn store(queue: &mut [Request], at: usize, request: Request)
 }
 
 // The first 32 records, blank where there is none.
-pub fn copied(queue: &[Request]) -> [Request; 32]
+pub fn copied(queue: &[Request]) -> [Request; QUEUE_SIZE]
     ensures { λ r. ⌜ r ≡ recordsOf (now (queue .entry)) ⌝ }
 {
     let mut records = blanks();
     let mut at: usize = 0;
-    while at < 32 {
+    while at < QUEUE_SIZE {
         records[at] = load(queue, at);
         at += 1;
     }

@@ -7,6 +7,8 @@ pub use lent::copied;
 pub use lent::len;
 pub use lent::load;
 pub use lent::store;
+pub use record::MOST_WAITING;
+pub use record::QUEUE_SIZE;
 pub use record::Request;
 pub use record::blank;
 pub use record::blanks;

@@ -1,7 +1,12 @@
 // A waiting record: the client's word, the transaction and four parameters.
 ghost use mathlib.Core.Path.{_≡_};
 ghost use lib.ListN.{replicate};
-ghost use Rattle.queue.specs.Queue.{noRequest, paramsOf};
+ghost use Rattle.queue.specs.Queue.{queueSize, noRequest, paramsOf};
+
+// The records of a queue, and as many as may wait.
+pub const QUEUE_SIZE: usize = 32;
+
+pub const MOST_WAITING: u32 = QUEUE_SIZE as u32;
 
 pub struct Request {
     pub client: u32,
@@ -33,9 +38,9 @@ pub fn blank() -> Request
     }
 }
 
-pub fn blanks() -> [Request; 32]
-    ensures { λ r. ⌜ r ≡ replicate 32 noRequest ⌝ }
+pub fn blanks() -> [Request; QUEUE_SIZE]
+    ensures { λ r. ⌜ r ≡ replicate queueSize noRequest ⌝ }
 {
     let none = blank();
-    [none; 32]
+    [none; QUEUE_SIZE]
 }

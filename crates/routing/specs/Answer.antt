@@ -1,7 +1,6 @@
 -- What each answer to a request says in the paper's numbers and values.
 use Prim.Native.Nat.{ℕ}
 use mathlib.Core.List.{List}
-use Rattle.operation.specs.Answer.{replyOf}
 use Rattle.queue.specs.declared.record.Request.{Request}
 use Rattle.routing.specs.declared.asking.RequestAnswer.{RequestAnswer}
 use Rattle.routing.specs.declared.asking.RequestAnswer.the-variants as request
@@ -9,7 +8,7 @@ use Rattle.routing.specs.declared.asking.RequestResult.{RequestResult}
 use Rattle.routing.specs.Request as asked
 
 abbrev pub responseOf : RequestAnswer → asked.Response
-responseOf (request.Replied reply) = asked.replied (replyOf reply)
+responseOf (request.Replied reply) = asked.replied reply
 responseOf request.Waits = asked.waits
 responseOf (request.Elsewhere d) = asked.redirected d
 responseOf (request.Refused question) = asked.isRefused question

@@ -16,6 +16,7 @@ use Rattle.queue.specs.declared.record.Request.{Request}
 use Rattle.desk.specs.declared.state.Desk.{Desk}
 use Rattle.desk.specs.Queueing.{operationOf}
 use Rattle.desk.specs.Admission.{deskBuffersFit, deskStands}
+use Rattle.queue.specs.Queue.{queueSize}
 
 -- replied (done or declined, with the number), waiting, elsewhere with the operation's desk, or refused with the question's number
 pub data Response : Type 0 where
@@ -60,7 +61,7 @@ module _ (d : Desk) (cells : List ℕ) (queue : List Request) where
   routed local true p r = ranNow p (operationOf r)
   routed local false p r = unchanged (redirected (deskOf p (operationOf r)))
   -- 9: "For a global request at its desk: do fewer than 32 wait?"
-  routed global true p r = cond (ltb (d .waiting) 32) (enqueued r) (unchanged (isRefused 9))
+  routed global true p r = cond (ltb (d .waiting) queueSize) (enqueued r) (unchanged (isRefused 9))
   routed global false p r = unchanged (redirected (deskOf p (operationOf r)))
 
   abbrev pub served : Verdict → Plan → Request → Requested

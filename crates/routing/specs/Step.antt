@@ -11,6 +11,8 @@ use Rattle.queue.specs.declared.record.Request.{Request}
 use Rattle.routing.specs.declared.asking.RequestStep.{RequestStep}
 use Rattle.routing.specs.Request.{Requested}
 use Rattle.routing.specs.Answer.{requestedOf}
+use Rattle.operation.specs.Run.{storeSize}
+use Rattle.queue.specs.Queue.{queueSize}
 
 -- what a step comes to, with the store that it left and the queue that its record is stored into
 abbrev pub steppedOf : RequestStep → List ℕ → List Request → Requested
@@ -18,4 +20,4 @@ steppedOf s cells queue = requestedOf (s .result) cells (set queue (s .place) (s
 
 -- questions 1 to 5
 unfoldable pub openingVerdict : List ℕ → List ℕ → ℕ → Verdict
-openingVerdict ws cells size = planVerdict ws then ask 5 (eqb (length cells) 1024 && eqb size 32)
+openingVerdict ws cells size = planVerdict ws then ask 5 (eqb (length cells) storeSize && eqb size queueSize)

@@ -12,7 +12,7 @@ ghost use Rattle.plan.specs.Place.{transactionPlaces};
 ghost use Rattle.operation.specs.Operation.{deskOf};
 ghost use Rattle.operation.specs.Admission.{operationVerdict};
 ghost use Rattle.conflict.specs.Class.{classOf};
-ghost use Rattle.queue.specs.Queue.{recordsOf};
+ghost use Rattle.queue.specs.Queue.{recordsOf, queueSize};
 ghost use Rattle.queue.specs.declared.record.Request.{Request as Queued};
 ghost use Rattle.desk.specs.Queueing.{operationOf};
 ghost use Rattle.routing.specs.Request.{isRefused, unchanged, ranNow, enqueued, routed, served, recordOf, requestResult};
@@ -25,6 +25,9 @@ use desk::Desk;
 use desk::DeskCheck;
 use desk::Located;
 use operation::Reply;
+use operation::STORE_SIZE;
+use queue::MOST_WAITING;
+use queue::QUEUE_SIZE;
 use queue::Request;
 use verdict::Verdict;
 
@@ -85,10 +88,10 @@ fn run_step(
 // Question 9; then the request waits, behind those that wait.
 fn wait_step(state: Desk, size: usize, request: Request) -> RequestStep
     ensures { λ r. ⌜ ((cells : List ℕ) (queue : List Queued) → length queue ≡ size → steppedOf r cells queue
-        ≡ cond (ltb (state .waiting) 32) (enqueued state cells queue request) (unchanged state cells queue (isRefused 9))) ⌝ }
+        ≡ cond (ltb (state .waiting) queueSize) (enqueued state cells queue request) (unchanged state cells queue (isRefused 9))) ⌝ }
 {
     let waiting = state.waiting;
-    if 32 <= waiting {
+    if MOST_WAITING <= waiting {
         return unchanged_step(RequestAnswer::Refused(9), state, size, request);
     }
     let after = Desk {
@@ -164,10 +167,10 @@ fn opening_verdict(plan: &[u32], cells: &[u32], size: usize) -> Verdict
     if let Verdict::Refused(question) = plan::read_plan(plan) {
         return Verdict::Refused(question);
     }
-    if cells.len() != 1024 {
+    if cells.len() != STORE_SIZE {
         return Verdict::Refused(5);
     }
-    if size != 32 {
+    if size != QUEUE_SIZE {
         return Verdict::Refused(5);
     }
     Verdict::Accepted
@@ -179,7 +182,7 @@ fn request_core(
     state: Desk,
     cells: &mut [u32],
     size: usize,
-    records: [Request; 32],
+    records: [Request; QUEUE_SIZE],
     request: Request,
 ) -> RequestStep
     ensures { λ r. ⌜ ((queue : List Queued) → length queue ≡ size → recordsOf queue ≡ records
@@ -202,7 +205,7 @@ pub fn request_step(
     state: Desk,
     cells: &mut [u32],
     size: usize,
-    records: [Request; 32],
+    records: [Request; QUEUE_SIZE],
     client: u32,
     transaction: u32,
     params: [u32; 4],

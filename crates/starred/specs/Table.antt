@@ -8,16 +8,18 @@ use Rattle.plan.specs.Decode.{planOf}
 use Rattle.plan.specs.Admission.{planVerdict}
 use Rattle.operation.specs.Operation.{operation, writeSet}
 use Rattle.operation.specs.Admission.{operationVerdict}
-use Rattle.token.specs.Frame.{SentUpdate, sent, startingFrame}
+use Rattle.token.specs.Frame.{SentUpdate, sent, startingFrame, longestFrame}
 use Rattle.token.specs.Admission.{readVerdict, updatesFrom}
 use Rattle.token.specs.Answer.{VisitRead, visitNumber, refusal, visitRead, partRead, startVerdict, startWords}
-use Rattle.queue.specs.Queue.{noRequest}
+use Rattle.queue.specs.Queue.{noRequest, queueSize}
 use Rattle.queue.specs.declared.record.Request.{Request}
 use Rattle.desk.specs.declared.state.Desk.{Desk}
 use Rattle.routing.specs.Request.{recordOf}
-use Rattle.passing.specs.Visit as passing
 use Rattle.passing.specs.Visit.{visitResult}
 use Rattle.conflict.specs.Answer.{Classified, isFree, isLocal, isGlobal, isRefused, classifyResult}
+use Rattle.operation.specs.Run.{storeSize}
+use Rattle.passing.specs.Waiting.{replySize, repliesSize}
+use Rattle.passing.specs.Visit as passing
 
 -- "Plan P: 1204000B 22200000 52000000 40000000 22200000 52000000 42700000 21100000 32700000 201F0000 34700000."
 abbrev pub planP : List ℕ
@@ -73,13 +75,13 @@ pub data Result : Type 0 where
   visited : List Left → Result
 
 abbrev shown : passing.Visited → Left
-shown v = left (v .answer) (v .state) (take 7 (v .out)) (take 3 (v .replies))
+shown v = left (v .answer) (v .state) (take 7 (v .out)) (take replySize (v .replies))
 
 -- "State, book and row pass from call to call at their desk": each visit runs on what the one before left
 abbrev visitsFrom : List Request → Desk → List ℕ → List (List ℕ) → List Left
 visitsFrom queue d store [] = []
 visitsFrom queue d store (ws ∷ frames) =
-    let v = visitResult planP d store queue ws (replicate 6404 0) (replicate 96 0) in
+    let v = visitResult planP d store queue ws (replicate longestFrame 0) (replicate repliesSize 0) in
     shown v ∷ visitsFrom queue (v .state) (v .cells) frames
 
 abbrev pub resultOf : Input → Result
@@ -90,7 +92,7 @@ resultOf (cellsWritten k ps) = cells (writeSet (planOf planP) (operation k ps))
 resultOf (startFrame out) = started (startVerdict out) (startWords out)
 resultOf (readFrame ws) = frame (visitRead (readVerdict planP ws) ws) (updatesFrom 0 (partRead (readVerdict planP ws) ws))
 resultOf (visits d waiting frames) =
-    visited (visitsFrom (waiting ++ replicate (32 - length waiting) noRequest) d (replicate 1024 0) frames)
+    visited (visitsFrom (waiting ++ replicate (queueSize - length waiting) noRequest) d (replicate storeSize 0) frames)
 
 pub record Row : Type 0 where
   pub input : Input

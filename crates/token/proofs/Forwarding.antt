@@ -4,6 +4,7 @@
 --     forward-head, forward-cell       past the word of another desk's update, past a cell of it and its value
 --     forward-own, forward-past        the same of an update of the desk's own
 --     forward-more     a cell's value stands behind its word
+--     head-room, cell-room             there is room for the word of another desk's update, and for a cell of it and its value
 -- Assumes nothing.
 use mathlib.Core.Path.{_≡_, refl, _∙_, sym, ap, subst}
 use mathlib.Core.Bool.{Bool, true, false, not, cond}
@@ -14,7 +15,7 @@ use lib.Dec.{eqb, leb}
 use lib.ListN.{length, getD, set, drop, drop-of-length-le}
 use borrow.Author.Tests.{leb-true, leb-false, not-true, not-false}
 use Rattle.lists.specs.Lists.{overwritten}
-use Rattle.lists.proofs.Laws.{drop-here, Filling, fill-none, fill-same, fill-word, fill-done}
+use Rattle.lists.proofs.Laws.{drop-here, Filling, fill-none, fill-size, fill-length, fill-same, fill-word, fill-done}
 use Rattle.word.specs.Field.{updateDesk, cellCount, cellField}
 use Rattle.operation.specs.Run.{Store, applyUpdate}
 use Rattle.token.specs.Frame.{updateHead, cellWord, writeWords, updateWords, updatesWords}
@@ -121,6 +122,9 @@ unfolding Reads applies coming writesFrom writeWords
 forward-start desk ws s o r = record { stands = record { reads = r; store = refl; words = fill-none (foreignWords desk ws) o } }
 
 module _ {desk : ℕ} {ws s₀ o s t : List ℕ} {kept : Bool} {left end i : ℕ} (f : Forwarded desk ws s₀ o s t kept left end i) where
+  pub forward-length : length (foreignWords desk ws) ≤ length o → length t ≡ length o
+  forward-length = fill-length (f .stands .words)
+
   pub forward-end : length ws ≤ i
       → (s ≡ applyAll (foreign desk (updatesFrom 0 ws)) s₀) × (end ≡ length (foreignWords desk ws))
       × (t ≡ overwritten (foreignWords desk ws) o)
@@ -156,23 +160,32 @@ module _ {desk : ℕ} {ws s₀ o s t : List ℕ} {kept : Bool} {left end i : ℕ
           };
         })
 
-    pub forward-head : left ≡ 0 → not (eqb (updateDesk (getD ws i 0)) desk) ≡ true → end < length o
-        → Forwarded desk ws s₀ o s (set t end (getD ws i 0)) (not (eqb (updateDesk (getD ws i 0)) desk)) (cellCount (getD ws i 0))
-        (end + 1) (i + 1)
-    forward-head z e room =
-        let w = getD ws i 0 in
-        let rest = drop (i + 1) ws in
-        let other = not-true (eqb (updateDesk w) desk) e in
-        let g = at-head z in
-        let r = head-reads w rest (g .reads) in
-        rw e
-        (record {
-          stands = record {
-            reads = r .0;
-            store = sym (head-applies w rest desk s kept false other) ∙ g .store;
-            words = fill-word (fill-same (g .words) (head-coming w rest desk kept other (r .1))) room;
-          };
-        })
+    module _ (room : length (foreignWords desk ws) ≤ length o) (z : left ≡ 0) (e : not (eqb (updateDesk (getD ws i 0)) desk) ≡ true) where
+      head-words : Filling (foreignWords desk ws) o t end (getD ws i 0 ∷ coming desk true (cellCount (getD ws i 0)) (drop (i + 1) ws))
+      head-words =
+          let w = getD ws i 0 in
+          let rest = drop (i + 1) ws in
+          let g = at-head z in
+          fill-same (g .words)
+          (head-coming w rest desk kept (not-true (eqb (updateDesk w) desk) e) (head-reads w rest (g .reads) .1))
+
+      pub head-room : end < length t
+      head-room = omega (arith, fill-size head-words, forward-length room)
+
+      pub forward-head : Forwarded desk ws s₀ o s (set t end (getD ws i 0)) (not (eqb (updateDesk (getD ws i 0)) desk))
+          (cellCount (getD ws i 0)) (end + 1) (i + 1)
+      forward-head =
+          let w = getD ws i 0 in
+          let rest = drop (i + 1) ws in
+          let g = at-head z in
+          rw e
+          (record {
+            stands = record {
+              reads = head-reads w rest (g .reads) .0;
+              store = sym (head-applies w rest desk s kept false (not-true (eqb (updateDesk w) desk) e)) ∙ g .store;
+              words = fill-word head-words (omega (arith, fill-size head-words));
+            };
+          })
 
     pub forward-more : (left ≡ 0 → ⊥) → i + 1 < length ws
     forward-more z = by-more (leb (length ws) (i + 1)) refl
@@ -204,21 +217,34 @@ module _ {desk : ℕ} {ws s₀ o s t : List ℕ} {kept : Bool} {left end i : ℕ
             };
           })
 
-      pub forward-cell : kept ≡ true → end + 1 < length o
-          → Forwarded desk ws s₀ o (set s (cellField (getD ws i 0)) (getD ws (i + 1) 0))
-          (set (set t end (getD ws i 0)) (end + 1) (getD ws (i + 1) 0)) kept (left - 1) (end + 2) (i + 1 + 1)
-      forward-cell e room =
-          let w = getD ws i 0 in
-          let v = getD ws (i + 1) 0 in
-          let rest = drop (i + 1 + 1) ws in
-          let g = subst (λ (b : Bool). Stands desk ws s₀ o s t b (suc (left - 1)) end (w ∷ v ∷ rest)) e at-value in
-          let r = cell-reads w v (left - 1) rest (g .reads) in
-          let two : end + 1 + 1 ≡ end + 2 = omega arith in
-          rw (e, ← two)
-          (record {
-            stands = record {
-              reads = r .0;
-              store = sym (cell-applies w v (left - 1) rest desk s true) ∙ g .store;
-              words = fill-word (fill-word (fill-same (g .words) (cell-coming w v (left - 1) rest desk (r .1))) (omega arith)) room;
-            };
-          })
+      module _ (room : length (foreignWords desk ws) ≤ length o) (e : kept ≡ true) where
+        kept-here : Stands desk ws s₀ o s t true (suc (left - 1)) end (getD ws i 0 ∷ getD ws (i + 1) 0 ∷ drop (i + 1 + 1) ws)
+        kept-here = rw e at at-value
+
+        cell-words : Filling (foreignWords desk ws) o t end
+            (getD ws i 0 ∷ getD ws (i + 1) 0 ∷ coming desk true (left - 1) (drop (i + 1 + 1) ws))
+        cell-words =
+            let w = getD ws i 0 in
+            let v = getD ws (i + 1) 0 in
+            let rest = drop (i + 1 + 1) ws in
+            fill-same (kept-here .words) (cell-coming w v (left - 1) rest desk (cell-reads w v (left - 1) rest (kept-here .reads) .1))
+
+        pub cell-room : end + 1 < length t
+        cell-room = omega (arith, fill-size cell-words, forward-length room)
+
+        pub forward-cell : Forwarded desk ws s₀ o (set s (cellField (getD ws i 0)) (getD ws (i + 1) 0))
+            (set (set t end (getD ws i 0)) (end + 1) (getD ws (i + 1) 0)) kept (left - 1) (end + 2) (i + 1 + 1)
+        forward-cell =
+            let w = getD ws i 0 in
+            let v = getD ws (i + 1) 0 in
+            let rest = drop (i + 1 + 1) ws in
+            let two : end + 1 + 1 ≡ end + 2 = omega arith in
+            let size = fill-size cell-words in
+            rw (e, ← two)
+            (record {
+              stands = record {
+                reads = cell-reads w v (left - 1) rest (kept-here .reads) .0;
+                store = sym (cell-applies w v (left - 1) rest desk s true) ∙ kept-here .store;
+                words = fill-word (fill-word cell-words (omega arith)) (omega arith);
+              };
+            })

@@ -13,7 +13,7 @@ use Rattle.verdict.specs.Verdict.{accepted}
 use Rattle.lists.proofs.Laws.{and-fst, and-snd, and-true}
 use Rattle.word.specs.Field.{kindOf, addressedDesk, frameLength}
 use Rattle.plan.specs.Decode.{headOf}
-use Rattle.token.specs.Frame.{SentUpdate, frameHead, writeWords, updatesWords, sumsOf, frameAround, frameWords}
+use Rattle.token.specs.Frame.{SentUpdate, frameHead, writeWords, updatesWords, sumsOf, frameAround, frameWords, longestFrame}
 use Rattle.token.specs.Admission.{frameVisit, updatesPart, writesFrom, updatesFrom, frameUpdates, frameHeaded, sumsRight}
 use Rattle.token.specs.Admission.{wellFormed, fewPerDesk, updatesAdmitted, updatesRight, frameVerdict, ReadsAs}
 use Rattle.token.specs.WellFormed.{WellFormed}
@@ -94,7 +94,7 @@ module _ (n v : ℕ) (us : List SentUpdate) (low : 1 ≤ n) (high : n ≤ 8) (f 
   desk-fits : v % n < 16
   desk-fits = omega (arith, mod-lt v low)
 
-  body-length : length body + 4 ≤ 6404
+  body-length : length body + 4 ≤ longestFrame
   unfolding body
   body-length = omega (arith, updates-length n us high f)
 
@@ -108,7 +108,7 @@ module _ (n v : ℕ) (us : List SentUpdate) (low : 1 ≤ n) (high : n ≤ 8) (f 
       let fits : length body + 4 < 2 ^ 16 = omega (arith, body-length) in
       let l = frame-length in
       and-true _ _ (le-leb 4 (length frame) (omega arith))
-      (and-true _ _ (le-leb (length frame) 6404 (omega (arith, body-length)))
+      (and-true _ _ (le-leb (length frame) longestFrame (omega (arith, body-length)))
       (and-true _ _ (eq-eqb (kindOf head) 9 (head-kind (v % n) (length body + 4) desk-fits fits))
       (and-true _ _ (head-zero (v % n) (length body + 4) desk-fits fits)
       (eq-eqb (frameLength head) (length frame) (head-length (v % n) (length body + 4) desk-fits fits ∙ sym l)))))

@@ -16,11 +16,12 @@ use Rattle.plan.specs.Decode.{headOf, planOf}
 use Rattle.plan.specs.Admission.{planVerdict}
 use Rattle.plan.proofs.Accepted.{accepted-gives}
 use Rattle.token.specs.Admission.{frameHeaded, sumsRight, updatesRight, frameVerdict, readVerdict}
+use Rattle.token.specs.Frame.{longestFrame}
 
 -- 10
 pub record Headed (ws : List ℕ) : Type 0 where
   pub low : 4 ≤ length ws
-  pub high : length ws ≤ 6404
+  pub high : length ws ≤ longestFrame
   pub kind : kindOf (headOf ws) ≡ 9
   pub zeros : reservedZero (headOf ws) ≡ true
   pub count : frameLength (headOf ws) ≡ length ws
@@ -29,11 +30,11 @@ pub headed : (ws : List ℕ) → frameHeaded ws ≡ true → Headed ws
 unfolding frameHeaded
 headed ws e =
     let high = and-snd (leb 4 (length ws)) _ e in
-    let kind = and-snd (leb (length ws) 6404) _ high in
+    let kind = and-snd (leb (length ws) longestFrame) _ high in
     let zeros = and-snd (eqb (kindOf (headOf ws)) 9) _ kind in
     record {
       low = leb-true 4 (length ws) (and-fst _ _ e);
-      high = leb-true (length ws) 6404 (and-fst _ _ high);
+      high = leb-true (length ws) longestFrame (and-fst _ _ high);
       kind = eqb-true (kindOf (headOf ws)) 9 (and-fst _ _ kind);
       zeros = and-fst (reservedZero (headOf ws)) _ zeros;
       count = eqb-true (frameLength (headOf ws)) (length ws) (and-snd (reservedZero (headOf ws)) _ zeros);

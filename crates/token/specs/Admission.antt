@@ -12,7 +12,7 @@ use Rattle.word.specs.Reserved.{reservedZero}
 use Rattle.plan.specs.Decode.{headOf, planOf}
 use Rattle.plan.specs.Admission.{planVerdict}
 use Rattle.operation.specs.Run.{Update}
-use Rattle.token.specs.Frame.{SentUpdate, sent, sumsOf}
+use Rattle.token.specs.Frame.{SentUpdate, sent, sumsOf, leastFrame, longestFrame}
 
 -- ---- what the words stand for. Every list decodes to something; whether it is well formed is question 12
 
@@ -22,7 +22,7 @@ frameVisit ws = getD ws 1 0
 
 -- "the part of it that holds the updates": between word 1 and the sums
 abbrev pub updatesPart : List ℕ → List ℕ
-updatesPart ws = take (length ws - 4) (drop 2 ws)
+updatesPart ws = take (length ws - leastFrame) (drop 2 ws)
 
 -- the first `left` cells, each with its value
 unfoldable pub writesFrom : ℕ → List ℕ → Update
@@ -42,6 +42,10 @@ updatesFrom (suc left) (w ∷ v ∷ ws) = updatesFrom left ws
 abbrev pub frameUpdates : List ℕ → List SentUpdate
 frameUpdates ws = updatesFrom 0 (updatesPart ws)
 
+-- "at most 32 updates per desk"
+abbrev pub updatesPerDesk : ℕ
+updatesPerDesk = 32
+
 -- how many of the updates are of this desk
 unfoldable pub deskCount : ℕ → List SentUpdate → ℕ
 deskCount d [] = 0
@@ -52,7 +56,7 @@ deskCount d (u ∷ us) = cond (eqb (u .desk) d) 1 0 + deskCount d us
 -- 10: "Is the frame 4–6,404 words, and word 0 of kind 9 with its zero bits and with the words handed in as its count?"
 unfoldable pub frameHeaded : List ℕ → Bool
 frameHeaded ws =
-    leb 4 (length ws) && (leb (length ws) 6404 && (eqb (kindOf (headOf ws)) 9 && (reservedZero (headOf ws)
+    leb leastFrame (length ws) && (leb (length ws) longestFrame && (eqb (kindOf (headOf ws)) 9 && (reservedZero (headOf ws)
     && eqb (frameLength (headOf ws)) (length ws))))
 
 -- 11: "Are both sums right?"
@@ -80,7 +84,7 @@ wellFormed n (suc left) (w ∷ v ∷ ws) = cellFormed w && wellFormed n left ws
 
 -- 12: "at most 32 updates per desk"
 unfoldable pub fewPerDesk : List SentUpdate → Bool
-fewPerDesk us = every (λ u. leb (deskCount (u .desk) us) 32) us
+fewPerDesk us = every (λ u. leb (deskCount (u .desk) us) updatesPerDesk) us
 
 abbrev pub updatesAdmitted : ℕ → List ℕ → Bool
 updatesAdmitted n body = wellFormed n 0 body && fewPerDesk (updatesFrom 0 body)

@@ -5,7 +5,7 @@ use lib.Dec.{leb}
 use lib.ListN.{length}
 use Rattle.verdict.specs.Verdict.{Verdict, ask, ifAccepted}
 use Rattle.lists.specs.Lists.{overwritten}
-use Rattle.token.specs.Frame.{startingFrame}
+use Rattle.token.specs.Frame.{startingFrame, leastFrame}
 use Rattle.token.specs.Admission.{updatesPart, frameVisit}
 use Rattle.token.specs.declared.reader.VisitAnswer.{VisitAnswer}
 use Rattle.token.specs.declared.reader.VisitAnswer.the-variants as visit
@@ -28,7 +28,7 @@ visitOf (visit.Refused question) = refusal question
 
 -- 5: "Are buffers fit: .. for the starting frame at least 4?" "Starting frame: 5 alone."
 abbrev pub startVerdict : List ℕ → Verdict
-startVerdict out = ask 5 (leb 4 (length out))
+startVerdict out = ask 5 (leb leastFrame (length out))
 
 -- the outgoing words behind the call: a refusal changes nothing
 abbrev pub startWords : List ℕ → List ℕ

@@ -5,6 +5,13 @@ use lib.ListN.{length, take, drop}
 use Rattle.lists.specs.Lists.{overwritten}
 use Rattle.operation.specs.Run.{Update}
 
+-- "words in the frame (4–6,404)": the least are those of a frame with no update
+abbrev pub leastFrame : ℕ
+leastFrame = 4
+
+abbrev pub longestFrame : ℕ
+longestFrame = 6404
+
 -- an update as a frame carries it: the desk whose operation made it, and the cells and values that it wrote
 pub record SentUpdate : Type 0 where
   pub desk : ℕ
@@ -60,7 +67,7 @@ sealed ws = ws ++ (sumsOf ws .0 ∷ sumsOf ws .1 ∷ [])
 
 -- a frame to this desk, of this visit, around the words of the updates: the head counts these, itself, the visit and the two sums
 unfoldable pub frameAround : ℕ → ℕ → List ℕ → List ℕ
-frameAround desk visit body = sealed (frameHead desk (length body + 4) ∷ visit ∷ body)
+frameAround desk visit body = sealed (frameHead desk (length body + leastFrame) ∷ visit ∷ body)
 
 -- "Visit v belongs to desk v modulo n, n being the desks."
 abbrev pub frameWords : ℕ → ℕ → List SentUpdate → List ℕ

@@ -7,11 +7,12 @@ use lib.ListN.{length}
 use lib.Dec.{ltb, leb}
 use Rattle.lists.specs.Lists.{every}
 use Rattle.token.specs.Frame.{SentUpdate}
-use Rattle.token.specs.Admission.{deskCount}
+use Rattle.token.specs.Admission.{deskCount, updatesPerDesk}
+use Rattle.operation.specs.Run.{storeSize}
 
 -- "A book is 1,024 words, one per cell."
 abbrev pub cellFits : ℕ × ℕ → Bool
-cellFits w = ltb (w .0) 1024
+cellFits w = ltb (w .0) storeSize
 
 -- "desks below n", cells 0–12
 abbrev pub updateFits : ℕ → SentUpdate → Bool
@@ -20,4 +21,4 @@ updateFits n u = ltb (u .desk) n && (leb (length (u .writes)) 12 && every cellFi
 -- "at most 32 updates per desk"
 pub record WellFormed (n : ℕ) (us : List SentUpdate) : Type 0 where
   pub each : every (updateFits n) us ≡ true
-  pub perDesk : (d : ℕ) → deskCount d us ≤ 32
+  pub perDesk : (d : ℕ) → deskCount d us ≤ updatesPerDesk

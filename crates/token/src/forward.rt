@@ -21,7 +21,7 @@ fn put_value(cells: &mut [u32], cell: usize, value: u32)
 // Applies the others' updates in these words to the store, copies their words to the front of the outgoing words, and answers how many
 // words it wrote. `left` cells of the latest update are still to come, and `kept` says whether it is another desk's.
 pub fn forward_foreign(body: &[u32], desk: u32, cells: &mut [u32], out: &mut [u32]) -> usize
-    requires { ⌜ (now body ≡ updatesWords (updatesFrom 0 (now body))) × (length (now body) ≤ length (now out)) ⌝ }
+    requires { ⌜ (now body ≡ updatesWords (updatesFrom 0 (now body))) × (length (foreignWords desk (now body)) ≤ length (now out)) ⌝ }
     ensures applied { λ r. ⌜ now (cells .exit) ≡ applyAll (foreign desk (updatesFrom 0 (now (body .entry)))) (now (cells .entry)) ⌝ }
     ensures words { λ r. ⌜ r ≡ length (foreignWords desk (now (body .entry))) ⌝ }
     ensures written { λ r. ⌜ now (out .exit) ≡ overwritten (foreignWords desk (now (body .entry))) (now (out .entry)) ⌝ }

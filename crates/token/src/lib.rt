@@ -6,6 +6,7 @@ mod updates;
 mod writer;
 
 pub use forward::forward_foreign;
+pub use reader::LONGEST_FRAME;
 pub use reader::VisitAnswer;
 pub use reader::check_frame;
 pub use reader::frame_visit;

@@ -5,10 +5,16 @@ ghost use lib.ListN.{length};
 ghost use Rattle.verdict.specs.Verdict.{verdictOf};
 ghost use Rattle.token.specs.Admission.{frameHeaded, sumsRight, updatesRight, frameVerdict, readVerdict};
 ghost use Rattle.token.specs.Answer.{visitOf, partRead, visitRead};
+ghost use Rattle.token.specs.Frame.{leastFrame};
 use crate::sums;
 use crate::updates;
 use verdict::Verdict;
 use word::fields;
+
+// The words of a frame: at least those of one with no update, at most 32 updates of 12 cells from each of 8 desks.
+pub const LEAST_FRAME: usize = 4;
+
+pub const LONGEST_FRAME: usize = 6404;
 
 // The visit number, or the number of the question whose answer is no.
 pub enum VisitAnswer {
@@ -21,10 +27,10 @@ fn frame_headed(frame: &[u32]) -> bool
     ensures { λ r. ⌜ r ≡ frameHeaded (now (frame .entry)) ⌝ }
 {
     let words = frame.len();
-    if words < 4 {
+    if words < LEAST_FRAME {
         return false;
     }
-    if 6404 < words {
+    if LONGEST_FRAME < words {
         return false;
     }
     let head = frame[0];
@@ -39,7 +45,7 @@ fn frame_headed(frame: &[u32]) -> bool
 
 // Question 11.
 fn sums_right(frame: &[u32]) -> bool
-    requires { ⌜ 4 ≤ length (now frame) ⌝ }
+    requires { ⌜ leastFrame ≤ length (now frame) ⌝ }
     ensures { λ r. ⌜ r ≡ sumsRight (now (frame .entry)) ⌝ }
 {
     let end = frame.len() - 2;
@@ -52,7 +58,7 @@ fn sums_right(frame: &[u32]) -> bool
 
 // Question 12.
 fn updates_right(desks: u32, frame: &[u32]) -> bool
-    requires { ⌜ (1 ≤ desks) × (desks ≤ 8) × (4 ≤ length (now frame)) ⌝ }
+    requires { ⌜ (1 ≤ desks) × (desks ≤ 8) × (leastFrame ≤ length (now frame)) ⌝ }
     ensures { λ r. ⌜ r ≡ updatesRight desks (now (frame .entry)) ⌝ }
 {
     let head = frame[0];

@@ -7,6 +7,7 @@ ghost use Rattle.lists.specs.Lists.{overwritten};
 ghost use Rattle.operation.specs.Answer.{updateOf};
 ghost use Rattle.token.specs.Frame.{sent, frameHead, updateHead, cellWord, updateWords, sealedAt};
 ghost use Rattle.token.specs.Answer.{startVerdict, startWords};
+use crate::reader::LEAST_FRAME;
 use crate::sums;
 use verdict::Verdict;
 use word::fields;
@@ -72,12 +73,12 @@ pub fn seal(out: &mut [u32], desk: u32, visit: u32, end: usize)
     out[end + 1] = sums.second;
 }
 
-// The starting frame, visit 0 with no update. Question 5: at least 4 words.
+// The starting frame, visit 0 with no update. Question 5: at least its 4 words.
 pub fn starting_frame(out: &mut [u32]) -> Verdict
     ensures answer { λ r. ⌜ verdictOf r ≡ startVerdict (now (out .entry)) ⌝ }
     ensures written { λ r. ⌜ now (out .exit) ≡ startWords (now (out .entry)) ⌝ }
 {
-    if out.len() < 4 {
+    if out.len() < LEAST_FRAME {
         return Verdict::Refused(5);
     }
     seal(out, 0, 0, 2);

@@ -1,82 +1,52 @@
 -- The masks of the cells that an operation may write: what the steps still to come say is the whole answer.
 -- Assumes nothing.
-use mathlib.Core.Path.{_≡_, refl, _∙_, sym, ap}
+use mathlib.Core.Path.{_≡_, _∙_, sym, ap}
 use mathlib.Core.List.{List}
-use Prim.Native.Nat.{_+_, _-_, _<_, _≤_}
+use Prim.Native.Nat.{_-_, _≤_}
 use native.Mathlib.Omega.{arith}
-use lib.ListN.{length, getD}
-use Rattle.word.specs.Field.{stepCount}
+use lib.ListN.{getD}
+use borrow.Author.Tests.{eq-eqb, ne-eqb}
 use Rattle.plan.specs.Plan.{writes, Step}
 use Rattle.plan.specs.Decode.{rowOf}
 use Rattle.plan.specs.Place.{transactionFrom}
-use Rattle.plan.proofs.Steps.{stepsFrom, steps-all, step-here}
+use Rattle.plan.proofs.Steps.{stepsFrom, steps-all}
 use Rattle.operation.specs.Operation.{valueOf, cellsNamed}
 use Rattle.conflict.specs.Class.{oneDeskEach}
-use Rattle.conflict.proofs.Named.{row-passes, one-fails, one-passes, one-other, one-done}
+use Rattle.conflict.proofs.Named.{row-passes, one-here, one-other, one-done}
 use borrow.Author.Needs.{needs}
 use Rattle.conflict.proofs.class.one_desk_each.Statement.{statement}
 use Rattle.conflict.proofs.class.one_desk_each.Tie as tie
 
 abbrev Inv-loop : tie.InvT-loop
 Inv-loop plan at params masks steps s₀ s =
-    (steps ≡ stepCount (getD plan at 0))
-    × (oneDeskEach (λ c. getD masks c 0) (cellsNamed writes params (transactionFrom plan at .steps))
-    ≡ oneDeskEach (λ c. getD masks c 0) (cellsNamed writes params (stepsFrom plan at s)))
+    oneDeskEach (λ c. getD masks c 0) (cellsNamed writes params (transactionFrom plan at .steps))
+    ≡ oneDeskEach (λ c. getD masks c 0) (cellsNamed writes params (stepsFrom plan at s))
 
 abbrev μ-loop : tie.MeasureT-loop
 μ-loop plan at params masks steps s₀ s = steps - s
 
-mul-steps : tie.Need-mul-steps Inv-loop μ-loop
-mul-steps c =
-    let d = c .before .before in
-    let r = d .pre .0 .room in
-    let h : d .args .at < length (d .args .plan .now) = omega arith in
-    search needs
-
-shared-slice-read-steps : tie.Need-shared-slice-read-steps Inv-loop μ-loop
-shared-slice-read-steps c = omega (arith, c .before .before .before .pre .0 .room)
-
-cast-steps : tie.Need-cast-steps Inv-loop μ-loop
-cast-steps c = search needs
+step-count-requires : tie.Need-step-count-requires Inv-loop μ-loop
+step-count-requires c κs = search needs
 
 loop-holds : tie.Need-loop-holds Inv-loop μ-loop
 loop-holds c =
-    let d = c .before .before .before in (
-      refl,
-      ap (λ (ss : List Step). oneDeskEach (λ c. getD (d .args .masks .now) c 0) (cellsNamed writes (d .args .params) ss))
-          (sym (steps-all (d .args .plan .now) (d .args .at))),
-    )
+    let a = c .before .before .before .args in
+    ap (λ (ss : List Step). oneDeskEach (λ c. getD (a .masks .now) c 0) (cellsNamed writes (a .params) ss))
+    (sym (steps-all (a .plan .now) (a .at)))
 
--- the step's word stands within the plan
-here : (c : tie.In-loop Inv-loop μ-loop)
-    → c .before .before .before .before .before .args .at + 1 + c .before .loop .s < length
-    (c .before .before .before .before .before .args .plan .now)
-here c = step-here _ _ _ (c .before .before .before .before .before .pre .0) (omega arith)
-
-add-word : tie.Need-add-word Inv-loop μ-loop
-add-word c = let h = here c in omega arith
-
-add-word-2 : tie.Need-add-word-2 Inv-loop μ-loop
-add-word-2 c = let h = here c in omega arith
-
-mul-word : tie.Need-mul-word Inv-loop μ-loop
-mul-word c = let h = here c in search needs
-
-shared-slice-read-word : tie.Need-shared-slice-read-word Inv-loop μ-loop
-shared-slice-read-word c = here (c .before)
+step-word-requires : tie.Need-step-word-requires Inv-loop μ-loop
+step-word-requires c κs = search needs
 
 add-s : tie.Need-add-s Inv-loop μ-loop
-add-s c = omega arith
+add-s c = search needs
 
--- the row of a read or write step is at most 31, so its cell is in the table
+-- the row of a write step is at most 31, so its cell is in the table
 low-row : (c : tie.Then1 Inv-loop μ-loop)
-    → valueOf (c .before .before .before .before .before .before .before .args .params)
-    (rowOf (getD (c .before .before .before .before .before .before .before .args .plan .now)
-    (c .before .before .before .before .before .before .before .args .at + 1 + c .before .before .before .loop .s) 0)) ≤ 31
+    → valueOf (c .before .before .before .before .before .before .before .args .params) (rowOf (c .before .step-word .result)) ≤ 31
 low-row c =
-    let d = c .before .before .before in
-    row-passes _ _ (d .before .before .before .before .pre .0) _ (d .before .before .before .before .pre .1) (d .loop .s) (omega arith)
-    (omega arith)
+    let w = c .before in
+    let e = w .before .before .before .before .before .before in
+    row-passes _ _ (e .pre .0) _ (omega arith) _ (w .step-word .ensures) _ (e .pre .1) (omega arith)
 
 cell-named-requires : tie.Need-cell-named-requires Inv-loop μ-loop
 cell-named-requires c κs = low-row c
@@ -92,38 +62,40 @@ desks-in-requires c κs = search needs
 
 returns : tie.Need-returns Inv-loop μ-loop
 returns c =
-    let d = c .before .before .before .before .before .before .before in
-    let e = d .before .before .before .before in
-    sym (d .loop .inv .1
-    ∙ one-fails _ _ (e .pre .0) _ _ _ (omega arith) (c .before .before .before .before .if1 .taken)
-    _ _ (c .before .before .before .cell-named .ensures) (c .before .desks-in .ensures) (c .if2 .taken))
+    let n = c .before .before .before in
+    let w = n .before .before in
+    let d = w .before .before in
+    sym (d .loop .inv
+    ∙ one-here _ _ (d .before .before .before .before .pre .0) _ (omega arith) _ (w .step-word .ensures) _ _
+    (n .before .if1 .taken) _ _ (n .cell-named .ensures) (c .before .desks-in .ensures)
+    ∙ simp (ne-eqb _ _ (c .if2 .taken)))
 
 loop-less : tie.Need-loop-less Inv-loop μ-loop
-loop-less c = omega arith
+loop-less c = search needs
 
 loop-again : tie.Need-loop-again Inv-loop μ-loop
 loop-again c =
-    let d = c .before .before .before .before .before .before .before in
-    let e = d .before .before .before .before in (
-      d .loop .inv .0,
-      d .loop .inv .1
-          ∙ one-passes _ _ (e .pre .0) _ _ _ (omega arith) (c .before .before .before .before .if1 .taken)
-          _ _ (c .before .before .before .cell-named .ensures) (c .before .desks-in .ensures) (c .if2 .left),
-    )
+    let n = c .before .before .before in
+    let w = n .before .before in
+    let d = w .before .before in
+    d .loop .inv
+    ∙ one-here _ _ (d .before .before .before .before .pre .0) _ (omega arith) _ (w .step-word .ensures) _ _
+    (n .before .if1 .taken) _ _ (n .cell-named .ensures) (c .before .desks-in .ensures)
+    ∙ simp (eq-eqb _ _ (c .if2 .left))
 
 loop-less-2 : tie.Need-loop-less-2 Inv-loop μ-loop
-loop-less-2 c = omega arith
+loop-less-2 c = search needs
 
 loop-again-2 : tie.Need-loop-again-2 Inv-loop μ-loop
 loop-again-2 c =
-    let d = c .before .before .before in
-    let e = d .before .before .before .before in
-    (d .loop .inv .0, d .loop .inv .1 ∙ one-other _ _ (e .pre .0) _ _ _ (omega arith) (c .if1 .left))
+    let w = c .before in
+    let d = w .before .before in
+    d .loop .inv
+    ∙ one-other _ _ (d .before .before .before .before .pre .0) _ (omega arith) _ (w .step-word .ensures) _ _ (c .if1 .left)
 
 returns-2 : tie.Need-returns-2 Inv-loop μ-loop
 returns-2 c =
-    let e = c .before .before .before .before .before in
-    sym (c .before .loop .inv .1 ∙ one-done _ _ (e .pre .0) _ _ _ (omega arith))
+    sym (c .before .loop .inv ∙ one-done _ _ (c .before .before .before .before .before .pre .0) _ (omega arith) _ _)
 
 pub one-desk-each-spec : {M : Type 1} → statement M
 one-desk-each-spec =
@@ -131,14 +103,9 @@ one-desk-each-spec =
     (tie.spec
     Inv-loop
     μ-loop
-    mul-steps
-    shared-slice-read-steps
-    cast-steps
+    step-count-requires
     loop-holds
-    add-word
-    add-word-2
-    mul-word
-    shared-slice-read-word
+    step-word-requires
     add-s
     cell-named-requires
     cast-cell

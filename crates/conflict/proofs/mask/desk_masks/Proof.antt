@@ -1,23 +1,29 @@
 -- The mask table: what is in it, joined with what is still to come, is the mask of each cell.
 -- Assumes nothing.
-use Prim.Native.Nat.{_-_, _<_}
+use mathlib.Core.Path.{_≡_, refl, _∙_, sym, ap}
+use Prim.Native.Nat.{ℕ, _+_, _-_, _<_}
 use native.Mathlib.Omega.{arith}
 use lib.ListN.{length}
+use Rattle.plan.specs.Decode.{partBy}
+use Rattle.plan.specs.Place.{StandsAt, transactionPlace, stepsAt}
 use Rattle.plan.proofs.Accepted.{accepted-gives}
-use Rattle.conflict.proofs.Filling.{Filling, FillingIn, start, enter-here, enter, done, step-here, step-on, leave}
+use Rattle.plan.proofs.Places.{stands-at, place-next, transactionsFrom, transactions-all, transactions-cons, transactions-none}
+use Rattle.plan.proofs.Steps.{stepsFrom, steps-all, steps-cons, steps-none}
+use Rattle.conflict.proofs.Filling.{Filling, FillingIn, start, enter, step-on, leave, done}
 use borrow.Author.Needs.{needs}
 use Rattle.conflict.proofs.mask.desk_masks.Statement.{statement}
 use Rattle.conflict.proofs.mask.desk_masks.Tie as tie
 
 abbrev Inv-loop2 : tie.InvT-loop2
-Inv-loop2 plan table₀ head desks transactions at₀ t word partitioning steps s₀ table at s =
-    FillingIn plan desks partitioning steps s transactions t at table
+Inv-loop2 plan table₀ head desks transactions at t partitioning steps s₀ table s =
+    FillingIn plan desks (partBy partitioning) (stepsFrom plan at s) (transactionsFrom plan (t + 1)) table
 
 abbrev μ-loop2 : tie.MeasureT-loop2
-μ-loop2 plan table₀ head desks transactions at₀ t word partitioning steps s₀ table at s = steps - s
+μ-loop2 plan table₀ head desks transactions at t partitioning steps s₀ table s = steps - s
 
 abbrev Inv-loop : tie.InvT-loop
-Inv-loop plan table₀ head desks transactions at₀ t₀ table at t = Filling plan desks transactions t at table
+Inv-loop plan table₀ head desks transactions at₀ t₀ table at t =
+    (at ≡ transactionPlace plan t) × Filling plan desks (transactionsFrom plan t) table
 
 abbrev μ-loop : tie.MeasureT-loop
 μ-loop plan table₀ head desks transactions at₀ t₀ table at t = transactions - t
@@ -26,69 +32,82 @@ shared-slice-read-head : tie.Need-shared-slice-read-head Inv-loop2 μ-loop2 Inv-
 shared-slice-read-head c = accepted-gives _ (c .before .before .pre) .words-low
 
 loop-holds : tie.Need-loop-holds Inv-loop2 μ-loop2 Inv-loop μ-loop
-loop-holds c = start _ (c .before .before .pre)
+unfolding transactionPlace
+loop-holds c = let plan = c .before .before .args .plan .now in (refl, rw (transactions-all plan) (start plan))
 
--- the transaction's word stands within the plan, and so does the step's
-transaction-here : (c : tie.In-loop Inv-loop2 μ-loop2 Inv-loop μ-loop)
-    → c .before .loop .at < length (c .before .before .before .before .args .plan .now)
-transaction-here c = enter-here _ _ _ _ _ _ (c .before .loop .inv) (c .loop-test .taken)
+-- the transaction stands whole within the plan
+stands : (c : tie.In-loop Inv-loop2 μ-loop2 Inv-loop μ-loop)
+    → StandsAt (c .before .before .before .before .args .plan .now) (c .before .loop .at)
+stands c = rw (c .before .loop .inv .0) (stands-at _ (c .before .before .before .before .pre) (c .before .loop .t) (c .loop-test .taken))
 
-mul-word : tie.Need-mul-word Inv-loop2 μ-loop2 Inv-loop μ-loop
-mul-word c = let h = transaction-here c in search needs
+mul-partitioning : tie.Need-mul-partitioning Inv-loop2 μ-loop2 Inv-loop μ-loop
+mul-partitioning c =
+    let h : c .before .loop .at < length (c .before .before .before .before .args .plan .now) = omega (arith, stands c .room) in
+    search needs
 
-shared-slice-read-word : tie.Need-shared-slice-read-word Inv-loop2 μ-loop2 Inv-loop μ-loop
-shared-slice-read-word c = transaction-here (c .before)
+shared-slice-read-partitioning : tie.Need-shared-slice-read-partitioning Inv-loop2 μ-loop2 Inv-loop μ-loop
+shared-slice-read-partitioning c = omega (arith, stands (c .before) .room)
 
-add-at : tie.Need-add-at Inv-loop2 μ-loop2 Inv-loop μ-loop
-add-at c = let h = transaction-here (c .before) in omega arith
+step-count-requires : tie.Need-step-count-requires Inv-loop2 μ-loop2 Inv-loop μ-loop
+step-count-requires c κs = stands (c .before)
 
 loop2-holds : tie.Need-loop2-holds Inv-loop2 μ-loop2 Inv-loop μ-loop
-loop2-holds c = enter _ _ _ _ _ _ (c .before .before .loop .inv) (c .before .loop-test .taken)
+loop2-holds c =
+    let i = c .before .before in
+    let d = i .before in
+    let e = d .before .before .before in
+    rw (steps-all (e .args .plan .now) (d .loop .at))
+    (enter _ _ _ _ _ (rw (transactions-cons _ (e .pre) (d .loop .t) (i .loop-test .taken), ← d .loop .inv .0) at (d .loop .inv .1)))
 
-step-at : (c : tie.In-loop2 Inv-loop2 μ-loop2 Inv-loop μ-loop)
-    → c .before .loop2 .at < length (c .before .before .before .before .before .before .before .args .plan .now)
-step-at c = step-here _ _ _ _ _ _ _ _ _ (c .before .loop2 .inv) (c .loop2-test .taken)
-
-mul-mark : tie.Need-mul-mark Inv-loop2 μ-loop2 Inv-loop μ-loop
-mul-mark c = let h = step-at (c .before) in search needs
-
-shared-slice-read-mark : tie.Need-shared-slice-read-mark Inv-loop2 μ-loop2 Inv-loop μ-loop
-shared-slice-read-mark c = step-at (c .before .before)
+step-word-requires : tie.Need-step-word-requires Inv-loop2 μ-loop2 Inv-loop μ-loop
+step-word-requires c κs = (stands (c .before .before .before .before .before), omega arith)
 
 mark-requires : tie.Need-mark-requires Inv-loop2 μ-loop2 Inv-loop μ-loop
 mark-requires c κs =
-    let d = c .before .before in
-    let a = accepted-gives _ (d .before .before .before .before .before .before .before .pre) in (
-      a .desks-low,
-      a .desks-high,
-      d .before .loop2 .inv .left .long,
-    )
-
-add-at-2 : tie.Need-add-at-2 Inv-loop2 μ-loop2 Inv-loop μ-loop
-add-at-2 c = let h = step-at (c .before .before .before) in omega arith
+    let d = c .before .before .before in
+    let a = accepted-gives _ (d .before .before .before .before .before .before .before .pre) in
+    (a .desks-low, a .desks-high, d .loop2 .inv .long)
 
 add-s : tie.Need-add-s Inv-loop2 μ-loop2 Inv-loop μ-loop
-add-s c = omega arith
+add-s c = search needs
 
 loop2-less : tie.Need-loop2-less Inv-loop2 μ-loop2 Inv-loop μ-loop
-loop2-less c = omega arith
+loop2-less c = search needs
 
 loop2-again : tie.Need-loop2-again Inv-loop2 μ-loop2 Inv-loop μ-loop
 loop2-again c =
-    let d = c .before .before .before in
-    step-on _ _ _ _ _ _ _ _ _ (d .before .loop2 .inv) _ (d .loop2-test .taken) (c .mark .ensures)
+    let w = c .before in
+    let d = w .before .before .before in
+    step-on _ _ _ _ _ _ _
+    (rw (steps-cons _ _ (d .loop2 .s) (stands (d .before .before .before)) (omega arith) _ (w .step-word .ensures)) at (d .loop2 .inv)) _
+    (c .mark .ensures)
+
+add-at : tie.Need-add-at Inv-loop2 μ-loop2 Inv-loop μ-loop
+add-at c = omega (arith, stands (c .before .before .before .before) .room)
+
+add-at-2 : tie.Need-add-at-2 Inv-loop2 μ-loop2 Inv-loop μ-loop
+add-at-2 c = omega (arith, stands (c .before .before .before .before) .room)
 
 add-t : tie.Need-add-t Inv-loop2 μ-loop2 Inv-loop μ-loop
-add-t c = omega arith
+add-t c = search needs
 
 loop-less : tie.Need-loop-less Inv-loop2 μ-loop2 Inv-loop μ-loop
-loop-less c = omega arith
+loop-less c = search needs
 
 loop-again : tie.Need-loop-again Inv-loop2 μ-loop2 Inv-loop μ-loop
-loop-again c = leave _ _ _ _ _ _ _ _ _ (c .before .loop2 .inv) (c .loop2-test .left)
+loop-again c =
+    let i = c .before .before .before .before in
+    let d = i .before in
+    let plan = d .before .before .before .args .plan .now in (
+      ap (λ (m : ℕ). d .loop .at + 1 + m) (c .before .before .step-count .ensures)
+          ∙ ap (λ (a : ℕ). a + 1 + stepsAt plan a) (d .loop .inv .0) ∙ sym (place-next plan (d .loop .t)),
+      leave _ _ _ _ _ (rw (steps-none plan (d .loop .at) (c .before .loop2 .s) (omega arith)) at (c .before .loop2 .inv)),
+    )
 
 returns : tie.Need-returns Inv-loop2 μ-loop2 Inv-loop μ-loop
-returns c = done _ _ _ _ _ _ (c .before .loop .inv) (c .loop-test .left)
+returns c =
+    let d = c .before in
+    done _ _ _ (rw (transactions-none _ (d .before .before .before .pre) (d .loop .t) (c .loop-test .left)) at (d .loop .inv .1))
 
 pub desk-masks-spec : {M : Type 1} → statement M
 desk-masks-spec =
@@ -100,17 +119,17 @@ desk-masks-spec =
     μ-loop
     shared-slice-read-head
     loop-holds
-    mul-word
-    shared-slice-read-word
-    add-at
+    mul-partitioning
+    shared-slice-read-partitioning
+    step-count-requires
     loop2-holds
-    mul-mark
-    shared-slice-read-mark
+    step-word-requires
     mark-requires
-    add-at-2
     add-s
     loop2-less
     loop2-again
+    add-at
+    add-at-2
     add-t
     loop-less
     loop-again

@@ -1,11 +1,8 @@
 -- A run along the steps: what is still to run gives the whole outcome.
 -- Assumes nothing.
 use mathlib.Core.Path.{_≡_, refl, _∙_, sym, ap}
-use Prim.Native.Nat.{_+_, _-_, _≤_, _<_}
+use Prim.Native.Nat.{_-_, _<_}
 use native.Mathlib.Omega.{arith}
-use lib.ListN.{length, getD}
-use Rattle.word.specs.Field.{stepCount}
-use Rattle.plan.proofs.Steps.{step-here}
 use Rattle.plan.proofs.Words.{transaction-steps}
 use Rattle.operation.specs.Answer.{nextOf}
 use Rattle.operation.proofs.Running.{Running, running-start, running-done, running-few, running-row}
@@ -16,57 +13,31 @@ use Rattle.operation.proofs.execution.run.Tie as tie
 
 abbrev Inv-loop : tie.InvT-loop
 Inv-loop plan at params store cells₀ values₀ count₀ number₀ steps s₀ cells values count number s =
-    (steps ≡ stepCount (getD plan at 0)) × Running plan at params store s cells values count number × (s ≤ steps)
+    Running plan at params store s cells values count number
 
 abbrev μ-loop : tie.MeasureT-loop
 μ-loop plan at params store cells₀ values₀ count₀ number₀ steps s₀ cells values count number s = steps - s
 
-mul-steps : tie.Need-mul-steps Inv-loop μ-loop
-mul-steps c =
-    let d = c .before .before in
-    let r = d .pre .0 .room in
-    let h : d .args .at < length (d .args .plan .now) = omega arith in
-    search needs
-
-shared-slice-read-steps : tie.Need-shared-slice-read-steps Inv-loop μ-loop
-shared-slice-read-steps c = omega (arith, c .before .before .before .pre .0 .room)
-
-cast-steps : tie.Need-cast-steps Inv-loop μ-loop
-cast-steps c = search needs
+step-count-requires : tie.Need-step-count-requires Inv-loop μ-loop
+step-count-requires c κs = search needs
 
 loop-holds : tie.Need-loop-holds Inv-loop μ-loop
-loop-holds c =
-    let d = c .before .before .before in
-    (refl, running-start _ _ _ _ _ _ (d .pre .0) (d .pre .1) refl refl, omega arith)
+loop-holds c = let d = c .before .before .before in running-start _ _ _ _ _ _ (d .pre .0) (d .pre .1) refl refl
 
--- the step's word stands within the plan
-here : (c : tie.In-loop Inv-loop μ-loop)
-    → let a = c .before .before .before .before .before .args in a .at + 1 + c .before .loop .s < length (a .plan .now)
-here c = step-here _ _ _ (c .before .loop .inv .1 .whole) (omega arith)
-
-add-word : tie.Need-add-word Inv-loop μ-loop
-add-word c = let h = here c in omega arith
-
-add-word-2 : tie.Need-add-word-2 Inv-loop μ-loop
-add-word-2 c = let h = here c in omega arith
-
-mul-word : tie.Need-mul-word Inv-loop μ-loop
-mul-word c = let h = here c in search needs
-
-shared-slice-read-word : tie.Need-shared-slice-read-word Inv-loop μ-loop
-shared-slice-read-word c = here (c .before)
+step-word-requires : tie.Need-step-word-requires Inv-loop μ-loop
+step-word-requires c κs = search needs
 
 add-s : tie.Need-add-s Inv-loop μ-loop
 add-s c = search needs
 
 cell-named-requires : tie.Need-cell-named-requires Inv-loop μ-loop
 cell-named-requires c κs =
-    let d = c .before .before .before in
-    running-row _ _ _ _ _ _ _ _ _ (d .loop .inv .1) (omega arith) (omega arith)
+    let w = c .before in
+    running-row _ _ _ _ _ _ _ _ _ (w .before .before .loop .inv) (omega arith) _ (w .step-word .ensures) (omega arith)
 
 seen-requires : tie.Need-seen-requires Inv-loop μ-loop
 seen-requires c κs =
-    let q = c .before .before .before .before .before .before .loop .inv .1 in
+    let q = c .before .before .before .before .before .before .loop .inv in
     let f = running-few _ _ _ _ _ _ _ _ _ q (omega arith) in
     (omega arith, q .cells-long, q .values-long)
 
@@ -75,24 +46,22 @@ loop-less c = search needs
 
 loop-again : tie.Need-loop-again Inv-loop μ-loop
 loop-again c =
-    let d = c .before .before .before .before .before .before .before in (
-      d .loop .inv .0,
-      running-read _ _ _ _ _ _ _ _ _ (d .loop .inv .1) (omega arith) (c .before .before .before .before .if1 .taken) _ _
-          (c .before .before .before .cell-named .ensures) (c .seen .ensures),
-      omega arith,
-    )
+    let n = c .before .before .before in
+    let w = n .before .before in
+    running-read _ _ _ _ _ _ _ _ _ (w .before .before .loop .inv) (omega arith) _ (w .step-word .ensures) (n .before .if1 .taken) _ _
+    (n .cell-named .ensures) (c .seen .ensures)
 
 cell-named-requires-2 : tie.Need-cell-named-requires-2 Inv-loop μ-loop
 cell-named-requires-2 c κs =
-    let d = c .before .before .before .before in
-    running-row _ _ _ _ _ _ _ _ _ (d .loop .inv .1) (omega arith) (omega arith)
+    let w = c .before .before in
+    running-row _ _ _ _ _ _ _ _ _ (w .before .before .loop .inv) (omega arith) _ (w .step-word .ensures) (omega arith)
 
 mul-cells : tie.Need-mul-cells Inv-loop μ-loop
 mul-cells c = search needs
 
 -- there is room for one more write
 room : (c : tie.After-cell-named2 Inv-loop μ-loop) → c .before .before .before .before .before .loop .count < 12
-room c = running-few _ _ _ _ _ _ _ _ _ (c .before .before .before .before .before .loop .inv .1) (omega arith)
+room c = running-few _ _ _ _ _ _ _ _ _ (c .before .before .before .before .before .loop .inv) (omega arith)
 
 array-write-cells : tie.Need-array-write-cells Inv-loop μ-loop
 array-write-cells c = room c
@@ -111,11 +80,9 @@ loop-less-2 c = search needs
 
 loop-again-2 : tie.Need-loop-again-2 Inv-loop μ-loop
 loop-again-2 c =
-    let d = c .before .before .before .before .before in (
-      d .loop .inv .0,
-      running-write _ _ _ _ _ _ _ _ _ (d .loop .inv .1) (omega arith) (c .before .if2 .taken) _ (c .cell-named2 .ensures),
-      omega arith,
-    )
+    let w = c .before .before .before in
+    running-write _ _ _ _ _ _ _ _ _ (w .before .before .loop .inv) (omega arith) _ (w .step-word .ensures) (c .before .if2 .taken)
+    _ (c .cell-named2 .ensures)
 
 operand-named-requires : tie.Need-operand-named-requires Inv-loop μ-loop
 operand-named-requires c κs = search needs
@@ -133,12 +100,10 @@ loop-again-3 : tie.Need-loop-again-3 Inv-loop μ-loop
 loop-again-3 c =
     let a = c .before .before .before in
     let e = a .before .before in
-    let d = e .before .before .before .before in (
-      d .loop .inv .0,
-      running-act _ _ _ _ _ _ _ _ _ (d .loop .inv .1) (omega arith) (e .before .if1 .left) (e .if2 .left) _ _
-          (a .before .operand-named .ensures) (sym (a .act .ensures) ∙ ap nextOf (c .before .after .given .1)),
-      omega arith,
-    )
+    let w = e .before .before in
+    running-act _ _ _ _ _ _ _ _ _ (w .before .before .loop .inv) (omega arith) _ (w .step-word .ensures)
+    (e .before .if1 .left) (e .if2 .left) _ _
+    (a .before .operand-named .ensures) (sym (a .act .ensures) ∙ ap nextOf (c .before .after .given .1))
 
 enum-told : tie.Need-enum-told Inv-loop μ-loop
 enum-told c = search needs
@@ -150,9 +115,10 @@ returns : tie.Need-returns Inv-loop μ-loop
 returns c =
     let a = c .before .before .before in
     let e = a .before .before in
-    let d = e .before .before .before .before in (
+    let w = e .before .before in (
       c .declined .ensures .0
-          ∙ running-stop _ _ _ _ _ _ _ _ _ (d .loop .inv .1) (omega arith) (e .before .if1 .left) (e .if2 .left) _
+          ∙ running-stop _ _ _ _ _ _ _ _ _ (w .before .before .loop .inv) (omega arith) _ (w .step-word .ensures)
+          (e .before .if1 .left) (e .if2 .left) _
           (a .before .operand-named .ensures) (sym (a .act .ensures) ∙ ap nextOf (c .before .enum-told .given .1)),
       omega (arith, c .declined .ensures .1),
     )
@@ -162,9 +128,9 @@ finished-requires c κs = search needs
 
 returns-2 : tie.Need-returns-2 Inv-loop μ-loop
 returns-2 c =
-    let r = c .before .before .loop .inv .1 in (
+    let r = c .before .before .loop .inv in (
       c .finished .ensures .0 ∙ running-done _ _ _ _ _ _ _ _ _ r (omega arith),
-      omega (arith, c .finished .ensures .1, r .few, transaction-steps _ (r .whole .form)),
+      omega (arith, c .finished .ensures .1, r .few, r .within, transaction-steps _ (r .whole .form)),
     )
 
 pub run-spec : {M : Type 1} → statement M
@@ -173,14 +139,9 @@ run-spec =
     (tie.spec
     Inv-loop
     μ-loop
-    mul-steps
-    shared-slice-read-steps
-    cast-steps
+    step-count-requires
     loop-holds
-    add-word
-    add-word-2
-    mul-word
-    shared-slice-read-word
+    step-word-requires
     add-s
     cell-named-requires
     seen-requires

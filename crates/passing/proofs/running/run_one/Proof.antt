@@ -9,7 +9,7 @@ use Rattle.operation.specs.Answer.{outcomeOf}
 use Rattle.operation.specs.Run.{Outcome, run, applyUpdate}
 use Rattle.token.specs.Frame.{sent, updateWords}
 use Rattle.desk.specs.Queueing.{operationOf}
-use Rattle.passing.specs.Waiting.{replyWords}
+use Rattle.passing.specs.Waiting.{answered, replyWords}
 use Rattle.desk.proofs.Asked.{admitted-stands, parameters-passed, run-asked}
 use borrow.Author.Needs.{needs}
 use Rattle.passing.proofs.running.run_one.Statement.{statement}
@@ -70,7 +70,7 @@ returns c =
           ∙ ap (λ (o : Outcome). applyUpdate (o .update) (a .cells .now)) e;
       update = w .ensures .1 ∙ ap (λ (o : Outcome). overwritten (updateWords (sent (a .desk) (o .update))) (a .out .now)) e;
       reply = c .before .before .before .before .before .before .before .before .before .before .write-reply .ensures
-          ∙ ap (λ (o : Outcome). overwritten (replyWords (record { client = a .request .client; reply = o .reply })) (a .replies .now)) e;
+          ∙ ap (λ (o : Outcome). overwritten (replyWords (answered (a .request .client) (o .reply))) (a .replies .now)) e;
     }
 
 pub run-one-spec : {M : Type 1} → statement M

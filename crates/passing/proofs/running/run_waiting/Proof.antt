@@ -5,6 +5,7 @@ use Prim.Native.Nat.{_+_, _-_, _*_, _≤_, _<_}
 use native.Mathlib.Omega.{arith}
 use lib.ListN.{length, take, length-drop, getD}
 use lib.Seq.{length-take-le, getD-take}
+use borrow.Author.Needs.{needs}
 use Rattle.lists.proofs.Laws.{every-index, fill-length, take-remainder}
 use Rattle.plan.specs.Decode.{planOf}
 use Rattle.plan.proofs.Placing.{places-long}
@@ -14,8 +15,8 @@ use Rattle.desk.proofs.Asked.{below-32, admitted-exists, place-looked-up, opera
 use Rattle.passing.specs.Running.{AllRun, isOperation, madeWords}
 use Rattle.passing.proofs.WaitingRuns.{Running, running-start, running-next, running-done, room-here, reply-room-here}
 use Rattle.passing.proofs.WaitingRuns.{replies-length}
-use borrow.Author.Needs.{needs}
 use Rattle.passing.proofs.running.run_waiting.Statement.{statement}
+use Rattle.passing.specs.Waiting.{replySize}
 use Rattle.passing.proofs.running.run_waiting.Tie as tie
 
 abbrev Inv-loop : tie.InvT-loop
@@ -84,7 +85,7 @@ room : (c : tie.In-loop Inv-loop μ-loop)
     ≤ length (c .before .loop .out)
 room c = let v = c .before .loop .inv in room-here _ _ _ _ _ _ _ _ _ _ _ (v .4) (omega arith) _ (next c) (v .3 .room)
 
-reply-room : (c : tie.In-loop Inv-loop μ-loop) → c .before .loop .at * 3 + 3 ≤ length (c .before .loop .replies)
+reply-room : (c : tie.In-loop Inv-loop μ-loop) → c .before .loop .at * replySize + replySize ≤ length (c .before .loop .replies)
 reply-room c = let v = c .before .loop .inv in reply-room-here _ _ _ _ _ _ _ _ _ _ _ (v .4) (omega arith) _ (next c) (v .3 .replyRoom)
 
 mul-run-one : tie.Need-mul-run-one Inv-loop μ-loop
@@ -134,7 +135,8 @@ run-one-requires c κs =
             (s .pre .1);
       };
       room = omega (arith, room d, ap length (take-remainder (l .out) (l .end)), length-drop (l .end) (l .out));
-      replyRoom = omega (arith, reply-room d, ap length (take-remainder (l .replies) (l .at * 3)), length-drop (l .at * 3) (l .replies));
+      replyRoom =
+          let i = l .at * replySize in omega (arith, reply-room d, ap length (take-remainder (l .replies) i), length-drop i (l .replies));
     }
 
 add-end : tie.Need-add-end Inv-loop μ-loop

@@ -28,9 +28,9 @@ returns : tie.Need-returns
 returns c =
     let a = c .before .before .args in
     let o = a .replies .now in
-    let words = c .reply-head .result ∷ a .client ∷ a .number ∷ [] in
+    let words = c .reply-head .result ∷ a .client ∷ a .reply .number ∷ [] in
     fill-done (fill-word (fill-word (fill-word (fill-none words o) (omega arith)) (omega arith)) (omega arith)) .0
-    ∙ ap (λ h. h ∷ a .client ∷ a .number ∷ drop 3 o) (c .reply-head .ensures)
+    ∙ ap (λ h. h ∷ a .client ∷ a .reply .number ∷ drop 3 o) (c .reply-head .ensures)
 
 pub write-reply-spec : {M : Type 1} → statement M
 write-reply-spec =

@@ -3,10 +3,9 @@
 use mathlib.Core.Path.{_≡_, refl, _∙_, sym, ap}
 use Prim.Native.Nat.{ℕ, _+_, _-_, _≤_, _<_}
 use native.Mathlib.Omega.{arith}
-use lib.ListN.{length, getD}
-use Rattle.word.specs.Field.{stepCount, headTransactions}
+use Rattle.word.specs.Field.{headTransactions}
 use Rattle.plan.specs.Decode.{headOf}
-use Rattle.plan.specs.Place.{transactionPlace}
+use Rattle.plan.specs.Place.{StandsAt, stepsAt, transactionPlace}
 use Rattle.plan.proofs.Accepted.{accepted-gives}
 use Rattle.plan.proofs.Places.{place-next, stands-at}
 use Rattle.plan.proofs.Placing.{Placing, placing-none, placing-more, placing-done}
@@ -22,7 +21,7 @@ abbrev μ-loop : tie.MeasureT-loop
 μ-loop plan places₀ transactions at₀ k₀ places at k = transactions - k
 
 shared-slice-read-transactions : tie.Need-shared-slice-read-transactions Inv-loop μ-loop
-shared-slice-read-transactions c = accepted-gives _ (c .before .pre) .words-low
+shared-slice-read-transactions c = accepted-gives _ (c .before .before .pre) .words-low
 
 cast-transactions : tie.Need-cast-transactions Inv-loop μ-loop
 cast-transactions c = search needs
@@ -33,14 +32,12 @@ loop-holds c = (omega arith, refl, refl, placing-none _)
 
 -- there are at most 32 transactions, and the walk's stands whole within the plan
 below : (c : tie.In-loop Inv-loop μ-loop) → c .before .loop .k < 32
-below c = omega (arith, accepted-gives _ (c .before .before .before .pre) .transactions-high, c .before .loop .inv .1)
+below c = omega (arith, accepted-gives _ (c .before .before .before .before .pre) .transactions-high, c .before .loop .inv .1)
 
-room : (c : tie.In-loop Inv-loop μ-loop)
-    → c .before .loop .at + 1 + stepCount (getD (c .before .before .before .args .plan .now) (c .before .loop .at) 0)
-    ≤ length (c .before .before .before .args .plan .now)
-room c =
-    rw (sym (c .before .loop .inv .2)) at
-    (stands-at _ (c .before .before .before .pre) (c .before .loop .k) (omega (arith, c .before .loop .inv .1)) .room)
+stands : (c : tie.In-loop Inv-loop μ-loop) → StandsAt (c .before .before .before .before .args .plan .now) (c .before .loop .at)
+stands c =
+    rw (c .before .loop .inv .2)
+    (stands-at _ (c .before .before .before .before .pre) (c .before .loop .k) (omega (arith, c .before .loop .inv .1)))
 
 mul-places : tie.Need-mul-places Inv-loop μ-loop
 mul-places c = omega (arith, below c)
@@ -49,19 +46,13 @@ array-write-places : tie.Need-array-write-places Inv-loop μ-loop
 array-write-places c = below c
 
 add-at : tie.Need-add-at Inv-loop μ-loop
-add-at c = let h = room c in search needs
+add-at c = let h = stands c .room in search needs
 
-mul-at : tie.Need-mul-at Inv-loop μ-loop
-mul-at c = let h : c .before .loop .at < length (c .before .before .before .args .plan .now) = omega (arith, room c) in search needs
-
-shared-slice-read-at : tie.Need-shared-slice-read-at Inv-loop μ-loop
-shared-slice-read-at c = omega (arith, room (c .before))
-
-cast-at : tie.Need-cast-at Inv-loop μ-loop
-cast-at c = search needs
+step-count-requires : tie.Need-step-count-requires Inv-loop μ-loop
+step-count-requires c κs = stands c
 
 add-at-2 : tie.Need-add-at-2 Inv-loop μ-loop
-add-at-2 c = let h = room (c .before) in search needs
+add-at-2 c = let h = stands (c .before) .room in search needs
 
 add-k : tie.Need-add-k Inv-loop μ-loop
 add-k c = omega arith
@@ -72,10 +63,11 @@ loop-less c = omega arith
 loop-again : tie.Need-loop-again Inv-loop μ-loop
 loop-again c =
     let d = c .before .before in
-    let plan = d .before .before .args .plan .now in (
+    let plan = d .before .before .before .args .plan .now in (
       omega arith,
       d .loop .inv .1,
-      ap (λ (a : ℕ). a + 1 + stepCount (getD plan a 0)) (d .loop .inv .2) ∙ sym (place-next plan (d .loop .k)),
+      ap (λ (n : ℕ). d .loop .at + 1 + n) (c .step-count .ensures)
+          ∙ ap (λ (a : ℕ). a + 1 + stepsAt plan a) (d .loop .inv .2) ∙ sym (place-next plan (d .loop .k)),
       placing-more _ _ _ (d .loop .inv .3) _ (below (c .before)) (d .loop .inv .2),
     )
 
@@ -95,9 +87,7 @@ transaction-places-spec =
     mul-places
     array-write-places
     add-at
-    mul-at
-    shared-slice-read-at
-    cast-at
+    step-count-requires
     add-at-2
     add-k
     loop-less

@@ -5,21 +5,20 @@ use Prim.Native.Nat.{_+_, _-_, _≤_, _<_}
 use native.Mathlib.Omega.{arith}
 use lib.ListN.{length, set, length-set}
 use Rattle.token.proofs.Forwarding.{Forwarded, forward-start, forward-end, forward-own, forward-head, forward-more}
-use Rattle.token.proofs.Forwarding.{forward-past, forward-cell}
+use Rattle.token.proofs.Forwarding.{forward-past, forward-cell, forward-length, head-room, cell-room}
 use borrow.Author.Needs.{needs}
 use Rattle.token.proofs.forward.forward_foreign.Statement.{statement}
 use Rattle.token.proofs.forward.forward_foreign.Tie as tie
 
 abbrev Inv-loop : tie.InvT-loop
 Inv-loop body desk cells₀ out₀ kept₀ left₀ end₀ at₀ cells out kept left end at =
-    (at ≤ length body) × (end ≤ at) × (length body ≤ length out₀) × (length out ≡ length out₀) × (length cells ≡ length cells₀)
-    × Forwarded desk body cells₀ out₀ cells out kept left end at
+    (at ≤ length body) × (length cells ≡ length cells₀) × Forwarded desk body cells₀ out₀ cells out kept left end at
 
 abbrev μ-loop : tie.MeasureT-loop
 μ-loop body desk cells₀ out₀ kept₀ left₀ end₀ at₀ cells out kept left end at = length body - at
 
 loop-holds : tie.Need-loop-holds Inv-loop μ-loop
-loop-holds c = let s = c .before .before .before in (omega arith, omega arith, s .pre .1, refl, refl, forward-start _ _ _ _ (s .pre .0))
+loop-holds c = (omega arith, refl, forward-start _ _ _ _ (c .before .before .before .pre .0))
 
 mul-word : tie.Need-mul-word Inv-loop μ-loop
 mul-word c = search needs
@@ -30,14 +29,24 @@ shared-slice-read-word c = search needs
 add-at : tie.Need-add-at Inv-loop μ-loop
 add-at c = search needs
 
+-- there is room for the word of another desk's update
+one-more : (c : tie.Then2 Inv-loop μ-loop)
+    → let d = c .before .before .before .before in
+    (d .loop .end < length (d .loop .out)) × (length (d .loop .out) ≡ length (d .before .before .before .before .args .out .now))
+one-more c =
+    let d = c .before .before .before in
+    let f = d .before .loop .inv .2 in
+    let p = d .before .before .before .before .before .pre .1 in
+    (head-room f (d .loop-test .taken) p (c .before .if1 .taken) (c .if2 .taken), forward-length f p)
+
 mul-out : tie.Need-mul-out Inv-loop μ-loop
-mul-out c = search needs
+mul-out c = let h = one-more c in search needs
 
 slice-write-out : tie.Need-slice-write-out Inv-loop μ-loop
-slice-write-out c = search needs
+slice-write-out c = one-more c .0
 
 add-end : tie.Need-add-end Inv-loop μ-loop
-add-end c = search needs
+add-end c = let h = one-more c in search needs
 
 loop-less : tie.Need-loop-less Inv-loop μ-loop
 loop-less c = search needs
@@ -45,14 +54,9 @@ loop-less c = search needs
 loop-again : tie.Need-loop-again Inv-loop μ-loop
 loop-again c =
     let d = c .before .before .before in
-    let v = d .before .loop .inv in (
-      omega arith,
-      omega arith,
-      v .2,
-      length-set (d .before .loop .out) _ _ ∙ v .3,
-      v .4,
-      forward-head (v .5) (d .loop-test .taken) (c .before .if1 .taken) (c .if2 .taken) (omega arith),
-    )
+    let v = d .before .loop .inv in
+    let p = d .before .before .before .before .before .pre .1 in
+    (omega arith, v .1, forward-head (v .2) (d .loop-test .taken) p (c .before .if1 .taken) (c .if2 .taken))
 
 loop-less-2 : tie.Need-loop-less-2 Inv-loop μ-loop
 loop-less-2 c = search needs
@@ -61,12 +65,12 @@ loop-again-2 : tie.Need-loop-again-2 Inv-loop μ-loop
 loop-again-2 c =
     let d = c .before .before .before in
     let v = d .before .loop .inv in
-    (omega arith, omega arith, v .2, v .3, v .4, forward-own (v .5) (d .loop-test .taken) (c .before .if1 .taken) (c .if2 .left))
+    (omega arith, v .1, forward-own (v .2) (d .loop-test .taken) (c .before .if1 .taken) (c .if2 .left))
 
 -- a cell's value stands behind its word
 more : (c : tie.Else1 Inv-loop μ-loop)
     → c .before .before .before .loop .at + 1 < length (c .before .before .before .before .before .before .before .args .body .now)
-more c = let d = c .before .before in forward-more (d .before .loop .inv .5) (d .loop-test .taken) (c .if1 .left)
+more c = let d = c .before .before in forward-more (d .before .loop .inv .2) (d .loop-test .taken) (c .if1 .left)
 
 mul-value : tie.Need-mul-value Inv-loop μ-loop
 mul-value c = search needs
@@ -86,40 +90,50 @@ cast-put-value c = search needs
 put-value-requires : tie.Need-put-value-requires Inv-loop μ-loop
 put-value-requires c κs = search needs
 
+-- there is room for the cell and its value
+two-more : (c : tie.After-slice-known3 Inv-loop μ-loop)
+    → let d = c .before .before .before .before .before .before .before .before .before in
+    (d .loop .end + 1 < length (d .loop .out)) × (length (d .loop .out) ≡ length (d .before .before .before .before .args .out .now))
+two-more c =
+    let q = c .before .before .before .before in
+    let e = q .before .before in
+    let d = e .before .before in
+    let f = d .before .loop .inv .2 in
+    let p = d .before .before .before .before .before .pre .1 in
+    (cell-room f (d .loop-test .taken) (e .if1 .left) p (q .if3 .taken), forward-length f p)
+
 mul-out-2 : tie.Need-mul-out-2 Inv-loop μ-loop
-mul-out-2 c = search needs
+mul-out-2 c = let h = two-more c in search needs
 
 slice-write-out-2 : tie.Need-slice-write-out-2 Inv-loop μ-loop
-slice-write-out-2 c = search needs
+slice-write-out-2 c = let h = two-more c in search needs
 
 add-out : tie.Need-add-out Inv-loop μ-loop
-add-out c = search needs
+add-out c = let h = two-more c in search needs
 
 mul-out-3 : tie.Need-mul-out-3 Inv-loop μ-loop
-mul-out-3 c = search needs
+mul-out-3 c = let h = two-more c in search needs
 
 slice-write-out-3 : tie.Need-slice-write-out-3 Inv-loop μ-loop
-slice-write-out-3 c = let h = more (c .before .before .before .before .before .before) in simp length-set (omega arith)
+slice-write-out-3 c = let h = two-more c in simp length-set (omega arith)
 
 add-end-2 : tie.Need-add-end-2 Inv-loop μ-loop
-add-end-2 c = search needs
+add-end-2 c = let h = two-more c in search needs
 
 loop-less-3 : tie.Need-loop-less-3 Inv-loop μ-loop
 loop-less-3 c = search needs
 
 loop-again-3 : tie.Need-loop-again-3 Inv-loop μ-loop
 loop-again-3 c =
-    let e = c .before .before .before .before .before .before in
+    let p = c .before .before in
+    let q = p .before .before in
+    let e = q .before .before in
     let d = e .before .before in
-    let v = d .before .loop .inv in
-    let p = c .before .before in (
+    let v = d .before .loop .inv in (
       omega (arith, more e),
-      omega (arith, more e),
-      v .2,
-      length-set (set (d .before .loop .out) _ _) _ _ ∙ length-set (d .before .loop .out) _ _ ∙ v .3,
-      ap length (p .put-value .ensures) ∙ length-set (d .before .loop .cells) _ _ ∙ v .4,
+      ap length (p .put-value .ensures) ∙ length-set (d .before .loop .cells) _ _ ∙ v .1,
       rw (p .put-value .ensures)
-          (forward-cell (v .5) (d .loop-test .taken) (e .if1 .left) (p .before .before .if3 .taken) (omega (arith, more e))),
+          (forward-cell (v .2) (d .loop-test .taken) (e .if1 .left) (d .before .before .before .before .before .pre .1) (q .if3 .taken)),
     )
 
 loop-less-4 : tie.Need-loop-less-4 Inv-loop μ-loop
@@ -129,24 +143,18 @@ loop-again-4 : tie.Need-loop-again-4 Inv-loop μ-loop
 loop-again-4 c =
     let e = c .before .before in
     let d = e .before .before in
-    let v = d .before .loop .inv in (
-      omega (arith, more e),
-      omega (arith, more e),
-      v .2,
-      v .3,
-      v .4,
-      forward-past (v .5) (d .loop-test .taken) (e .if1 .left) (c .if3 .left),
-    )
+    let v = d .before .loop .inv in
+    (omega (arith, more e), v .1, forward-past (v .2) (d .loop-test .taken) (e .if1 .left) (c .if3 .left))
 
 same-length : tie.Need-same-length Inv-loop μ-loop
 same-length c = search needs
 
 same-length-2 : tie.Need-same-length-2 Inv-loop μ-loop
-same-length-2 c = search needs
+same-length-2 c = forward-length (c .before .loop .inv .2) (c .before .before .before .before .before .pre .1)
 
 returns : tie.Need-returns Inv-loop μ-loop
 returns c =
-    let r = forward-end (c .before .loop .inv .5) (c .loop-test .left) in (r .0, (r .1, r .2))
+    let r = forward-end (c .before .loop .inv .2) (c .loop-test .left) in (r .0, (r .1, r .2))
 
 pub forward-foreign-spec : {M : Type 1} → statement M
 forward-foreign-spec =
