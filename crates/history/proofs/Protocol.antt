@@ -13,6 +13,7 @@ use Rattle.operation.specs.Admission.{IsOperation, operationVerdict}
 use Rattle.operation.specs.Run.{Store, Reply, Outcome, declined, run}
 use Rattle.conflict.specs.Class.{Class, free, local, global}
 use Rattle.token.specs.Admission.{frameVerdict}
+use Rattle.desk.specs.Queueing.{joinQueue}
 use Rattle.passing.specs.Admission.{visitBuffersFit, turnVerdict}
 use Rattle.serial.specs.Desk.{Desk, Call, request, visit}
 use Rattle.serial.specs.System.{System}
@@ -79,6 +80,6 @@ module _ (ws : List ℕ) (class : Operation → Class) (records : ℕ → ℕ) w
         Writes = λ o c. IsOperation thePlan o × MayWrite thePlan o c;
         reply = λ o s. ran o s .reply;
         update = λ o s. ran o s .update;
-        join = λ q r. q ++ (r ∷ []);
+        join = joinQueue;
         admits = admission;
       }

@@ -4,11 +4,10 @@ use Prim.Native.Nat.{ℕ, zero, suc, _+_, _^_, _%_, _<_}
 use mathlib.Core.Path.{_≡_, refl, sym, _∙_, ap, ap₂, subst}
 use mathlib.Core.Bool.{Bool, true, false, _&&_, cond}
 use mathlib.Core.List.{List, [], _∷_, _++_, map, map-append}
-use native.Mathlib.Numerals.{add-one}
 use native.Mathlib.Omega.{arith}
 use lib.Dec.{ltb, eqb}
-use lib.ListN.{length, getD, set, take, length-map, length-set}
-use lib.Seq.{take-suc-set, length-take-le}
+use lib.ListN.{length, getD, take, length-map, length-set}
+use lib.Seq.{length-take-le}
 use borrow.Author.Tests.{ltb-true, eqb-true, le-leb, eq-eqb}
 use Rattle.verdict.specs.Verdict.{Verdict, accepted, refused, isAccepted}
 use Rattle.verdict.proofs.Verdicts.{ask-then-accepted}
@@ -25,8 +24,10 @@ use Rattle.queue.specs.declared.record.Request.{Request}
 use Rattle.desk.specs.declared.state.Desk.{Desk}
 use Rattle.desk.specs.Queueing.{operationOf, waitingIn}
 use Rattle.desk.specs.Admission.{deskBuffersFit, waitsHere, deskStands}
-use Rattle.routing.specs.Request.{Requested, recordOf, served, routed, ranNow, enqueued, unchanged, requestVerdict, requestResult}
+use Rattle.routing.specs.Request.{Requested, recordOf, served, routed, ranNow, enqueued, unchanged, JoinsQueue, requestVerdict}
+use Rattle.routing.specs.Request.{requestResult}
 use Rattle.routing.specs.Request as asked
+use Rattle.routing.proofs.Joining.{joins-queue}
 use Rattle.serial.specs.System.{System}
 use Rattle.serial.specs.Desk as desk
 use Rattle.serial.specs.Step as step
@@ -111,8 +112,8 @@ module _ (ws : List ℕ) (accept : planVerdict ws ≡ accepted) (class : Operati
   waiting-count = length-map (waitingIn (d .waiting) (h .queue)) requestSeen ∙ length-take-le (d .waiting) (h .queue) (ok .room)
 
   module _ (p : Passes) where
-    pub joined : d .waiting < 32 → take (d .waiting + 1) (set (h .queue) (d .waiting) r) ≡ take (d .waiting) (h .queue) ++ (r ∷ [])
-    joined l = rw add-one (take-suc-set (h .queue) (d .waiting) r (omega (arith, p .whole)))
+    pub joined : d .waiting < 32 → JoinsQueue d (h .cells) (h .queue) r
+    joined l = joins-queue d (h .cells) (h .queue) r (omega (arith, p .whole))
 
     now-seen : seen (ranNow d (h .cells) (h .queue) (planOf ws) o) ≡ step.requestStep S step.immediate (view h) (requestSeen r)
     now-seen =

@@ -10,7 +10,7 @@ use Rattle.operation.specs.Admission.{IsOperation}
 use Rattle.operation.specs.Run.{Store, applyUpdate, run}
 use Rattle.conflict.specs.Class.{Class, free, local, global, Free, Local, Global}
 use Rattle.queue.specs.declared.record.Request.{Request}
-use Rattle.desk.specs.Queueing.{operationOf}
+use Rattle.desk.specs.Queueing.{operationOf, joinQueue}
 use Rattle.routing.specs.Request.{recordOf}
 use Rattle.passing.specs.Waiting.{Answered}
 use Rattle.history.specs.History.{Call, request, visit, assign}
@@ -67,11 +67,11 @@ noteRun s p r =
       calls = suc (s .calls);
     }
 
--- "joins that desk's line, in the order laid down for the row": "the earliest first"
+-- "joins that desk's line, in the order laid down for the row"
 abbrev pub noteJoin : Serial → ℕ → Request → Serial
 noteJoin s p r =
     record {
-      queues = assign p (s .queues p ++ (r ∷ [])) (s .queues);
+      queues = assign p (joinQueue (s .queues p) r) (s .queues);
       heard = s .heard;
       globals = s .globals;
       latest = s .latest;

@@ -1,5 +1,6 @@
 -- A request at a desk: everything that the call leaves, for good and bad input alike.
 use Prim.Native.Nat.{ℕ, _+_}
+use mathlib.Core.Path.{_≡_}
 use mathlib.Core.Bool.{Bool, true, false, cond}
 use mathlib.Core.List.{List}
 use lib.Dec.{ltb, eqb}
@@ -14,7 +15,7 @@ use Rattle.operation.specs.Run.{Reply, applyUpdate, run}
 use Rattle.conflict.specs.Class.{Class, free, local, global, classOf}
 use Rattle.queue.specs.declared.record.Request.{Request}
 use Rattle.desk.specs.declared.state.Desk.{Desk}
-use Rattle.desk.specs.Queueing.{operationOf}
+use Rattle.desk.specs.Queueing.{operationOf, waitingIn, joinQueue}
 use Rattle.desk.specs.Admission.{deskBuffersFit, deskStands}
 use Rattle.queue.specs.Queue.{queueSize}
 
@@ -46,7 +47,7 @@ module _ (d : Desk) (cells : List ℕ) (queue : List Request) where
     queue = queue;
   }
 
-  -- a global one waits, behind those that wait
+  -- a global one waits: it joins the waiting records by `joinQueue`, which is to store one record, and one more waits (`JoinsQueue`)
   abbrev pub enqueued : Request → Requested
   enqueued r = record {
     answer = waits;
@@ -54,6 +55,9 @@ module _ (d : Desk) (cells : List ℕ) (queue : List Request) where
     cells = cells;
     queue = set queue (d .waiting) r;
   }
+
+  abbrev pub JoinsQueue : Request → Type 0
+  JoinsQueue r = waitingIn (enqueued r .state .waiting) (enqueued r .queue) ≡ joinQueue (waitingIn (d .waiting) queue) r
 
   -- where the operation goes, by its class and by whether this desk is its own
   abbrev pub routed : Class → Bool → Plan → Request → Requested
