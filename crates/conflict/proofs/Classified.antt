@@ -17,15 +17,15 @@ use Rattle.plan.proofs.Places.{stands-at, transaction-is}
 use Rattle.operation.specs.Operation.{deskBy}
 use Rattle.operation.specs.Admission.{transactionExists, parametersPass, operationVerdict}
 use Rattle.conflict.specs.Class.{Class, classBy}
-use Rattle.conflict.specs.Answer.{isRefused, withDesk, classifyResult}
+use Rattle.conflict.specs.Answer.{classRefused, withDesk, classifyResult}
 
 module _ (ws : List ℕ) (k : ℕ) (ps : List ℕ) where
-  pub plan-refused : (q : ℕ) → planVerdict ws ≡ refused q → classifyResult ws k ps ≡ isRefused q
+  pub plan-refused : (q : ℕ) → planVerdict ws ≡ refused q → classifyResult ws k ps ≡ classRefused q
   unfolding classifyResult
   plan-refused q e = rw e
 
   module _ (e : planVerdict ws ≡ accepted) where
-    pub no-transaction : transactionExists (planOf ws) k ≡ false → classifyResult ws k ps ≡ isRefused 7
+    pub no-transaction : transactionExists (planOf ws) k ≡ false → classifyResult ws k ps ≡ classRefused 7
     unfolding classifyResult operationVerdict
     no-transaction h = rw (e, h)
 
@@ -37,7 +37,7 @@ module _ (ws : List ℕ) (k : ℕ) (ps : List ℕ) where
       pub stands : StandsAt ws at
       stands = subst (StandsAt ws) (sym i) (stands-at ws e k below)
 
-      pub parameters-refused : parametersPass (transactionFrom ws at) ps ≡ false → classifyResult ws k ps ≡ isRefused 8
+      pub parameters-refused : parametersPass (transactionFrom ws at) ps ≡ false → classifyResult ws k ps ≡ classRefused 8
       unfolding classifyResult operationVerdict
       parameters-refused f = rw (e, h, transaction-is ws e k below, sym i, f)
 

@@ -20,24 +20,24 @@ classOfCode class.Global = global
 
 -- a class with its desk, or a question's number
 pub data Classified : Type 0 where
-  isFree : Classified
-  isLocal isGlobal : ℕ → Classified
-  isRefused : ℕ → Classified
+  classedFree : Classified
+  classedLocal classedGlobal : ℕ → Classified
+  classRefused : ℕ → Classified
 
 abbrev pub classifiedOf : ClassAnswer → Classified
-classifiedOf Free = isFree
-classifiedOf (Local desk) = isLocal desk
-classifiedOf (Global desk) = isGlobal desk
-classifiedOf (Refused question) = isRefused question
+classifiedOf Free = classedFree
+classifiedOf (Local desk) = classedLocal desk
+classifiedOf (Global desk) = classedGlobal desk
+classifiedOf (Refused question) = classRefused question
 
 abbrev pub withDesk : Class → ℕ → Classified
-withDesk free d = isFree
-withDesk local d = isLocal d
-withDesk global d = isGlobal d
+withDesk free d = classedFree
+withDesk local d = classedLocal d
+withDesk global d = classedGlobal d
 
 -- "Classifier: 1–4, 7, 8."
 unfoldable pub classifyResult : List ℕ → ℕ → List ℕ → Classified
 classifyResult ws k ps =
     ifAccepted (planVerdict ws then operationVerdict (planOf ws) (operation k ps))
     (withDesk (classOf (planOf ws) (operation k ps)) (deskOf (planOf ws) (operation k ps)))
-    isRefused
+    classRefused

@@ -1,14 +1,14 @@
 // The two calls that take the lent queue. Its length and its first 32 records are read; all else is reckoned on those, and a request then
 // stores at most one record.
 ghost use mathlib.Core.Path.{_≡_};
-ghost use Rattle.routing.specs.Request.{recordOf, requestResult};
-ghost use Rattle.passing.specs.Visit.{visitResult};
-ghost use Rattle.routing.specs.Answer.{requestedOf};
-ghost use Rattle.passing.specs.Answer.{visitedOf};
+ghost use Rattle.requests.specs.Request.{recordOf, requestResult};
+ghost use Rattle.visits.specs.Visit.{visitResult};
+ghost use Rattle.requests.specs.Answer.{requestedOf};
+ghost use Rattle.visits.specs.Answer.{visitedOf};
 use desk::Desk;
-use passing::VisitResult;
 use queue::Request;
-use routing::RequestResult;
+use requests::RequestResult;
+use visits::VisitResult;
 
 // A request at a desk.
 pub fn request(
@@ -25,7 +25,7 @@ pub fn request(
 {
     let size = queue.len();
     let records = queue::copied(queue);
-    let step = routing::request_step(
+    let step = requests::request_step(
         plan,
         state,
         cells,
@@ -55,5 +55,5 @@ pub fn visit(
 {
     let size = queue.len();
     let records = queue::copied(queue);
-    passing::visit_core(plan, state, cells, size, records, frame, out, replies)
+    visits::visit_core(plan, state, cells, size, records, frame, out, replies)
 }

@@ -2,13 +2,13 @@
 // refused with 5 in its turn.
 ghost use mathlib.Core.Path.{_≡_};
 ghost use Rattle.queue.specs.Words.{queueIn, KeptUnlessRow};
-ghost use Rattle.routing.specs.Request.{recordOf, requestResult};
-ghost use Rattle.passing.specs.Visit.{visitResult};
-ghost use Rattle.routing.specs.Answer.{requestedOf};
-ghost use Rattle.passing.specs.Answer.{visitedOf};
+ghost use Rattle.requests.specs.Request.{recordOf, requestResult};
+ghost use Rattle.visits.specs.Visit.{visitResult};
+ghost use Rattle.requests.specs.Answer.{requestedOf};
+ghost use Rattle.visits.specs.Answer.{visitedOf};
 use desk::Desk;
-use passing::VisitResult;
-use routing::RequestResult;
+use requests::RequestResult;
+use visits::VisitResult;
 
 // A request at a desk.
 pub fn request_on_words(
@@ -26,7 +26,7 @@ pub fn request_on_words(
 {
     let size = queue::size_in(row);
     let records = queue::records_in(row);
-    let step = routing::request_step(
+    let step = requests::request_step(
         plan,
         state,
         cells,
@@ -57,5 +57,5 @@ pub fn visit_on_words(
 {
     let size = queue::size_in(row);
     let records = queue::records_in(row);
-    passing::visit_core(plan, state, cells, size, records, frame, out, replies)
+    visits::visit_core(plan, state, cells, size, records, frame, out, replies)
 }

@@ -19,7 +19,7 @@ use Rattle.queue.specs.declared.record.Request.{Request}
 use Rattle.desk.specs.declared.state.Desk.{Desk}
 use Rattle.desk.specs.declared.check.DeskCheck.{DeskCheck}
 use Rattle.desk.specs.Queueing.{operationOf, waitingIn}
-use Rattle.desk.specs.Admission.{waitsHere, deskStands}
+use Rattle.desk.specs.Admission.{waitsHere, deskFits}
 use Rattle.desk.specs.Place.{TableHolds}
 
 -- ---- one record
@@ -41,23 +41,23 @@ module _ (p : Plan) (desk : ℕ) (r : Request) where
 -- ---- the state, with the records
 
 module _ (ws : List ℕ) (d : Desk) (records : List Request) where
-  pub desk-out : headDesks (headOf ws) ≤ d .desk → deskStands (planOf ws) d records ≡ false
-  unfolding deskStands
+  pub desk-out : headDesks (headOf ws) ≤ d .desk → deskFits (planOf ws) d records ≡ false
+  unfolding deskFits
   desk-out h = rw (desk-count ws, le-ltb _ _ h)
 
   module _ (h : d .desk < headDesks (headOf ws)) where
-    pub too-many : 32 < d .waiting → deskStands (planOf ws) d records ≡ false
-    unfolding deskStands
+    pub too-many : 32 < d .waiting → deskFits (planOf ws) d records ≡ false
+    unfolding deskFits
     too-many w = rw (desk-count ws, lt-ltb _ _ h, lt-leb _ _ w)
 
     module _ (w : d .waiting ≤ 32) where
-      pub other-visit : (d .awaited % headDesks (headOf ws) ≡ d .desk → ⊥) → deskStands (planOf ws) d records ≡ false
-      unfolding deskStands
+      pub other-visit : (d .awaited % headDesks (headOf ws) ≡ d .desk → ⊥) → deskFits (planOf ws) d records ≡ false
+      unfolding deskFits
       other-visit a = rw (desk-count ws, lt-ltb _ _ h, le-leb _ _ w, ne-eqb _ _ a)
 
       pub by-records : d .awaited % headDesks (headOf ws) ≡ d .desk
-          → deskStands (planOf ws) d records ≡ every (waitsHere (planOf ws) (d .desk)) (waitingIn (d .waiting) records)
-      unfolding deskStands
+          → deskFits (planOf ws) d records ≡ every (waitsHere (planOf ws) (d .desk)) (waitingIn (d .waiting) records)
+      unfolding deskFits
       by-records a = rw (desk-count ws, lt-ltb _ _ h, le-leb _ _ w, eq-eqb _ _ a)
 
 -- an answer for which no table was filled says nothing of one

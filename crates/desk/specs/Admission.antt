@@ -36,7 +36,7 @@ waitsHere p desk r =
 
 -- 6: "Is the desk below n, waiting at most 32, the awaited number congruent to the desk modulo n, each waiting record a global operation
 -- of this desk?"
-unfoldable pub deskStands : Plan → Desk → List Request → Bool
-deskStands p d queue =
+unfoldable pub deskFits : Plan → Desk → List Request → Bool
+deskFits p d queue =
     ltb (d .desk) (p .desks) && (leb (d .waiting) queueSize && (eqb (d .awaited % p .desks) (d .desk)
     && every (waitsHere p (d .desk)) (waitingIn (d .waiting) queue)))

@@ -10,7 +10,7 @@ ghost use Rattle.plan.specs.Place.{transactionPlaces};
 ghost use Rattle.conflict.specs.Touch.{maskTable};
 ghost use Rattle.queue.specs.Queue.{queueSize};
 ghost use Rattle.desk.specs.Queueing.{waitingIn};
-ghost use Rattle.desk.specs.Admission.{waitsHere, deskStands};
+ghost use Rattle.desk.specs.Admission.{waitsHere, deskFits};
 ghost use Rattle.desk.specs.Place.{TableHolds};
 use crate::admitted;
 use crate::admitted::Located;
@@ -22,7 +22,7 @@ use word::fields;
 
 // The answer to question 6, with the table of masks if it had to be filled.
 pub struct DeskCheck {
-    pub stands: bool,
+    pub fits: bool,
     pub known: bool,
     pub masks: [u8; STORE_SIZE],
 }
@@ -67,27 +67,27 @@ fn all_wait_here(
 }
 
 // An answer for which no table was filled.
-fn untabled(stands: bool) -> DeskCheck
-    ensures stands { λ r. ⌜ r .stands ≡ stands ⌝ }
+fn untabled(fits: bool) -> DeskCheck
+    ensures fits { λ r. ⌜ r .fits ≡ fits ⌝ }
     ensures unknown { λ r. ⌜ r .known ≡ false ⌝ }
 {
     let masks = [0u8; STORE_SIZE];
     DeskCheck {
-        stands: stands,
+        fits: fits,
         known: false,
         masks: masks,
     }
 }
 
 // Question 6. The table is filled if requests wait.
-pub fn standing(
+pub fn check_desk(
     plan: &[u32],
     places: &[usize],
     state: Desk,
     records: [Request; QUEUE_SIZE],
 ) -> DeskCheck
     requires { ⌜ (planVerdict (now plan) ≡ accepted) × (now places ≡ transactionPlaces (now plan)) ⌝ }
-    ensures stands { λ r. ⌜ r .stands ≡ deskStands (planOf (now (plan .entry))) state records ⌝ }
+    ensures fits { λ r. ⌜ r .fits ≡ deskFits (planOf (now (plan .entry))) state records ⌝ }
     ensures table { λ r. ⌜ TableHolds (now (plan .entry)) r ⌝ }
 {
     let desks = plan[0] / fields::DESKS % 16;
@@ -106,24 +106,24 @@ pub fn standing(
         return untabled(true);
     }
     let masks = conflict::desk_masks(plan);
-    let stands = all_wait_here(plan, places, desk, waiting, records, &masks);
+    let fits = all_wait_here(plan, places, desk, waiting, records, &masks);
     DeskCheck {
-        stands: stands,
+        fits: fits,
         known: true,
         masks: masks,
     }
 }
 
 // Question 6 alone.
-pub fn desk_stands(
+pub fn desk_fits(
     plan: &[u32],
     places: &[usize],
     state: Desk,
     records: [Request; QUEUE_SIZE],
 ) -> bool
     requires { ⌜ (planVerdict (now plan) ≡ accepted) × (now places ≡ transactionPlaces (now plan)) ⌝ }
-    ensures { λ r. ⌜ r ≡ deskStands (planOf (now (plan .entry))) state records ⌝ }
+    ensures { λ r. ⌜ r ≡ deskFits (planOf (now (plan .entry))) state records ⌝ }
 {
-    let standing = standing(plan, places, state, records);
-    standing.stands
+    let checked = check_desk(plan, places, state, records);
+    checked.fits
 }

@@ -27,18 +27,18 @@ use Rattle.queue.specs.Queue.{noRequest}
 use Rattle.queue.specs.declared.record.Request.{Request}
 use Rattle.desk.specs.declared.state.Desk.{Desk}
 use Rattle.desk.specs.Queueing.{operationOf, waitingIn}
-use Rattle.desk.specs.Admission.{deskBuffersFit, waitsHere, deskStands}
-use Rattle.passing.specs.Admission.{visitBuffersFit}
-use Rattle.passing.specs.Visit.{forwarded, Visited, caughtUp, outgoingFrame, visitedBy, visitVerdict, visitResult}
-use Rattle.passing.specs.Waiting.{runAll, Answered, repliesOf, replyWords, repliesWords}
-use Rattle.passing.specs.Running.{replyTo, allReplies}
-use Rattle.passing.proofs.WaitingRuns.{replies-length}
-use Rattle.passing.proofs.OwnUpdates.{replies-count}
+use Rattle.desk.specs.Admission.{deskBuffersFit, waitsHere, deskFits}
+use Rattle.visits.specs.Admission.{visitBuffersFit}
+use Rattle.visits.specs.Visit.{forwarded, Visited, caughtUp, outgoingFrame, visitedBy, visitVerdict, visitResult}
+use Rattle.visits.specs.Waiting.{runAll, Answered, repliesOf, replyWords, repliesWords}
+use Rattle.visits.specs.Running.{replyTo, allReplies}
+use Rattle.visits.proofs.WaitingRuns.{replies-length}
+use Rattle.visits.proofs.OwnUpdates.{replies-count}
 use Rattle.history.specs.History.{Holding}
 use Rattle.history.specs.Answering.{WaitsAt, replyPart, visitResultAt, storeBefore, AnswersWaiting, VisitAnswersWaiting}
 use Rattle.history.specs.AcceptedVisit.{RecordsFit, Sends, VisitFrameReads, ChangedWordRefused}
 use Rattle.history.proofs.Operations.{Runs}
-use Rattle.history.proofs.Standing.{Stands, Six, six}
+use Rattle.history.proofs.Sound.{Sound, Six, six}
 use Rattle.history.proofs.Visits.{turn-of, sends-reads}
 
 mem-take : {A : Type 0} (k : ℕ) (l : List A) (x : A) → List·Memᴰ x (take k l) → List·Memᴰ x l
@@ -95,11 +95,11 @@ module _ (plan : List ℕ) (h : Holding) (frame out replies : List ℕ) where
     abbrev fit : Bool
     fit = deskBuffersFit (h .cells) (h .queue) && visitBuffersFit out replies
 
-    rest-of : (fit ≡ true) × (deskStands (planOf plan) d (h .queue) ≡ true)
+    rest-of : (fit ≡ true) × (deskFits (planOf plan) d (h .queue) ≡ true)
     unfolding visitVerdict
     rest-of =
         let a = then-accepted (planVerdict plan) _ verdict-of .1 in
-        let b = ask-then-accepted 5 fit _ a in (b .0, ask-then-accepted 6 (deskStands (planOf plan) d (h .queue)) _ (b .1) .0)
+        let b = ask-then-accepted 5 fit _ a in (b .0, ask-then-accepted 6 (deskFits (planOf plan) d (h .queue)) _ (b .1) .0)
 
     six-of : Six plan h
     six-of = six plan h (rest-of .1)
@@ -169,10 +169,10 @@ module _ (plan : List ℕ) (h : Holding) (frame out replies : List ℕ) where
     -- what an accepted visit writes is read as visit v + 1 with the outgoing updates
     frame-reads : RecordsFit (h .queue) → Sends plan h frame out replies (take words (left .out))
     frame-reads fit =
-        let ok : Stands plan (λ (q : ℕ). length (h .queue)) (d .desk) h =
+        let ok : Sound plan (λ (q : ℕ). length (h .queue)) (d .desk) h =
         record {
           desk = refl;
-          stands = rest-of .1;
+          fits = rest-of .1;
           size = refl;
           room = room-of;
           runs = mem-All (Runs (planOf plan)) waiting (waits-runs fit);

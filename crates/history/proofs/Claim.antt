@@ -34,7 +34,7 @@ use Rattle.history.proofs.Protocol.{system}
 use Rattle.history.proofs.ProtocolLaws.{laws, touch-of, of-touch}
 use Rattle.history.proofs.Seen.{answeredSeen}
 use Rattle.history.proofs.View.{callSeen}
-use Rattle.history.proofs.Standing.{start-stands}
+use Rattle.history.proofs.Sound.{start-sound}
 use Rattle.history.proofs.Machine.{machine, frames, after-is, refusals-are, proper-is}
 use Rattle.history.proofs.SerialSeen.{finishedSeen, serialSeen, notes-seen}
 use Rattle.history.proofs.OrderSeen.{RanAs, RunsAll, sort-seen, all-sorted, store-seen, due-seen}
@@ -62,7 +62,7 @@ module _ (ws : List ℕ) (accept : planVerdict ws ≡ accepted) (class : Operati
   w = start cells rows
 
   standing : AllOk M w
-  standing q l = start-stands ws cells rows q l
+  standing q l = start-sound ws cells rows q l
 
   proper : MachineProper M N w (startingFrame ∷ []) cs
   proper = proper-is ws accept class right records cs w (startingFrame ∷ []) pr

@@ -21,12 +21,12 @@ use Rattle.conflict.specs.Class.{classBy}
 use Rattle.token.specs.Frame.{writeWords, updateWords, updatesWords, sumsFrom, frameAround}
 use Rattle.token.specs.Admission.{writesFrom, updatesFrom, deskCount, frameHeaded, sumsRight, updateFormed, cellFormed, wellFormed}
 use Rattle.token.specs.Admission.{fewPerDesk, updatesRight, frameVerdict}
-use Rattle.desk.specs.Admission.{deskBuffersFit, waitsHere, deskStands}
-use Rattle.passing.specs.Admission.{visitBuffersFit, turnVerdict}
-use Rattle.routing.specs.Request.{requestVerdict, requestResult}
+use Rattle.desk.specs.Admission.{deskBuffersFit, waitsHere, deskFits}
+use Rattle.visits.specs.Admission.{visitBuffersFit, turnVerdict}
+use Rattle.requests.specs.Request.{requestVerdict, requestResult}
 use Rattle.token.specs.Forward.{foreign, applyAll}
-use Rattle.passing.specs.Visit.{visitVerdict, visitResult}
-use Rattle.passing.specs.Waiting.{runAll, updatesOf, repliesOf, repliesWords}
+use Rattle.visits.specs.Visit.{visitVerdict, visitResult}
+use Rattle.visits.specs.Waiting.{runAll, updatesOf, repliesOf, repliesWords}
 use Rattle.history.specs.Course.{Course}
 use Rattle.plan.specs.Admission as plans
 
@@ -44,7 +44,7 @@ unfolding ones planVerdict hasHead countsInRange transactionsVerdict plans.wellF
     frameVerdict frameHeaded sumsRight updatesRight wellFormed updateFormed cellFormed fewPerDesk deskCount writesFrom updatesFrom
     sumsFrom frameAround cellsNamed transactionExists unusedZero rowInRange parametersPass operationVerdict applyUpdate act runFrom
     maskOf some rowTouched cellTouched stepTouches deskMask cellGiven stepWrites written classBy writeWords updateWords updatesWords
-    deskBuffersFit visitBuffersFit waitsHere deskStands turnVerdict requestVerdict requestResult foreign applyAll visitVerdict
+    deskBuffersFit visitBuffersFit waitsHere deskFits turnVerdict requestVerdict requestResult foreign applyAll visitVerdict
     visitResult runAll updatesOf repliesOf repliesWords
 course =
     record {

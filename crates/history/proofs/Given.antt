@@ -13,17 +13,17 @@ use Rattle.plan.specs.Admission.{planVerdict}
 use Rattle.operation.specs.Operation.{Operation}
 use Rattle.operation.specs.Run.{Reply}
 use Rattle.conflict.specs.Class.{Class}
-use Rattle.routing.specs.Request.{recordOf, requestResult}
-use Rattle.routing.specs.Request as asked
-use Rattle.passing.specs.Visit.{Visited, visitedBy, visitVerdict, visitResult}
-use Rattle.passing.specs.Waiting.{Answered, repliesWords}
+use Rattle.requests.specs.Request.{recordOf, requestResult}
+use Rattle.requests.specs.Request as asked
+use Rattle.visits.specs.Visit.{Visited, visitedBy, visitVerdict, visitResult}
+use Rattle.visits.specs.Waiting.{Answered, repliesWords}
 use Rattle.serial.specs.Desk as desk
 use Rattle.serial.specs.Machine.{answersSeen}
 use Rattle.history.specs.History.{Holding, Call, request, visit, stepAt, outcomes}
 use Rattle.history.specs.SerialRun.{Classifies}
 use Rattle.history.specs.Claim.{repliesIn, PutsOut, EachGives}
 use Rattle.history.proofs.Seen.{answeredSeen}
-use Rattle.history.proofs.View.{responseSeen, passageSeen, repliesRun}
+use Rattle.history.proofs.View.{responseSeen, forwardingSeen, repliesRun}
 use Rattle.history.proofs.Machine.{machine}
 
 -- ---- a reply with its client's word, both ways
@@ -44,7 +44,7 @@ response-given : (client : ℕ) (a : asked.Response) → desk.given (responseSee
 response-given client (asked.replied r) = refl
 response-given client asked.waits = refl
 response-given client (asked.redirected d) = refl
-response-given client (asked.isRefused question) = refl
+response-given client (asked.requestRefused question) = refl
 
 module _ (ws : List ℕ) (h : Holding) (p : ℕ) (ft out replies : List ℕ) where
   abbrev rs : List Answered
@@ -53,7 +53,7 @@ module _ (ws : List ℕ) (h : Holding) (p : ℕ) (ft out replies : List ℕ) whe
   abbrev by : Verdict → Visited
   by v = visitedBy (planOf ws) (h .state) (h .cells) (h .queue) ft out replies v
 
-  put-by : (v : Verdict) (ts : List Answered) → desk.given (passageSeen (by v .answer) (by v .out) rs) ≡ map answeredSeen ts →
+  put-by : (v : Verdict) (ts : List Answered) → desk.given (forwardingSeen (by v .answer) (by v .out) rs) ≡ map answeredSeen ts →
       PutsOut (by v .answer) replies (by v .replies) ts
   put-by accepted ts e =
       let s : rs ≡ ts = seen-once rs ts e in
@@ -61,7 +61,7 @@ module _ (ws : List ℕ) (h : Holding) (p : ℕ) (ft out replies : List ℕ) whe
   put-by (refused q) ts e = (sym (seen-once [] ts e), refl)
 
   pub visit-puts : (ts : List Answered) →
-      desk.given (passageSeen (visitResult ws (h .state) (h .cells) (h .queue) ft out replies .answer)
+      desk.given (forwardingSeen (visitResult ws (h .state) (h .cells) (h .queue) ft out replies .answer)
       (visitResult ws (h .state) (h .cells) (h .queue) ft out replies .out) rs) ≡ map answeredSeen ts →
       PutsOut (visitResult ws (h .state) (h .cells) (h .queue) ft out replies .answer) replies
       (visitResult ws (h .state) (h .cells) (h .queue) ft out replies .replies) ts
@@ -92,7 +92,7 @@ module _ (ws : List ℕ) (accept : planVerdict ws ≡ accepted) (class : Operati
   each-gives (visit p ft out buffer ∷ cs) w i m =
       let v = visitResult ws (w p .state) (w p .cells) (w p .queue) ft out buffer in (
         visit-puts ws (w p) p ft out buffer (replies i)
-            (first i (passageSeen (v .answer) (v .out) (repliesRun ws (w p) (visit p ft out buffer))) (m 0)),
+            (first i (forwardingSeen (v .answer) (v .out) (repliesRun ws (w p) (visit p ft out buffer))) (m 0)),
         each-gives cs (stepAt ws w (visit p ft out buffer)) (suc i) (λ j. m (suc j) ∙ later i j),
       )
 

@@ -20,11 +20,11 @@ use Rattle.queue.specs.Queue.{noRequest}
 use Rattle.queue.specs.declared.record.Request.{Request}
 use Rattle.desk.specs.Queueing.{operationOf}
 use Rattle.desk.specs.Admission.{deskBuffersFit}
-use Rattle.routing.specs.Request.{Requested, served, routed, enqueued, unchanged, requestVerdict, requestResult}
-use Rattle.passing.specs.Visit.{visitedBy, visitVerdict, visitResult}
-use Rattle.history.specs.History.{Holding, requested, visited, passageRefused, holdingAfter}
+use Rattle.requests.specs.Request.{Requested, served, routed, enqueued, unchanged, requestVerdict, requestResult}
+use Rattle.visits.specs.Visit.{visitedBy, visitVerdict, visitResult}
+use Rattle.history.specs.History.{Holding, requested, visited, forwardingRefused, holdingAfter}
 use Rattle.history.specs.Answering.{WaitsAt}
-use Rattle.routing.specs.Request as asked
+use Rattle.requests.specs.Request as asked
 
 module _ (plan : List ℕ) (h : Holding) where
   -- ---- a request
@@ -39,7 +39,7 @@ module _ (plan : List ℕ) (h : Holding) where
     told (asked.replied reply) = false
     told asked.waits = true
     told (asked.redirected d) = false
-    told (asked.isRefused question) = false
+    told (asked.requestRefused question) = false
 
     -- any other answer leaves the queue as it was
     other : (cells : List ℕ) (a : asked.Response) → told a ≡ false →
@@ -49,7 +49,7 @@ module _ (plan : List ℕ) (h : Holding) where
     module _ (size : length (h .queue) ≡ 32) where
       -- 9: "do fewer than 32 wait?"
       by-room : (b : Bool) → ltb (h .state .waiting) 32 ≡ b → Joined (cond b (enqueued (h .state) (h .cells) (h .queue) r)
-          (unchanged (h .state) (h .cells) (h .queue) (asked.isRefused 9)))
+          (unchanged (h .state) (h .cells) (h .queue) (asked.requestRefused 9)))
       by-room true e =
           let room : h .state .waiting < length (h .queue) = omega (arith, ltb-true (h .state .waiting) 32 e) in
           record {
@@ -59,7 +59,7 @@ module _ (plan : List ℕ) (h : Holding) where
             );
             joins = λ f. (omega arith, getD-set-same (h .queue) (h .state .waiting) r noRequest room);
           }
-      by-room false e = other (h .cells) (asked.isRefused 9) refl
+      by-room false e = other (h .cells) (asked.requestRefused 9) refl
 
       by-class : (c : Class) (b : Bool) → Joined (routed (h .state) (h .cells) (h .queue) c b (planOf plan) r)
       by-class free b = other _ (asked.replied _) refl
@@ -70,7 +70,7 @@ module _ (plan : List ℕ) (h : Holding) where
 
     by-verdict : (v : Verdict) → (v ≡ accepted → length (h .queue) ≡ 32) →
         Joined (served (h .state) (h .cells) (h .queue) v (planOf plan) r)
-    by-verdict (refused q) f = other (h .cells) (asked.isRefused q) refl
+    by-verdict (refused q) f = other (h .cells) (asked.requestRefused q) refl
     by-verdict accepted f =
         by-class (f refl) (classOf (planOf plan) (operationOf r)) (eqb (deskOf (planOf plan) (operationOf r)) (h .state .desk))
 
@@ -89,12 +89,12 @@ module _ (plan : List ℕ) (h : Holding) where
 
   module _ (frame out replies : List ℕ) (k : ℕ) (t : Request) (w : WaitsAt k t h) where
     by-keeps : (v : Verdict) →
-        passageRefused (visitedBy (planOf plan) (h .state) (h .cells) (h .queue) frame out replies v .answer) ≡ true →
+        forwardingRefused (visitedBy (planOf plan) (h .state) (h .cells) (h .queue) frame out replies v .answer) ≡ true →
         WaitsAt k t (holdingAfter h (visited (visitedBy (planOf plan) (h .state) (h .cells) (h .queue) frame out replies v)))
     by-keeps accepted e = absurd (false≢true e)
     by-keeps (refused q) e = w
 
-    pub visit-keeps : passageRefused (visitResult plan (h .state) (h .cells) (h .queue) frame out replies .answer) ≡ true →
+    pub visit-keeps : forwardingRefused (visitResult plan (h .state) (h .cells) (h .queue) frame out replies .answer) ≡ true →
         WaitsAt k t (holdingAfter h (visited (visitResult plan (h .state) (h .cells) (h .queue) frame out replies)))
     unfolding visitResult
     visit-keeps = by-keeps (visitVerdict plan (h .state) (h .cells) (h .queue) frame out replies)

@@ -5,7 +5,7 @@ pub mod ProtocolLaws
 pub mod Outgoing
 pub mod Seen
 pub mod View
-pub mod Standing
+pub mod Sound
 pub mod Requests
 pub mod Visits
 pub mod Machine

@@ -14,25 +14,25 @@ use Rattle.operation.specs.Run.{Update, Reply}
 use Rattle.conflict.specs.Class.{Class}
 use Rattle.token.specs.Frame.{startingFrame}
 use Rattle.token.proofs.Readers.{starting-reads}
-use Rattle.routing.specs.Request.{recordOf, requestResult}
-use Rattle.routing.specs.Request as asked
-use Rattle.passing.specs.Visit.{visitResult}
-use Rattle.passing.specs.Visit as passing
-use Rattle.passing.specs.Waiting.{Answered}
+use Rattle.requests.specs.Request.{recordOf, requestResult}
+use Rattle.requests.specs.Request as asked
+use Rattle.visits.specs.Visit.{visitResult}
+use Rattle.visits.specs.Visit as visiting
+use Rattle.visits.specs.Waiting.{Answered}
 use Rattle.serial.specs.Frame as frame
 use Rattle.serial.specs.Desk as desk
 use Rattle.serial.specs.Step as step
 use Rattle.serial.specs.Machine.{Machine, Words, machineAfter, answersSeen, MachineProper}
 use Rattle.history.specs.History.{Holding, Call, request, visit, deskCalled, Outcome, requested, visited, isRefused, holdingAfter}
-use Rattle.history.specs.History.{responseRefused, passageRefused, frameWritten, written, outcome, stepAt, outcomeAt, outcomes}
+use Rattle.history.specs.History.{responseRefused, forwardingRefused, frameWritten, written, outcome, stepAt, outcomeAt, outcomes}
 use Rattle.history.specs.History.{holdingsAfter, WordsFit, Proper}
 use Rattle.history.specs.SerialRun.{Classifies}
 use Rattle.history.proofs.Protocol.{Brought, system}
 use Rattle.history.proofs.Seen.{frameSeen}
-use Rattle.history.proofs.View.{view, callSeen, responseSeen, passageSeen, outcomeSeen, repliesRun}
-use Rattle.history.proofs.Standing.{Stands}
-use Rattle.history.proofs.Requests.{request-seen, request-stands}
-use Rattle.history.proofs.Visits.{visit-seen, visit-stands}
+use Rattle.history.proofs.View.{view, callSeen, responseSeen, forwardingSeen, outcomeSeen, repliesRun}
+use Rattle.history.proofs.Sound.{Sound}
+use Rattle.history.proofs.Requests.{request-seen, request-sound}
+use Rattle.history.proofs.Visits.{visit-seen, visit-sound}
 
 -- the words of the frame that a call brings
 abbrev pub frameBrought : Call → List ℕ
@@ -45,22 +45,22 @@ response-refused : (client : ℕ) (a : asked.Response) → desk.isRefused (respo
 response-refused client (asked.replied r) = refl
 response-refused client asked.waits = refl
 response-refused client (asked.redirected d) = refl
-response-refused client (asked.isRefused question) = refl
+response-refused client (asked.requestRefused question) = refl
 
 response-sends : (client : ℕ) (a : asked.Response) → desk.sent (responseSeen client a) ≡ []
 response-sends client (asked.replied r) = refl
 response-sends client asked.waits = refl
 response-sends client (asked.redirected d) = refl
-response-sends client (asked.isRefused question) = refl
+response-sends client (asked.requestRefused question) = refl
 
-passage-refused : (a : passing.Passage) (out : List ℕ) (rs : List Answered) → desk.isRefused (passageSeen a out rs) ≡ passageRefused a
-passage-refused (passing.forwarded words count) out rs = refl
-passage-refused (passing.isRefused question) out rs = refl
+passage-refused : (a : visiting.Forwarding) (out : List ℕ) (rs : List Answered) → desk.isRefused (forwardingSeen a out rs) ≡ forwardingRefused a
+passage-refused (visiting.forwarded words count) out rs = refl
+passage-refused (visiting.visitRefused question) out rs = refl
 
-passage-sends : (a : passing.Passage) (out : List ℕ) (rs : List Answered) → desk.sent (passageSeen a out rs)
+passage-sends : (a : visiting.Forwarding) (out : List ℕ) (rs : List Answered) → desk.sent (forwardingSeen a out rs)
     ≡ map frameSeen (frameWritten a out)
-passage-sends (passing.forwarded words count) out rs = refl
-passage-sends (passing.isRefused question) out rs = refl
+passage-sends (visiting.forwarded words count) out rs = refl
+passage-sends (visiting.visitRefused question) out rs = refl
 
 module _ (ws : List ℕ) (h : Holding) (rs : List Answered) where
   pub refused-seen : (c : Call) → desk.isRefused (outcomeSeen c (outcome ws h c) rs) ≡ isRefused (outcome ws h c)
@@ -89,18 +89,18 @@ start-seen ws accept =
 
 module _ (ws : List ℕ) (accept : planVerdict ws ≡ accepted) (class : Operation → Class) (right : Classifies (planOf ws) class)
     (records : ℕ → ℕ) where
-  pub stands-does : (h : Holding) (c : Call) → WordsFit c → Stands ws records (desk.deskCalled (callSeen c)) h →
-      Stands ws records (desk.deskCalled (callSeen c)) (holdingAfter h (outcome ws h c))
-  stands-does h (request p client k ps) f ok =
+  pub sound-does : (h : Holding) (c : Call) → WordsFit c → Sound ws records (desk.deskCalled (callSeen c)) h →
+      Sound ws records (desk.deskCalled (callSeen c)) (holdingAfter h (outcome ws h c))
+  sound-does h (request p client k ps) f ok =
       subst
-      (λ (q : ℕ). Stands ws records q h → Stands ws records q
+      (λ (q : ℕ). Sound ws records q h → Sound ws records q
       (holdingAfter h (requested (requestResult ws (h .state) (h .cells) (h .queue) (recordOf client k ps)))))
-      (ok .desk) (λ s. request-stands ws accept class right records h s client k ps f) ok
-  stands-does h (visit p ft out replies) f ok =
+      (ok .desk) (λ s. request-sound ws accept class right records h s client k ps f) ok
+  sound-does h (visit p ft out replies) f ok =
       subst
-      (λ (q : ℕ). Stands ws records q h → Stands ws records q
+      (λ (q : ℕ). Sound ws records q h → Sound ws records q
       (holdingAfter h (visited (visitResult ws (h .state) (h .cells) (h .queue) ft out replies))))
-      (ok .desk) (λ s. visit-stands ws accept records h s ft out replies) ok
+      (ok .desk) (λ s. visit-sound ws accept records h s ft out replies) ok
 
   abbrev pub Served : Holding → Call → Type 0
   Served h c =
@@ -108,12 +108,12 @@ module _ (ws : List ℕ) (accept : planVerdict ws ≡ accepted) (class : Operati
       (view (holdingAfter h (outcome ws h c)), outcomeSeen c (outcome ws h c) (repliesRun ws h c))
       (step.serve (system ws class records) (view h) (callSeen c))
 
-  pub served : (h : Holding) (c : Call) → WordsFit c → Stands ws records (desk.deskCalled (callSeen c)) h → Served h c
+  pub served : (h : Holding) (c : Call) → WordsFit c → Sound ws records (desk.deskCalled (callSeen c)) h → Served h c
   served h (request p client k ps) f ok =
-      subst (λ (q : ℕ). Stands ws records q h → Served h (request q client k ps)) (ok .desk)
+      subst (λ (q : ℕ). Sound ws records q h → Served h (request q client k ps)) (ok .desk)
       (λ s. request-seen ws accept class right records h s client k ps f) ok
   served h (visit p ft out replies) f ok =
-      subst (λ (q : ℕ). Stands ws records q h → Served h (visit q ft out replies)) (ok .desk)
+      subst (λ (q : ℕ). Sound ws records q h → Served h (visit q ft out replies)) (ok .desk)
       (λ s. visit-seen ws accept records h s ft out replies class) ok
 
   abbrev pub machine : Machine (system ws class records)
@@ -126,9 +126,9 @@ module _ (ws : List ℕ) (accept : planVerdict ws ≡ accepted) (class : Operati
         view = view;
         callOf = callSeen;
         answerOf = λ c a. outcomeSeen c (a .0) (a .1);
-        Ok = Stands ws records;
+        Ok = Sound ws records;
         Fine = WordsFit;
-        ok-does = λ h c l f ok. stands-does h c f ok;
+        ok-does = λ h c l f ok. sound-does h c f ok;
         view-does = λ h c l f ok. ap (λ (x : desk.Desk Operation × desk.Answer Reply). x .0) (served h c f ok);
         answer-does = λ h c l f ok. ap (λ (x : desk.Desk Operation × desk.Answer Reply). x .1) (served h c f ok);
       }

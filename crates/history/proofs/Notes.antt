@@ -18,8 +18,8 @@ use Rattle.conflict.specs.Class.{Class, free, local, global}
 use Rattle.queue.specs.declared.record.Request.{Request}
 use Rattle.desk.specs.declared.state.Desk.{Desk}
 use Rattle.desk.specs.Queueing.{operationOf}
-use Rattle.desk.specs.Admission.{deskBuffersFit, deskStands}
-use Rattle.routing.specs.Request.{recordOf, served, requestVerdict, requestResult}
+use Rattle.desk.specs.Admission.{deskBuffersFit, deskFits}
+use Rattle.requests.specs.Request.{recordOf, served, requestVerdict, requestResult}
 use Rattle.history.specs.History.{Holding, Call, request, visit, deskCalled, responseRefused, isRefused, outcomeAt, stepAt, outcomes}
 use Rattle.history.specs.History.{written, WordsFit, Proper}
 use Rattle.history.specs.SerialRun.{Serial, noteNothing, noteRun, noteJoin, noteRequest, ranked, noteVisit, note, noteAll}
@@ -87,7 +87,7 @@ module _ (ws : List ℕ) where
       let v = not-refused (h .state) (h .cells) (h .queue) (recordOf client k ps) _ e in
       let a = then-accepted (planVerdict ws) _ v .1 in
       let b = ask-then-accepted 5 (deskBuffersFit (h .cells) (h .queue)) _ a .1 in
-      let c = ask-then-accepted 6 (deskStands (planOf ws) (h .state) (h .queue)) _ b .1 in
+      let c = ask-then-accepted 6 (deskFits (planOf ws) (h .state) (h .queue)) _ b .1 in
       record-runs ws client k ps words c
 
   module _ (class : Operation → Class) where

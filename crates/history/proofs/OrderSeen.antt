@@ -12,7 +12,7 @@ use Rattle.operation.specs.Operation.{Operation}
 use Rattle.operation.specs.Run.{Store, Reply, Outcome, run}
 use Rattle.conflict.specs.Class.{Class}
 use Rattle.desk.specs.Queueing.{operationOf}
-use Rattle.passing.specs.Waiting.{Answered}
+use Rattle.visits.specs.Waiting.{Answered}
 use Rattle.serial.specs.System.{System}
 use Rattle.serial.specs.Order as order
 use Rattle.serial.specs.SerialRun as run

@@ -18,9 +18,9 @@ use Rattle.token.specs.WellFormed.{WellFormed}
 use Rattle.token.specs.Forward.{foreign}
 use Rattle.token.proofs.Foreign.{forwarded-fits}
 use Rattle.queue.specs.declared.record.Request.{Request}
-use Rattle.passing.specs.Waiting.{updatesOf}
-use Rattle.passing.specs.Running.{isOperation}
-use Rattle.passing.proofs.OwnUpdates.{updates-count, all-fit}
+use Rattle.visits.specs.Waiting.{updatesOf}
+use Rattle.visits.specs.Running.{isOperation}
+use Rattle.visits.proofs.OwnUpdates.{updates-count, all-fit}
 use Rattle.history.proofs.Operations.{Runs}
 
 -- requests that run pass questions 7 and 8

@@ -14,7 +14,7 @@ use Rattle.operation.specs.Run.{Store, Reply, Outcome, declined, run}
 use Rattle.conflict.specs.Class.{Class, free, local, global}
 use Rattle.token.specs.Admission.{frameVerdict}
 use Rattle.desk.specs.Queueing.{joinQueue}
-use Rattle.passing.specs.Admission.{visitBuffersFit, turnVerdict}
+use Rattle.visits.specs.Admission.{visitBuffersFit, turnVerdict}
 use Rattle.serial.specs.Desk.{Desk, Call, request, visit}
 use Rattle.serial.specs.System.{System}
 use Rattle.serial.specs.System as protocol

@@ -23,11 +23,11 @@ use Rattle.conflict.proofs.Classes.{class-free, class-local, class-global}
 use Rattle.queue.specs.declared.record.Request.{Request}
 use Rattle.desk.specs.declared.state.Desk.{Desk}
 use Rattle.desk.specs.Queueing.{operationOf, waitingIn}
-use Rattle.desk.specs.Admission.{deskBuffersFit, waitsHere, deskStands}
-use Rattle.routing.specs.Request.{Requested, recordOf, served, routed, ranNow, enqueued, unchanged, JoinsQueue, requestVerdict}
-use Rattle.routing.specs.Request.{requestResult}
-use Rattle.routing.specs.Request as asked
-use Rattle.routing.proofs.Joining.{joins-queue}
+use Rattle.desk.specs.Admission.{deskBuffersFit, waitsHere, deskFits}
+use Rattle.requests.specs.Request.{Requested, recordOf, served, routed, ranNow, enqueued, unchanged, JoinsQueue, requestVerdict}
+use Rattle.requests.specs.Request.{requestResult}
+use Rattle.requests.specs.Request as asked
+use Rattle.requests.proofs.Joining.{joins-queue}
 use Rattle.serial.specs.System.{System}
 use Rattle.serial.specs.Desk as desk
 use Rattle.serial.specs.Step as step
@@ -37,7 +37,7 @@ use Rattle.history.proofs.Operations.{Runs}
 use Rattle.history.proofs.Protocol.{classSeen, roomBy, sizesFit, requestAsked, system}
 use Rattle.history.proofs.Seen.{requestSeen, ran-is, one-seen}
 use Rattle.history.proofs.View.{view, responseSeen}
-use Rattle.history.proofs.Standing.{Stands, six}
+use Rattle.history.proofs.Sound.{Sound, six}
 
 -- the record of a request whose parameters are words and that passes 7 and 8 holds an operation
 four-words : (ps : List ℕ) → ((i : ℕ) → getD ps i 0 < 2 ^ 32) → (i : ℕ)
@@ -60,7 +60,7 @@ class-same ws e o i local m = class-local ws e o i .1 m
 class-same ws e o i global m = class-global ws e o i .1 m
 
 module _ (ws : List ℕ) (accept : planVerdict ws ≡ accepted) (class : Operation → Class) (right : Classifies (planOf ws) class)
-    (records : ℕ → ℕ) (h : Holding) (ok : Stands ws records (h .state .desk) h) (client k : ℕ) (ps : List ℕ)
+    (records : ℕ → ℕ) (h : Holding) (ok : Sound ws records (h .state .desk) h) (client k : ℕ) (ps : List ℕ)
     (words : (i : ℕ) → getD ps i 0 < 2 ^ 32) where
   -- the protocol of the plan
   abbrev pub S : System
@@ -85,7 +85,7 @@ module _ (ws : List ℕ) (accept : planVerdict ws ≡ accepted) (class : Operati
 
   asking-is : asking ≡ requestAsked ws class records (h .cells) (d .desk) o
   unfolding requestVerdict deskBuffersFit
-  asking-is = rw (accept, ok .stands, ok .size) refl
+  asking-is = rw (accept, ok .fits, ok .size) refl
 
   pub record Passes : Type 0 where
     pub runs : IsOperation (planOf ws) o
@@ -122,7 +122,7 @@ module _ (ws : List ℕ) (accept : planVerdict ws ≡ accepted) (class : Operati
         (sym (one-seen ws class records o (h .cells) (p .runs))) (sym (ran-is ws class records o (h .cells) (p .runs)))
 
     join-seen : (b : Bool) → ltb (d .waiting) 32 ≡ b →
-        seen (cond b (enqueued d (h .cells) (h .queue) r) (unchanged d (h .cells) (h .queue) (asked.isRefused 9)))
+        seen (cond b (enqueued d (h .cells) (h .queue) r) (unchanged d (h .cells) (h .queue) (asked.requestRefused 9)))
         ≡ cond b (step.requestStep S step.enqueue (view h) (requestSeen r)) (view h, desk.refused)
     join-seen true e =
         ap (λ (q : List (desk.Request Operation)). (record { store = h .cells; queue = q; awaited = d .awaited }, desk.waits))
@@ -161,19 +161,19 @@ module _ (ws : List ℕ) (accept : planVerdict ws ≡ accepted) (class : Operati
   -- ---- the desk stands behind the call
 
   abbrev After : Requested → Type 0
-  After m = Stands ws records (d .desk) (holdingAfter h (requested m))
+  After m = Sound ws records (d .desk) (holdingAfter h (requested m))
 
-  kept : (cells : List ℕ) → Stands ws records (d .desk) (record { state = d; cells = cells; queue = h .queue })
-  kept cells = record { desk = refl; stands = ok .stands; size = ok .size; room = ok .room; runs = ok .runs }
+  kept : (cells : List ℕ) → Sound ws records (d .desk) (record { state = d; cells = cells; queue = h .queue })
+  kept cells = record { desk = refl; fits = ok .fits; size = ok .size; room = ok .room; runs = ok .runs }
 
-  joins-stands : Passes → d .waiting < 32 → classOf (planOf ws) o ≡ global → own ≡ true → After (enqueued d (h .cells) (h .queue) r)
-  unfolding deskStands waitsHere
-  joins-stands p l c b =
-      let s = six ws h (ok .stands) in
+  joins-sound : Passes → d .waiting < 32 → classOf (planOf ws) o ≡ global → own ≡ true → After (enqueued d (h .cells) (h .queue) r)
+  unfolding deskFits waitsHere
+  joins-sound p l c b =
+      let s = six ws h (ok .fits) in
       let here : waitsHere (planOf ws) (d .desk) r ≡ true = rw (p .runs .passes, c, b) refl in
       record {
         desk = refl;
-        stands = and-true _ _ (s .below)
+        fits = and-true _ _ (s .below)
             (and-true _ _ (le-leb (d .waiting + 1) 32 (omega arith))
             (and-true _ _ (eq-eqb (d .awaited % planOf ws .desks) (d .desk) (s .turn))
             (ap (every (waitsHere (planOf ws) (d .desk))) (joined p l)
@@ -184,23 +184,23 @@ module _ (ws : List ℕ) (accept : planVerdict ws ≡ accepted) (class : Operati
             (All-append (Runs (planOf ws)) (waitingIn (d .waiting) (h .queue)) (r ∷ []) (ok .runs) (p .runs, tt));
       }
 
-  join-stands : Passes → classOf (planOf ws) o ≡ global → own ≡ true → (t : Bool) → ltb (d .waiting) 32 ≡ t →
-      After (cond t (enqueued d (h .cells) (h .queue) r) (unchanged d (h .cells) (h .queue) (asked.isRefused 9)))
-  join-stands p c b true e = joins-stands p (ltb-true (d .waiting) 32 e) c b
-  join-stands p c b false e = kept (h .cells)
+  join-sound : Passes → classOf (planOf ws) o ≡ global → own ≡ true → (t : Bool) → ltb (d .waiting) 32 ≡ t →
+      After (cond t (enqueued d (h .cells) (h .queue) r) (unchanged d (h .cells) (h .queue) (asked.requestRefused 9)))
+  join-sound p c b true e = joins-sound p (ltb-true (d .waiting) 32 e) c b
+  join-sound p c b false e = kept (h .cells)
 
-  routed-stands : Passes → (c : Class) (b : Bool) → classOf (planOf ws) o ≡ c → own ≡ b →
+  routed-sound : Passes → (c : Class) (b : Bool) → classOf (planOf ws) o ≡ c → own ≡ b →
       After (routed d (h .cells) (h .queue) c b (planOf ws) r)
-  routed-stands p free b c e = kept _
-  routed-stands p local true c e = kept _
-  routed-stands p local false c e = kept _
-  routed-stands p global true c e = join-stands p c e (ltb (d .waiting) 32) refl
-  routed-stands p global false c e = kept _
+  routed-sound p free b c e = kept _
+  routed-sound p local true c e = kept _
+  routed-sound p local false c e = kept _
+  routed-sound p global true c e = join-sound p c e (ltb (d .waiting) 32) refl
+  routed-sound p global false c e = kept _
 
-  served-stands : (v : Verdict) → (v ≡ accepted → Passes) → After (served d (h .cells) (h .queue) v (planOf ws) r)
-  served-stands (refused q) f = kept _
-  served-stands accepted f = routed-stands (f refl) (classOf (planOf ws) o) own refl refl
+  served-sound : (v : Verdict) → (v ≡ accepted → Passes) → After (served d (h .cells) (h .queue) v (planOf ws) r)
+  served-sound (refused q) f = kept _
+  served-sound accepted f = routed-sound (f refl) (classOf (planOf ws) o) own refl refl
 
-  pub request-stands : After (requestResult ws d (h .cells) (h .queue) r)
+  pub request-sound : After (requestResult ws d (h .cells) (h .queue) r)
   unfolding requestResult
-  request-stands = served-stands asking passes
+  request-sound = served-sound asking passes

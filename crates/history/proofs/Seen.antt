@@ -16,7 +16,7 @@ use Rattle.token.specs.Admission.{frameVisit, frameUpdates}
 use Rattle.queue.specs.declared.record.Request.{Request}
 use Rattle.desk.specs.Queueing.{operationOf}
 use Rattle.token.specs.Forward.{foreign, applyAll}
-use Rattle.passing.specs.Waiting.{Answered, runAll, updatesOf, repliesOf}
+use Rattle.visits.specs.Waiting.{Answered, runAll, updatesOf, repliesOf}
 use Rattle.serial.specs.System.{System}
 use Rattle.serial.specs.Store as store
 use Rattle.serial.specs.Frame as frame

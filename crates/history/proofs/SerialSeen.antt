@@ -11,7 +11,7 @@ use Rattle.operation.specs.Operation.{Operation, deskOf}
 use Rattle.conflict.specs.Class.{Class, free, local, global}
 use Rattle.queue.specs.declared.record.Request.{Request}
 use Rattle.desk.specs.Queueing.{operationOf}
-use Rattle.routing.specs.Request.{recordOf}
+use Rattle.requests.specs.Request.{recordOf}
 use Rattle.serial.specs.System.{System}
 use Rattle.serial.specs.Desk as desk
 use Rattle.serial.specs.Step as step

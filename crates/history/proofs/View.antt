@@ -7,11 +7,11 @@ use Rattle.plan.specs.Decode.{planOf}
 use Rattle.operation.specs.Operation.{Operation}
 use Rattle.operation.specs.Run.{Reply}
 use Rattle.desk.specs.Queueing.{waitingIn}
-use Rattle.routing.specs.Request.{recordOf}
-use Rattle.routing.specs.Request as asked
-use Rattle.passing.specs.Visit.{caughtUp}
-use Rattle.passing.specs.Visit as passing
-use Rattle.passing.specs.Waiting.{Answered, repliesOf}
+use Rattle.requests.specs.Request.{recordOf}
+use Rattle.requests.specs.Request as asked
+use Rattle.visits.specs.Visit.{caughtUp}
+use Rattle.visits.specs.Visit as visiting
+use Rattle.visits.specs.Waiting.{Answered, repliesOf}
 use Rattle.serial.specs.Desk as desk
 use Rattle.history.specs.History.{Holding, Call, request, visit, Outcome, requested, visited}
 use Rattle.history.proofs.Protocol.{Brought}
@@ -34,18 +34,18 @@ abbrev pub responseSeen : ℕ → asked.Response → desk.Answer Reply
 responseSeen client (asked.replied r) = desk.replied (client, r)
 responseSeen client asked.waits = desk.waits
 responseSeen client (asked.redirected d) = desk.redirected d
-responseSeen client (asked.isRefused question) = desk.refused
+responseSeen client (asked.requestRefused question) = desk.refused
 
 -- a visit's answer with its outgoing words, and the replies whose words stand in the reply buffer
-abbrev pub passageSeen : passing.Passage → List ℕ → List Answered → desk.Answer Reply
-passageSeen (passing.forwarded words count) out rs = desk.forwarded (frameSeen (take words out)) (map answeredSeen rs)
-passageSeen (passing.isRefused question) out rs = desk.refused
+abbrev pub forwardingSeen : visiting.Forwarding → List ℕ → List Answered → desk.Answer Reply
+forwardingSeen (visiting.forwarded words count) out rs = desk.forwarded (frameSeen (take words out)) (map answeredSeen rs)
+forwardingSeen (visiting.visitRefused question) out rs = desk.refused
 
 abbrev pub outcomeSeen : Call → Outcome → List Answered → desk.Answer Reply
 outcomeSeen (request p client k ps) (requested r) rs = responseSeen client (r .answer)
 outcomeSeen (request p client k ps) (visited v) rs = desk.refused
 outcomeSeen (visit p frame out replies) (requested r) rs = desk.refused
-outcomeSeen (visit p frame out replies) (visited v) rs = passageSeen (v .answer) (v .out) rs
+outcomeSeen (visit p frame out replies) (visited v) rs = forwardingSeen (v .answer) (v .out) rs
 
 -- the replies of the requests that a visit runs
 abbrev pub repliesRun : List ℕ → Holding → Call → List Answered

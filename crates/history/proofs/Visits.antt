@@ -28,12 +28,12 @@ use Rattle.token.proofs.RoundTrip.{reads-written, written-reads}
 use Rattle.queue.specs.declared.record.Request.{Request}
 use Rattle.desk.specs.declared.state.Desk.{Desk}
 use Rattle.desk.specs.Queueing.{waitingIn}
-use Rattle.desk.specs.Admission.{deskBuffersFit, deskStands}
-use Rattle.passing.specs.Admission.{visitBuffersFit, turnVerdict}
+use Rattle.desk.specs.Admission.{deskBuffersFit, deskFits}
+use Rattle.visits.specs.Admission.{visitBuffersFit, turnVerdict}
 use Rattle.token.specs.Forward.{foreign, applyAll}
-use Rattle.passing.specs.Visit.{Visited, caughtUp, outgoingUpdates, outgoingFrame, passed, visitedBy, visitVerdict}
-use Rattle.passing.specs.Visit.{visitResult}
-use Rattle.passing.specs.Waiting.{runAll, updatesOf, repliesOf}
+use Rattle.visits.specs.Visit.{Visited, caughtUp, outgoingUpdates, outgoingFrame, acceptedVisit, visitedBy, visitVerdict}
+use Rattle.visits.specs.Visit.{visitResult}
+use Rattle.visits.specs.Waiting.{runAll, updatesOf, repliesOf}
 use Rattle.serial.specs.System.{System}
 use Rattle.serial.specs.Store as store
 use Rattle.serial.specs.Frame as frame
@@ -44,8 +44,8 @@ use Rattle.history.proofs.Protocol.{Brought, visitAsked, system}
 use Rattle.history.proofs.Outgoing.{outgoing-formed}
 use Rattle.history.proofs.Seen.{requestSeen, updateSeen, frameSeen, answeredSeen, foreign-seen, apply-seen, sent-seen, runAll-seen}
 use Rattle.history.proofs.Seen.{updates-seen, replies-seen}
-use Rattle.history.proofs.View.{view, passageSeen}
-use Rattle.history.proofs.Standing.{Stands, six}
+use Rattle.history.proofs.View.{view, forwardingSeen}
+use Rattle.history.proofs.Sound.{Sound, six}
 
 and-false : (a : Bool) → (a && false) ≡ false
 and-false true = refl
@@ -62,7 +62,7 @@ unfolding visitVerdict turnVerdict
 turn-of ws d cells queue ft out replies e =
     let a = then-accepted (planVerdict ws) _ e .1 in
     let b = ask-then-accepted 5 (deskBuffersFit cells queue && visitBuffersFit out replies) _ a .1 in
-    let c = ask-then-accepted 6 (deskStands (planOf ws) d queue) _ b .1 in
+    let c = ask-then-accepted 6 (deskFits (planOf ws) d queue) _ b .1 in
     let f = then-accepted (frameVerdict (planOf ws .desks) ft) _ c in
     let t = ask-then-accepted 13 (eqb (addressedDesk (headOf ft)) (d .desk)) _ (f .1) .1 in
     record {
@@ -71,7 +71,7 @@ turn-of ws d cells queue ft out replies e =
     }
 
 module _ (ws : List ℕ) (accept : planVerdict ws ≡ accepted) (records : ℕ → ℕ) (h : Holding)
-    (ok : Stands ws records (h .state .desk) h) (ft out replies : List ℕ) where
+    (ok : Sound ws records (h .state .desk) h) (ft out replies : List ℕ) where
   abbrev d : Desk
   d = h .state
 
@@ -93,8 +93,8 @@ module _ (ws : List ℕ) (accept : planVerdict ws ≡ accepted) (records : ℕ �
   abbrev sends : List ℕ
   sends = outgoingFrame (planOf ws) d (h .cells) (h .queue) ft out replies
 
-  abbrev passing : Visited
-  passing = passed (planOf ws) d (h .cells) (h .queue) ft out replies
+  abbrev left : Visited
+  left = acceptedVisit (planOf ws) d (h .cells) (h .queue) ft out replies
 
   abbrev asking : Verdict
   asking = visitVerdict ws d (h .cells) (h .queue) ft out replies
@@ -108,10 +108,10 @@ module _ (ws : List ℕ) (accept : planVerdict ws ≡ accepted) (records : ℕ �
   high = rw (desk-count ws) (accepted-gives ws accept .desks-high)
 
   below : d .desk < n
-  below = ltb-true (d .desk) n (six ws h (ok .stands) .below)
+  below = ltb-true (d .desk) n (six ws h (ok .fits) .below)
 
   few : length q ≤ 32
-  few = omega (arith, length-take-le (d .waiting) (h .queue) (ok .room), six ws h (ok .stands) .few)
+  few = omega (arith, length-take-le (d .waiting) (h .queue) (ok .room), six ws h (ok .fits) .few)
 
   -- the outgoing frame reads as visit v + 1 with the outgoing updates
   pub sends-reads : Turn ws d ft → ReadsAs n sends (frameVisit ft + 1) outs
@@ -123,15 +123,15 @@ module _ (ws : List ℕ) (accept : planVerdict ws ≡ accepted) (records : ℕ �
   -- ---- the desk stands behind the call
 
   abbrev After : Visited → Type 0
-  After m = Stands ws records (d .desk) (holdingAfter h (visited m))
+  After m = Sound ws records (d .desk) (holdingAfter h (visited m))
 
-  passed-stands : Turn ws d ft → After passing
-  unfolding deskStands every
-  passed-stands t =
-      let s = six ws h (ok .stands) in
+  passed-sound : Turn ws d ft → After left
+  unfolding deskFits every
+  passed-sound t =
+      let s = six ws h (ok .fits) in
       record {
         desk = refl;
-        stands = and-true _ _ (s .below)
+        fits = and-true _ _ (s .below)
             (and-true _ _ refl
             (and-true _ _ (eq-eqb ((frameVisit ft + n) % n) (d .desk)
             (add-mod-right (frameVisit ft) n ∙ ap (λ (v : ℕ). v % n) (t .number) ∙ s .turn)) refl));
@@ -140,14 +140,14 @@ module _ (ws : List ℕ) (accept : planVerdict ws ≡ accepted) (records : ℕ �
         runs = tt;
       }
 
-  visited-stands : (v : Verdict) → (v ≡ accepted → Turn ws d ft) → After (visitedBy (planOf ws) d (h .cells) (h .queue) ft out replies v)
-  visited-stands accepted f = passed-stands (f refl)
-  visited-stands (refused k) f =
-      record { desk = refl; stands = ok .stands; size = ok .size; room = ok .room; runs = ok .runs }
+  visited-sound : (v : Verdict) → (v ≡ accepted → Turn ws d ft) → After (visitedBy (planOf ws) d (h .cells) (h .queue) ft out replies v)
+  visited-sound accepted f = passed-sound (f refl)
+  visited-sound (refused k) f =
+      record { desk = refl; fits = ok .fits; size = ok .size; room = ok .room; runs = ok .runs }
 
-  pub visit-stands : After (visitResult ws d (h .cells) (h .queue) ft out replies)
+  pub visit-sound : After (visitResult ws d (h .cells) (h .queue) ft out replies)
   unfolding visitResult
-  visit-stands = visited-stands asking (turn-of ws d (h .cells) (h .queue) ft out replies)
+  visit-sound = visited-sound asking (turn-of ws d (h .cells) (h .queue) ft out replies)
 
   -- ---- what the protocol sees
 
@@ -160,14 +160,14 @@ module _ (ws : List ℕ) (accept : planVerdict ws ≡ accepted) (records : ℕ �
     Seen = desk.Desk Operation × desk.Answer Reply
 
     abbrev seen : Visited → Seen
-    seen m = (view (holdingAfter h (visited m)), passageSeen (m .answer) (m .out) (repliesOf (planOf ws) q c))
+    seen m = (view (holdingAfter h (visited m)), forwardingSeen (m .answer) (m .out) (repliesOf (planOf ws) q c))
 
     abbrev brought : Brought
     brought = record { frame = ft; out = out; replies = replies }
 
     asking-is : asking ≡ visitAsked ws class records (h .cells) (d .desk) (d .awaited) brought
     unfolding visitVerdict deskBuffersFit turnVerdict
-    asking-is = rw (accept, ok .stands, ok .size) refl
+    asking-is = rw (accept, ok .fits, ok .size) refl
 
     caught-seen : step.caughtUp S (d .desk) (view h) (frameSeen ft) ≡ c
     caught-seen =
@@ -199,7 +199,7 @@ module _ (ws : List ℕ) (accept : planVerdict ws ≡ accepted) (records : ℕ �
     given-seen =
         sym (ap (step.repliesOf S (map requestSeen q)) caught-seen ∙ replies-seen ws class records q c (ok .runs))
 
-    passed-seen : Turn ws d ft → seen passing ≡ step.visitStep S (d .desk) (view h) (frameSeen ft)
+    passed-seen : Turn ws d ft → seen left ≡ step.visitStep S (d .desk) (view h) (frameSeen ft)
     passed-seen t =
         ap₂ (λ (s : Store) (a : desk.Answer Reply). (record { store = s; queue = []; awaited = frameVisit ft + n }, a)) store-seen
         (ap₂ desk.forwarded (ap frameSeen (take-append-seam sends (drop (length sends) out)) ∙ outgoing-seen t) given-seen)

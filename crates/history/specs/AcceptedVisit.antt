@@ -12,9 +12,9 @@ use Rattle.operation.specs.Words.{AllWords}
 use Rattle.token.specs.Admission.{frameVerdict, frameVisit, frameUpdates, readVerdict}
 use Rattle.queue.specs.Queue.{paramsOf}
 use Rattle.queue.specs.declared.record.Request.{Request}
-use Rattle.desk.specs.Admission.{deskBuffersFit, deskStands}
-use Rattle.passing.specs.Admission.{visitBuffersFit}
-use Rattle.passing.specs.Visit.{forwarded, isRefused, outgoingUpdates}
+use Rattle.desk.specs.Admission.{deskBuffersFit, deskFits}
+use Rattle.visits.specs.Admission.{visitBuffersFit}
+use Rattle.visits.specs.Visit.{forwarded, visitRefused, outgoingUpdates}
 use Rattle.history.specs.History.{Holding}
 use Rattle.history.specs.Answering.{visitResultAt}
 
@@ -33,7 +33,7 @@ module _ (plan : List ℕ) (h : Holding) (frame out replies : List ℕ) where
   abbrev pub RefusedWith : ℕ → Type 0
   RefusedWith question =
       visitResultAt plan h frame out replies
-      ≡ record { answer = isRefused question; state = h .state; cells = h .cells; out = out; replies = replies }
+      ≡ record { answer = visitRefused question; state = h .state; cells = h .cells; out = out; replies = replies }
 
 -- the frame that an accepted visit writes: the first words of the outgoing ones, as many as its answer says
 abbrev pub VisitFrameReads : Type 0
@@ -46,7 +46,7 @@ VisitFrameReads =
 abbrev pub ChangedWordRefused : Type 0
 ChangedWordRefused =
     (plan : List ℕ) (h : Holding) (frame out replies : List ℕ) → planVerdict plan ≡ accepted
-    → deskBuffersFit (h .cells) (h .queue) && visitBuffersFit out replies ≡ true → deskStands (planOf plan) (h .state) (h .queue) ≡ true
+    → deskBuffersFit (h .cells) (h .queue) && visitBuffersFit out replies ≡ true → deskFits (planOf plan) (h .state) (h .queue) ≡ true
     → AllWords frame → frameVerdict (planOf plan .desks) frame ≡ accepted
     → (i x : ℕ) → i < length frame → x < 2 ^ 32 → (x ≡ getD frame i 0 → ⊥)
     → RefusedWith plan h (set frame i x) out replies 10 ⊎ RefusedWith plan h (set frame i x) out replies 11

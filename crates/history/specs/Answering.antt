@@ -9,11 +9,11 @@ use Rattle.plan.specs.Decode.{planOf}
 use Rattle.operation.specs.Run.{Store}
 use Rattle.queue.specs.Queue.{noRequest}
 use Rattle.queue.specs.declared.record.Request.{Request}
-use Rattle.routing.specs.Request.{recordOf, requestResult}
-use Rattle.routing.specs.Request as asked
-use Rattle.passing.specs.Visit.{forwarded, Visited, caughtUp, visitResult}
-use Rattle.passing.specs.Waiting.{runAll, replyWords}
-use Rattle.passing.specs.Running.{replyTo}
+use Rattle.requests.specs.Request.{recordOf, requestResult}
+use Rattle.requests.specs.Request as asked
+use Rattle.visits.specs.Visit.{forwarded, Visited, caughtUp, visitResult}
+use Rattle.visits.specs.Waiting.{runAll, replyWords}
+use Rattle.visits.specs.Running.{replyTo}
 use Rattle.history.specs.History.{Holding, Call, request, visit, isRefused, outcomeAt, stepAt, holdingsAfter}
 
 -- ---- a waiting request, and its reply

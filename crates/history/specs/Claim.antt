@@ -12,9 +12,9 @@ use Rattle.operation.specs.Operation.{Operation}
 use Rattle.operation.specs.Run.{Store}
 use Rattle.conflict.specs.Class.{Class, JustOne}
 use Rattle.queue.specs.declared.record.Request.{Request}
-use Rattle.routing.specs.Request as asked
-use Rattle.passing.specs.Visit as passing
-use Rattle.passing.specs.Waiting.{Answered, repliesWords}
+use Rattle.requests.specs.Request as asked
+use Rattle.visits.specs.Visit as visiting
+use Rattle.visits.specs.Waiting.{Answered, repliesWords}
 use Rattle.history.specs.History.{Holding, Call, request, visit, Outcome, requested, visited, isRefused, outcomes, holdingsAfter}
 use Rattle.history.specs.History.{start, ProperFromStart}
 use Rattle.history.specs.SerialRun.{Classifies, Serial, serial, order, storeAfter, due}
@@ -26,13 +26,13 @@ abbrev pub repliesIn : ℕ → asked.Response → List Answered
 repliesIn client (asked.replied r) = record { client = client; reply = r } ∷ []
 repliesIn client asked.waits = []
 repliesIn client (asked.redirected d) = []
-repliesIn client (asked.isRefused question) = []
+repliesIn client (asked.requestRefused question) = []
 
 -- "A visit puts out the replies of what it finished, in that order and with their clients' words, and its count is how many they
 -- are": rs stand in the reply buffer, whose words past them are as they were; `before` are its words before the visit
-abbrev pub PutsOut : passing.Passage → List ℕ → List ℕ → List Answered → Type 0
-PutsOut (passing.forwarded words count) before after rs = (count ≡ length rs) × (after ≡ overwritten (repliesWords rs) before)
-PutsOut (passing.isRefused question) before after rs = (rs ≡ []) × (after ≡ before)
+abbrev pub PutsOut : visiting.Forwarding → List ℕ → List ℕ → List Answered → Type 0
+PutsOut (visiting.forwarded words count) before after rs = (count ≡ length rs) × (after ≡ overwritten (repliesWords rs) before)
+PutsOut (visiting.visitRefused question) before after rs = (rs ≡ []) × (after ≡ before)
 
 -- the call with this outcome gives these replies, and no other
 abbrev pub Gives : Call → Outcome → List Answered → Type 0

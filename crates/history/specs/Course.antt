@@ -9,9 +9,9 @@ use Rattle.plan.specs.Decode.{planOf}
 use Rattle.conflict.specs.Class.{classOf}
 use Rattle.queue.specs.Queue.{noRequest}
 use Rattle.queue.specs.declared.record.Request.{Request}
-use Rattle.routing.specs.Request as asked
-use Rattle.passing.specs.Visit as passing
-use Rattle.passing.specs.Waiting.{Answered}
+use Rattle.requests.specs.Request as asked
+use Rattle.visits.specs.Visit as visiting
+use Rattle.visits.specs.Waiting.{Answered}
 use Rattle.starred.specs.Table.{planP, sentFrame}
 use Rattle.history.specs.History.{Call, request, visit, Outcome, requested, visited, isRefused, outcomes, start, ProperFromStart}
 use Rattle.history.specs.Order.{Finished}
@@ -41,7 +41,7 @@ calls =
     request 1 5 2 (1 ∷ 0 ∷ 0 ∷ 0 ∷ []) ∷ request 0 7 1 (0 ∷ 3 ∷ 0 ∷ 0 ∷ []) ∷ passes 0 starting ∷ request 1 6 2 (1 ∷ 0 ∷ 0 ∷ 0 ∷ [])
     ∷ passes 1 sending ∷ passes 1 sending ∷ request 1 8 2 (1 ∷ 0 ∷ 0 ∷ 0 ∷ []) ∷ []
 
-abbrev says : Outcome → asked.Response ⊎ passing.Passage
+abbrev says : Outcome → asked.Response ⊎ visiting.Forwarding
 says (requested r) = inl (r .answer)
 says (visited v) = inr (v .answer)
 
@@ -50,7 +50,7 @@ serialRun os = serial (planOf planP) (classOf (planOf planP)) calls (map isRefus
 
 -- the answers; the replies due to visit 0, call 2; the serial order, by clients; and the serial value of the cell that T1 writes
 abbrev pub Rows : Type 0
-Rows = List (asked.Response ⊎ passing.Passage) × List Answered × List ℕ × ℕ
+Rows = List (asked.Response ⊎ visiting.Forwarding) × List Answered × List ℕ × ℕ
 
 abbrev pub found : List Outcome → Rows
 found os = (
@@ -64,8 +64,8 @@ found os = (
 -- desk may precede, in this order, a global already answered at another": client 6 is answered 0 after client 7's T1, and stands before it
 abbrev pub expected : Rows
 expected = (
-  inl (done 0) ∷ inl asked.waits ∷ inr (passing.forwarded 7 1) ∷ inl (done 0) ∷ inr (passing.forwarded 7 0)
-      ∷ inr (passing.isRefused 14) ∷ inl (done 3) ∷ [],
+  inl (done 0) ∷ inl asked.waits ∷ inr (visiting.forwarded 7 1) ∷ inl (done 0) ∷ inr (visiting.forwarded 7 0)
+      ∷ inr (visiting.visitRefused 14) ∷ inl (done 3) ∷ [],
   record { client = 7; reply = record { done = true; number = 3 } } ∷ [],
   5 ∷ 6 ∷ 7 ∷ 8 ∷ [],
   3,

@@ -10,10 +10,10 @@ use Rattle.plan.specs.Decode.{planOf}
 use Rattle.token.specs.Frame.{startingFrame}
 use Rattle.queue.specs.declared.record.Request.{Request}
 use Rattle.desk.specs.declared.state.Desk.{Desk}
-use Rattle.routing.specs.Request.{Requested, recordOf, requestResult}
-use Rattle.routing.specs.Request as asked
-use Rattle.passing.specs.Visit.{Visited, visitResult}
-use Rattle.passing.specs.Visit as passing
+use Rattle.requests.specs.Request.{Requested, recordOf, requestResult}
+use Rattle.requests.specs.Request as asked
+use Rattle.visits.specs.Visit.{Visited, visitResult}
+use Rattle.visits.specs.Visit as visiting
 
 -- ---- the calls
 
@@ -44,15 +44,15 @@ abbrev pub responseRefused : asked.Response → Bool
 responseRefused (asked.replied r) = false
 responseRefused asked.waits = false
 responseRefused (asked.redirected d) = false
-responseRefused (asked.isRefused question) = true
+responseRefused (asked.requestRefused question) = true
 
-abbrev pub passageRefused : passing.Passage → Bool
-passageRefused (passing.forwarded words replies) = false
-passageRefused (passing.isRefused question) = true
+abbrev pub forwardingRefused : visiting.Forwarding → Bool
+forwardingRefused (visiting.forwarded words replies) = false
+forwardingRefused (visiting.visitRefused question) = true
 
 abbrev pub isRefused : Outcome → Bool
 isRefused (requested r) = responseRefused (r .answer)
-isRefused (visited v) = passageRefused (v .answer)
+isRefused (visited v) = forwardingRefused (v .answer)
 
 -- what the desk holds behind the call. "the row of records is untouched" by a visit
 abbrev pub holdingAfter : Holding → Outcome → Holding
@@ -60,9 +60,9 @@ holdingAfter h (requested r) = record { state = r .state; cells = r .cells; queu
 holdingAfter h (visited v) = record { state = v .state; cells = v .cells; queue = h .queue }
 
 -- the frame that an accepted visit wrote: the first `words` words of its outgoing buffer, `words` being its answer
-abbrev pub frameWritten : passing.Passage → List ℕ → List (List ℕ)
-frameWritten (passing.forwarded words replies) out = take words out ∷ []
-frameWritten (passing.isRefused question) out = []
+abbrev pub frameWritten : visiting.Forwarding → List ℕ → List (List ℕ)
+frameWritten (visiting.forwarded words replies) out = take words out ∷ []
+frameWritten (visiting.visitRefused question) out = []
 
 abbrev pub written : Outcome → List (List ℕ)
 written (requested r) = []

@@ -11,8 +11,8 @@ use Rattle.operation.specs.Run.{Store, applyUpdate, run}
 use Rattle.conflict.specs.Class.{Class, free, local, global, Free, Local, Global}
 use Rattle.queue.specs.declared.record.Request.{Request}
 use Rattle.desk.specs.Queueing.{operationOf, joinQueue}
-use Rattle.routing.specs.Request.{recordOf}
-use Rattle.passing.specs.Waiting.{Answered}
+use Rattle.requests.specs.Request.{recordOf}
+use Rattle.visits.specs.Waiting.{Answered}
 use Rattle.history.specs.History.{Call, request, visit, assign}
 use Rattle.history.specs.Order.{Finished, globalRun, immediateRun, sortOnto}
 

@@ -7,8 +7,6 @@ pub use admission::parameters_pass;
 pub use admission::transaction_exists;
 pub use cell::cell_named;
 pub use cell::desk;
-pub use cell::parameter;
-pub use cell::source_value;
 pub use execution::Outcome;
 pub use execution::Reply;
 pub use execution::STORE_SIZE;

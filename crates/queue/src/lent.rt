@@ -1,17 +1,11 @@
-// The lent queue: its length, one record read, one record stored, and a copy of its 32 records by value.
+// The lent queue: one record read, one record stored, and a copy of its 32 records by value.
 ghost use mathlib.Core.Path.{_≡_};
-ghost use lib.ListN.{length, set};
+ghost use lib.ListN.{set};
 ghost use Rattle.queue.specs.Queue.{recordAt, recordsOf};
 use crate::record::QUEUE_SIZE;
 use crate::record::Request;
 use crate::record::blank;
 use crate::record::blanks;
-
-pub fn len(queue: &[Request]) -> usize
-    ensures { λ r. ⌜ r ≡ length (now (queue .entry)) ⌝ }
-{
-    queue.len()
-}
 
 // The record at a place; past the end the blank one.
 pub fn load(queue: &[Request], at: usize) -> Request

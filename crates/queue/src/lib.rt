@@ -4,14 +4,11 @@ mod record;
 mod words;
 
 pub use lent::copied;
-pub use lent::len;
 pub use lent::load;
 pub use lent::store;
 pub use record::MOST_WAITING;
 pub use record::QUEUE_SIZE;
 pub use record::Request;
-pub use record::blank;
-pub use record::blanks;
 pub use record::params;
 pub use words::records_in;
 pub use words::size_in;

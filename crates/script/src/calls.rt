@@ -24,6 +24,7 @@ use crate::layout::TRANSACTION;
 use crate::texts;
 use conveyor::RequestAnswer;
 use conveyor::RequestResult;
+use conveyor::Verdict;
 use conveyor::VisitAnswer;
 use conveyor::VisitResult;
 use terminal::Memory;
@@ -35,7 +36,6 @@ use terminal::memory::on;
 use terminal::memory::part;
 use terminal::memory::put;
 use terminal::memory::wide;
-use verdict::Verdict;
 
 // Word i, 0 past the end.
 fn word_at(words: &[u32], i: usize) -> u32 {
@@ -144,7 +144,7 @@ fn pass(m: &Memory, cells: &mut [u32], out: &mut [u32], replies: &mut [u32]) -> 
 // Notes what a visit answers: the words that it sends, and its replies with no text.
 fn note_visit(m: &mut Memory, answer: VisitAnswer) -> &mut Memory {
     match answer {
-        VisitAnswer::Passed(words, replies) => answers::note(
+        VisitAnswer::Forwarded(words, replies) => answers::note(
             put(m, OUTGOING, narrow(words % 8192)),
             narrow(replies % 64) as u64,
         ),
@@ -173,7 +173,7 @@ pub fn visit(m: &mut Memory) -> &mut Memory {
 // The starting frame in a marked buffer of the size that is set: 0, or the question.
 fn begin_frame(m: &Memory, out: &mut [u32]) -> u32 {
     let size = get(m, LENT_OUTGOING) as usize;
-    match token::starting_frame(load(part(m, MARKS, MARKS + MOST_WORDS), out, size)) {
+    match conveyor::starting_frame(load(part(m, MARKS, MARKS + MOST_WORDS), out, size)) {
         Verdict::Accepted => 0,
         Verdict::Refused(question) => question,
     }
@@ -192,7 +192,7 @@ pub fn start(m: &mut Memory) -> &mut Memory {
 
 // The words that the frame reader gives back for the words of the line, and how many.
 fn read_into(m: &Memory, into: &mut [u32]) -> usize {
-    let words = token::read_frame(counted(m, PLAN), counted(m, HAND));
+    let words = conveyor::read_frame(counted(m, PLAN), counted(m, HAND));
     load(words, into, 0);
     words.len()
 }

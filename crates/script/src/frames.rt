@@ -16,6 +16,7 @@ use crate::layout::is_kept;
 use crate::layout::parts;
 use crate::texts;
 use crate::words;
+use conveyor::FrameAnswer;
 use terminal::Memory;
 use terminal::memory;
 use terminal::memory::ITEM;
@@ -28,7 +29,6 @@ use terminal::memory::wide;
 use terminal::output::say;
 use terminal::output::say_each;
 use terminal::scanner;
-use token::VisitAnswer;
 
 // Keeps the outgoing words as the next frame, which is then said by a text.
 pub fn send(m: &mut Memory, text: u32) -> &mut Memory {
@@ -58,9 +58,9 @@ pub fn start(m: &mut Memory) -> &mut Memory {
 
 // The answer of the frame reader's second call on the words of the line.
 fn visit_of(m: &Memory) -> u64 {
-    match token::frame_visit(counted(m, PLAN), counted(m, HAND)) {
-        VisitAnswer::Visit(visit) => wide(visit, texts::PART),
-        VisitAnswer::Refused(question) => answers::refused(question),
+    match conveyor::frame_visit(counted(m, PLAN), counted(m, HAND)) {
+        FrameAnswer::Visit(visit) => wide(visit, texts::PART),
+        FrameAnswer::Refused(question) => answers::refused(question),
     }
 }
 

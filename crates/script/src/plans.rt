@@ -8,7 +8,8 @@ use crate::layout::TRANSACTION;
 use crate::layout::WORDS;
 use crate::layout::parts;
 use crate::texts;
-use conflict::ClassAnswer;
+use conveyor::ClassAnswer;
+use conveyor::Verdict;
 use terminal::Memory;
 use terminal::memory;
 use terminal::memory::INDEX;
@@ -21,11 +22,10 @@ use terminal::memory::put;
 use terminal::memory::wide;
 use terminal::output::say;
 use terminal::output::say_each;
-use verdict::Verdict;
 
 // The plan reader's answer.
 fn verdict(m: &Memory) -> u64 {
-    match plan::read_plan(counted(m, PLAN)) {
+    match conveyor::read_plan(counted(m, PLAN)) {
         Verdict::Accepted => answers::refused(0),
         Verdict::Refused(question) => answers::refused(question),
     }
@@ -46,7 +46,7 @@ pub fn hold(m: &mut Memory) -> &mut Memory {
 
 // The classifier's answer to the operation at hand.
 fn class_of(m: &Memory) -> u64 {
-    match conflict::classify(counted(m, PLAN), get(m, TRANSACTION), calls::parameters(m)) {
+    match conveyor::classify(counted(m, PLAN), get(m, TRANSACTION), calls::parameters(m)) {
         ClassAnswer::Free => wide(0, texts::FREE),
         ClassAnswer::Local(desk) => wide(desk, texts::LOCAL),
         ClassAnswer::Global(desk) => wide(desk, texts::GLOBAL),

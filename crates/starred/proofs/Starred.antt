@@ -21,11 +21,11 @@ use Rattle.token.specs.Frame.{sumsFrom, frameAround, writeWords, updateWords, u
 use Rattle.token.specs.Admission as frames
 use Rattle.token.specs.Admission.{writesFrom, updatesFrom, deskCount, frameHeaded, sumsRight, updateFormed, cellFormed, fewPerDesk}
 use Rattle.token.specs.Admission.{updatesRight, frameVerdict, readVerdict}
-use Rattle.desk.specs.Admission.{deskBuffersFit, waitsHere, deskStands}
-use Rattle.passing.specs.Admission.{visitBuffersFit, turnVerdict}
-use Rattle.passing.specs.Waiting.{runAll, updatesOf, repliesOf, repliesWords}
+use Rattle.desk.specs.Admission.{deskBuffersFit, waitsHere, deskFits}
+use Rattle.visits.specs.Admission.{visitBuffersFit, turnVerdict}
+use Rattle.visits.specs.Waiting.{runAll, updatesOf, repliesOf, repliesWords}
 use Rattle.token.specs.Forward.{foreign, applyAll}
-use Rattle.passing.specs.Visit.{visitVerdict, visitResult}
+use Rattle.visits.specs.Visit.{visitVerdict, visitResult}
 use Rattle.starred.specs.Table.{Row, resultOf, table}
 
 pub starred : map (λ (r : Row). resultOf (r .input)) table ≡ map (λ (r : Row). r .result) table
@@ -35,5 +35,5 @@ unfolding ones sourceField reservedZero accessBy actionBy stepOf partBy transact
     stepTouches deskMask cellGiven stepWrites written classBy classifyResult
     readVerdict frameVerdict frameHeaded sumsRight updatesRight frames.wellFormed updateFormed cellFormed fewPerDesk deskCount writesFrom
     updatesFrom sumsFrom frameAround writeWords updateWords updatesWords act runFrom applyUpdate deskBuffersFit visitBuffersFit waitsHere
-    deskStands turnVerdict runAll updatesOf repliesOf repliesWords foreign applyAll visitVerdict visitResult
+    deskFits turnVerdict runAll updatesOf repliesOf repliesWords foreign applyAll visitVerdict visitResult
 starred = refl

@@ -14,12 +14,12 @@ use Rattle.token.specs.Answer.{VisitRead, visitNumber, refusal, visitRead, part
 use Rattle.queue.specs.Queue.{noRequest, queueSize}
 use Rattle.queue.specs.declared.record.Request.{Request}
 use Rattle.desk.specs.declared.state.Desk.{Desk}
-use Rattle.routing.specs.Request.{recordOf}
-use Rattle.passing.specs.Visit.{visitResult}
-use Rattle.conflict.specs.Answer.{Classified, isFree, isLocal, isGlobal, isRefused, classifyResult}
+use Rattle.requests.specs.Request.{recordOf}
+use Rattle.visits.specs.Visit.{visitResult}
+use Rattle.conflict.specs.Answer.{Classified, classedFree, classedLocal, classedGlobal, classRefused, classifyResult}
 use Rattle.operation.specs.Run.{storeSize}
-use Rattle.passing.specs.Waiting.{replySize, repliesSize}
-use Rattle.passing.specs.Visit as passing
+use Rattle.visits.specs.Waiting.{replySize, repliesSize}
+use Rattle.visits.specs.Visit as visiting
 
 -- "Plan P: 1204000B 22200000 52000000 40000000 22200000 52000000 42700000 21100000 32700000 201F0000 34700000."
 abbrev pub planP : List ℕ
@@ -56,12 +56,12 @@ pub data Input : Type 0 where
 
 -- what is shown of a visit: the answer, the state that it leaves, the first seven outgoing words and the first three reply words
 pub record Left : Type 0 where
-  pub answer : passing.Passage
+  pub answer : visiting.Forwarding
   pub state : Desk
   pub out : List ℕ
   pub replies : List ℕ
 
-abbrev left : passing.Passage → Desk → List ℕ → List ℕ → Left
+abbrev left : visiting.Forwarding → Desk → List ℕ → List ℕ → Left
 left a d out replies = record { answer = a; state = d; out = out; replies = replies }
 
 pub data Result : Type 0 where
@@ -74,7 +74,7 @@ pub data Result : Type 0 where
   frame : VisitRead → List SentUpdate → Result
   visited : List Left → Result
 
-abbrev shown : passing.Visited → Left
+abbrev shown : visiting.Visited → Left
 shown v = left (v .answer) (v .state) (take 7 (v .out)) (take replySize (v .replies))
 
 -- "State, book and row pass from call to call at their desk": each visit runs on what the one before left
@@ -105,20 +105,20 @@ abbrev pub table : List Row
 table =
     row readPlan (verdict accepted)
     -- "T0(5, 9): desk 1, local; cell 20."
-    ∷ row (classify 0 (5 ∷ 9 ∷ 0 ∷ 0 ∷ [])) (classified (isLocal 1))
+    ∷ row (classify 0 (5 ∷ 9 ∷ 0 ∷ 0 ∷ [])) (classified (classedLocal 1))
     ∷ row (cellsWritten 0 (5 ∷ 9 ∷ 0 ∷ 0 ∷ [])) (cells (20 ∷ []))
     -- "T0(4, 9): desk 0, local."
-    ∷ row (classify 0 (4 ∷ 9 ∷ 0 ∷ 0 ∷ [])) (classified (isLocal 0))
+    ∷ row (classify 0 (4 ∷ 9 ∷ 0 ∷ 0 ∷ [])) (classified (classedLocal 0))
     -- "T0(31, 9) passes", "T0(32, 9): 8."
     ∷ row (admit 0 (31 ∷ 9 ∷ 0 ∷ 0 ∷ [])) (verdict accepted)
     ∷ row (admit 0 (32 ∷ 9 ∷ 0 ∷ 0 ∷ [])) (verdict (refused 8))
-    ∷ row (classify 0 (32 ∷ 9 ∷ 0 ∷ 0 ∷ [])) (classified (isRefused 8))
+    ∷ row (classify 0 (32 ∷ 9 ∷ 0 ∷ 0 ∷ [])) (classified (classRefused 8))
     -- "T1(0, 3): desk 0, global."
-    ∷ row (classify 1 (0 ∷ 3 ∷ 0 ∷ 0 ∷ [])) (classified (isGlobal 0))
+    ∷ row (classify 1 (0 ∷ 3 ∷ 0 ∷ 0 ∷ [])) (classified (classedGlobal 0))
     -- "T2(1): desk 1, local."
-    ∷ row (classify 2 (1 ∷ 0 ∷ 0 ∷ 0 ∷ [])) (classified (isLocal 1))
+    ∷ row (classify 2 (1 ∷ 0 ∷ 0 ∷ 0 ∷ [])) (classified (classedLocal 1))
     -- "T3(): free."
-    ∷ row (classify 3 (0 ∷ 0 ∷ 0 ∷ 0 ∷ [])) (classified isFree)
+    ∷ row (classify 3 (0 ∷ 0 ∷ 0 ∷ 0 ∷ [])) (classified classedFree)
     -- "Starting frame: 90000004 00000000 90000004 20000008."
     ∷ row (startFrame (replicate 5 1)) (started accepted (0x90000004 ∷ 0x00000000 ∷ 0x90000004 ∷ 0x20000008 ∷ 1 ∷ []))
     ∷ row (readFrame (0x90000004 ∷ 0x00000000 ∷ 0x90000004 ∷ 0x20000008 ∷ [])) (frame (visitNumber 0) [])
@@ -128,11 +128,11 @@ table =
     ∷ row (readFrame (sentFrame 0xA1100000)) (frame (refusal 11) [])
     -- "Desk 0 with T1(0, 3) of client 7 waiting, visit 0, sends ..; reply C0000001 00000007 00000003." The frame sent "at desk 0: 13"
     ∷ row (visits (desk 0 1 0) (recordOf 7 1 (0 ∷ 3 ∷ 0 ∷ 0 ∷ []) ∷ []) (startingFrame ∷ sentFrame 0xA0100000 ∷ []))
-    (visited (left (passing.forwarded 7 1) (desk 0 0 2) (sentFrame 0xA0100000) (0xC0000001 ∷ 0x00000007 ∷ 0x00000003 ∷ [])
-    ∷ left (passing.isRefused 13) (desk 0 0 2) (replicate 7 0) (replicate 3 0) ∷ []))
+    (visited (left (visiting.forwarded 7 1) (desk 0 0 2) (sentFrame 0xA0100000) (0xC0000001 ∷ 0x00000007 ∷ 0x00000003 ∷ [])
+    ∷ left (visiting.visitRefused 13) (desk 0 0 2) (replicate 7 0) (replicate 3 0) ∷ []))
     -- "Word 2 as A1100000: 11. The frame twice at desk 1: 14"
     ∷ row (visits (desk 1 0 1) [] (sentFrame 0xA1100000 ∷ sentFrame 0xA0100000 ∷ sentFrame 0xA0100000 ∷ []))
-    (visited (left (passing.isRefused 11) (desk 1 0 1) (replicate 7 0) (replicate 3 0)
-    ∷ left (passing.forwarded 7 0) (desk 1 0 3) passedOn (replicate 3 0)
-    ∷ left (passing.isRefused 14) (desk 1 0 3) (replicate 7 0) (replicate 3 0) ∷ []))
+    (visited (left (visiting.visitRefused 11) (desk 1 0 1) (replicate 7 0) (replicate 3 0)
+    ∷ left (visiting.forwarded 7 0) (desk 1 0 3) passedOn (replicate 3 0)
+    ∷ left (visiting.visitRefused 14) (desk 1 0 3) (replicate 7 0) (replicate 3 0) ∷ []))
     ∷ []

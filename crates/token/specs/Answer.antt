@@ -7,8 +7,8 @@ use Rattle.verdict.specs.Verdict.{Verdict, ask, ifAccepted}
 use Rattle.lists.specs.Lists.{overwritten}
 use Rattle.token.specs.Frame.{startingFrame, leastFrame}
 use Rattle.token.specs.Admission.{updatesPart, frameVisit}
-use Rattle.token.specs.declared.reader.VisitAnswer.{VisitAnswer}
-use Rattle.token.specs.declared.reader.VisitAnswer.the-variants as visit
+use Rattle.token.specs.declared.reader.FrameAnswer.{FrameAnswer}
+use Rattle.token.specs.declared.reader.FrameAnswer.the-variants as visit
 
 -- "Reading a frame gives back the part of it that holds the updates"; "a frame reader hands back the empty part"
 abbrev pub partRead : Verdict → List ℕ → List ℕ
@@ -22,7 +22,7 @@ pub data VisitRead : Type 0 where
 abbrev pub visitRead : Verdict → List ℕ → VisitRead
 visitRead v frame = ifAccepted v (visitNumber (frameVisit frame)) refusal
 
-abbrev pub visitOf : VisitAnswer → VisitRead
+abbrev pub visitOf : FrameAnswer → VisitRead
 visitOf (visit.Visit number) = visitNumber number
 visitOf (visit.Refused question) = refusal question
 

@@ -6,13 +6,11 @@ mod updates;
 mod writer;
 
 pub use forward::forward_foreign;
+pub use reader::FrameAnswer;
 pub use reader::LONGEST_FRAME;
-pub use reader::VisitAnswer;
 pub use reader::check_frame;
 pub use reader::frame_visit;
 pub use reader::read_frame;
-pub use sums::Sums;
-pub use sums::frame_sums;
 pub use writer::seal;
 pub use writer::starting_frame;
 pub use writer::write_update;

@@ -17,7 +17,7 @@ pub const LEAST_FRAME: usize = 4;
 pub const LONGEST_FRAME: usize = 6404;
 
 // The visit number, or the number of the question whose answer is no.
-pub enum VisitAnswer {
+pub enum FrameAnswer {
     Visit(u32),
     Refused(u32),
 }
@@ -113,12 +113,12 @@ pub fn read_frame<'a>(plan: &[u32], frame: &'a [u32]) -> &'a [u32]
 }
 
 // The visit number, or the refusal's number, by the same questions.
-pub fn frame_visit(plan: &[u32], frame: &[u32]) -> VisitAnswer
+pub fn frame_visit(plan: &[u32], frame: &[u32]) -> FrameAnswer
     ensures { λ r. ⌜ visitOf r ≡ visitRead (readVerdict (now (plan .entry)) (now (frame .entry))) (now (frame .entry)) ⌝ }
 {
     let answer = check(plan, frame);
     match answer {
-        Verdict::Accepted => VisitAnswer::Visit(frame[1]),
-        Verdict::Refused(question) => VisitAnswer::Refused(question),
+        Verdict::Accepted => FrameAnswer::Visit(frame[1]),
+        Verdict::Refused(question) => FrameAnswer::Refused(question),
     }
 }

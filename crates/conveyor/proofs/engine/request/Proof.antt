@@ -60,14 +60,14 @@ use Rattle.queue.proofs.store.Met as store-thm
 use Rattle.desk.specs.declared.state.Desk.{Desk}
 use Rattle.desk.proofs.state.Desk as D
 use Rattle.desk.proofs.state.Desk.Laws as D′
-use Rattle.routing.proofs.asking.RequestResult as R
-use Rattle.routing.proofs.asking.RequestResult.Laws as R′
-use Rattle.routing.proofs.asking.RequestStep as S
-use Rattle.routing.proofs.asking.RequestStep.Laws as S′
-use Rattle.routing.proofs.request_step as core
-use Rattle.routing.proofs.request_step.Symbol as core-def
-use Rattle.routing.proofs.request_step.Symbol.{name as #routing·request-step}
-use Rattle.routing.proofs.request_step.Met as core-thm
+use Rattle.requests.proofs.asking.RequestResult as R
+use Rattle.requests.proofs.asking.RequestResult.Laws as R′
+use Rattle.requests.proofs.asking.RequestStep as S
+use Rattle.requests.proofs.asking.RequestStep.Laws as S′
+use Rattle.requests.proofs.request_step as core
+use Rattle.requests.proofs.request_step.Symbol as core-def
+use Rattle.requests.proofs.request_step.Symbol.{name as #requests·request-step}
+use Rattle.requests.proofs.request_step.Met as core-thm
 use Rattle.conveyor.proofs.Lent.{lent, Params, refAt, refVal, token, desk-typed, params-typed}
 use Rattle.conveyor.proofs.engine.request.Key.{name as #conveyor·engine·request}
 use Rattle.conveyor.proofs.engine.request as request
@@ -78,7 +78,7 @@ use Rattle.conveyor.proofs.engine.request.Proof.Core.{CoreTriple, field
 
 module _ {M : Type 1} (𝓤 : URA M) (H : Heap 𝓤) (A : Atoms 𝓤) (W : Given 𝓤 H A) (mem : Memory → SProp 𝓤) (run : Routine → Fun 𝓤)
     (𝓣 : Tables 𝓤 H) (known-copied : Triple 𝓤 (𝓣 .C #queue·copied) (Copied 𝓤 H A mem run))
-    (known-core : Triple 𝓤 (𝓣 .C #routing·request-step) (CoreTriple 𝓤 H A mem run))
+    (known-core : Triple 𝓤 (𝓣 .C #requests·request-step) (CoreTriple 𝓤 H A mem run))
     (known-store : Triple 𝓤 (𝓣 .C #queue·store) (Store 𝓤 H A mem run)) where
   module _ (x : Entry) (f : Fits x) where
     walk : Room u32 (length (x .plan .now)) → Room u32 (length (x .cells .now)) → Room T.the-row (length (x .queue .now))
@@ -240,7 +240,7 @@ request-spec 𝓤 H 𝓜 𝓖 𝓡 =
     (request-meets 𝓤 H (𝓖 .A) (givenOf 𝓤 H 𝓜 𝓖) (𝓜 .mem) (𝓡 .run) (tablesOf 𝓤 H 𝓜 (tables 𝓤 H 𝓜 𝓡 code.env))
     (cited 𝓤 H (Copied 𝓤 H (𝓖 .A) (𝓜 .mem) (𝓡 .run)) 𝓜 𝓡 code.env #queue·copied copied-def.routine code.calls-queue·copied
     (copied-thm.met 𝓤 H 𝓜 𝓖 𝓡))
-    (cited 𝓤 H (CoreTriple 𝓤 H (𝓖 .A) (𝓜 .mem) (𝓡 .run)) 𝓜 𝓡 code.env #routing·request-step core-def.routine
-    code.calls-routing·request-step (core-thm.met 𝓤 H 𝓜 𝓖 𝓡))
+    (cited 𝓤 H (CoreTriple 𝓤 H (𝓖 .A) (𝓜 .mem) (𝓡 .run)) 𝓜 𝓡 code.env #requests·request-step core-def.routine
+    code.calls-requests·request-step (core-thm.met 𝓤 H 𝓜 𝓖 𝓡))
     (cited 𝓤 H (Store 𝓤 H (𝓖 .A) (𝓜 .mem) (𝓡 .run)) 𝓜 𝓡 code.env #queue·store store-def.routine code.calls-queue·store
     (store-thm.met 𝓤 H 𝓜 𝓖 𝓡)))

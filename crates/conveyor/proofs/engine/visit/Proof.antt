@@ -50,12 +50,12 @@ use Rattle.queue.proofs.copied.Symbol.{name as #queue·copied}
 use Rattle.queue.proofs.copied.Met as copied-thm
 use Rattle.desk.proofs.state.Desk as D
 use Rattle.desk.proofs.state.Desk.Laws as D′
-use Rattle.passing.proofs.visiting.VisitResult as Out
-use Rattle.passing.proofs.visiting.VisitResult.Laws as Out′
-use Rattle.passing.proofs.visit_core as core
-use Rattle.passing.proofs.visit_core.Symbol as core-def
-use Rattle.passing.proofs.visit_core.Symbol.{name as #passing·visit-core}
-use Rattle.passing.proofs.visit_core.Met as core-thm
+use Rattle.visits.proofs.visiting.VisitResult as Out
+use Rattle.visits.proofs.visiting.VisitResult.Laws as Out′
+use Rattle.visits.proofs.visit_core as core
+use Rattle.visits.proofs.visit_core.Symbol as core-def
+use Rattle.visits.proofs.visit_core.Symbol.{name as #visits·visit-core}
+use Rattle.visits.proofs.visit_core.Met as core-thm
 use Rattle.conveyor.proofs.Lent.{lent, refAt, refVal, token, desk-typed}
 use Rattle.conveyor.proofs.engine.visit.Key.{name as #conveyor·engine·visit}
 use Rattle.conveyor.proofs.engine.visit as visit
@@ -67,7 +67,7 @@ use Rattle.conveyor.proofs.engine.visit.Proof.Core.{CoreTriple, coreLft
 
 module _ {M : Type 1} (𝓤 : URA M) (H : Heap 𝓤) (A : Atoms 𝓤) (W : Given 𝓤 H A) (mem : Memory → SProp 𝓤) (run : Routine → Fun 𝓤)
     (𝓣 : Tables 𝓤 H) (known-copied : Triple 𝓤 (𝓣 .C #queue·copied) (Copied 𝓤 H A mem run))
-    (known-core : Triple 𝓤 (𝓣 .C #passing·visit-core) (CoreTriple 𝓤 H A mem run)) where
+    (known-core : Triple 𝓤 (𝓣 .C #visits·visit-core) (CoreTriple 𝓤 H A mem run)) where
   module _ (x : Entry) (f : Fits x) where
     walk : Room u32 (length (x .plan .now)) → Room u32 (length (x .cells .now)) → Room T.the-row (length (x .queue .now))
         → Room u32 (length (x .frame .now)) → Room u32 (length (x .out .now)) → Room u32 (length (x .replies .now))
@@ -222,5 +222,5 @@ visit-spec 𝓤 H 𝓜 𝓖 𝓡 =
     (visit-meets 𝓤 H (𝓖 .A) (givenOf 𝓤 H 𝓜 𝓖) (𝓜 .mem) (𝓡 .run) (tablesOf 𝓤 H 𝓜 (tables 𝓤 H 𝓜 𝓡 code.env))
     (cited 𝓤 H (Copied 𝓤 H (𝓖 .A) (𝓜 .mem) (𝓡 .run)) 𝓜 𝓡 code.env #queue·copied copied-def.routine code.calls-queue·copied
     (copied-thm.met 𝓤 H 𝓜 𝓖 𝓡))
-    (cited 𝓤 H (CoreTriple 𝓤 H (𝓖 .A) (𝓜 .mem) (𝓡 .run)) 𝓜 𝓡 code.env #passing·visit-core core-def.routine
-    code.calls-passing·visit-core (core-thm.met 𝓤 H 𝓜 𝓖 𝓡)))
+    (cited 𝓤 H (CoreTriple 𝓤 H (𝓖 .A) (𝓜 .mem) (𝓡 .run)) 𝓜 𝓡 code.env #visits·visit-core core-def.routine
+    code.calls-visits·visit-core (core-thm.met 𝓤 H 𝓜 𝓖 𝓡)))

@@ -6,7 +6,7 @@ use mathlib.Core.List.{List}
 use Rattle.queue.specs.declared.record.Request.{Request}
 use Rattle.queue.specs.Words.{queueIn, storedIn, KeptUnlessRow}
 use Rattle.queue.proofs.Rows.{queueIn-storedIn, storedIn-kept}
-use Rattle.routing.specs.Answer.{requestedOf}
+use Rattle.requests.specs.Answer.{requestedOf}
 use borrow.Author.Needs.{needs}
 use Rattle.conveyor.proofs.words.request_on_words.Statement.{statement}
 use Rattle.conveyor.proofs.words.request_on_words.Tie as tie

@@ -28,12 +28,12 @@ use Rattle.queue.specs.Queue.{recordsOf}
 use Rattle.queue.proofs.record.Request as T
 use Rattle.queue.proofs.Records.{Records, requestVal, records-makes}
 use Rattle.desk.specs.declared.state.Desk.{Desk}
-use Rattle.routing.specs.declared.asking.RequestStep.{RequestStep}
+use Rattle.requests.specs.declared.asking.RequestStep.{RequestStep}
 use Rattle.desk.proofs.state.Desk as D
-use Rattle.routing.proofs.asking.RequestResult as R
-use Rattle.routing.proofs.asking.RequestStep as S
-use Rattle.routing.proofs.asking.RequestStep.Laws as S′
-use Rattle.routing.proofs.request_step as core
+use Rattle.requests.proofs.asking.RequestResult as R
+use Rattle.requests.proofs.asking.RequestStep as S
+use Rattle.requests.proofs.asking.RequestStep.Laws as S′
+use Rattle.requests.proofs.request_step as core
 use Rattle.conveyor.proofs.Lent.{Params, refAt, refVal, token, Reads, Writes, deskVal, desk-makes, params-makes, word-makes}
 use Rattle.conveyor.proofs.Lent.{size-makes}
 use Rattle.conveyor.proofs.engine.request.Proof.Ends.{Entry, Fits, resultVal}

@@ -28,13 +28,13 @@ use Rattle.queue.specs.declared.record.Request.{Request}
 use Rattle.queue.specs.Queue.{recordsOf}
 use Rattle.queue.proofs.record.Request as T
 use Rattle.desk.specs.declared.state.Desk.{Desk}
-use Rattle.routing.specs.declared.asking.RequestResult.{RequestResult}
-use Rattle.routing.specs.declared.asking.RequestStep.{RequestStep}
-use Rattle.routing.specs.Request.{recordOf, requestResult}
-use Rattle.routing.specs.Step.{steppedOf}
+use Rattle.requests.specs.declared.asking.RequestResult.{RequestResult}
+use Rattle.requests.specs.declared.asking.RequestStep.{RequestStep}
+use Rattle.requests.specs.Request.{recordOf, requestResult}
+use Rattle.requests.specs.Step.{steppedOf}
 use Rattle.desk.proofs.state.Desk as D
-use Rattle.routing.proofs.asking.RequestResult as R
-use Rattle.routing.proofs.asking.RequestResult.Laws as R′
+use Rattle.requests.proofs.asking.RequestResult as R
+use Rattle.requests.proofs.asking.RequestResult.Laws as R′
 use Rattle.conveyor.proofs.Lent.{Lent, Params, refAt, refVal, token, Reads, deskVal, desk-makes, params-makes, word-makes}
 use Rattle.conveyor.proofs.engine.request as request
 

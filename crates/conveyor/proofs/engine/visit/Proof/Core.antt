@@ -26,7 +26,7 @@ use Rattle.queue.specs.Queue.{recordsOf}
 use Rattle.queue.proofs.Records.{Records, records-makes}
 use Rattle.desk.specs.declared.state.Desk.{Desk}
 use Rattle.desk.proofs.state.Desk as D
-use Rattle.passing.proofs.visit_core as core
+use Rattle.visits.proofs.visit_core as core
 use Rattle.conveyor.proofs.Lent.{refAt, refVal, token, Reads, Writes, deskVal, desk-makes, size-makes}
 use Rattle.conveyor.proofs.engine.visit.Proof.Ends.{Entry, Fits, Words}
 

@@ -28,12 +28,12 @@ use Rattle.queue.specs.Queue.{recordsOf}
 use Rattle.queue.proofs.record.Request as T
 use Rattle.queue.proofs.Records.{Shared}
 use Rattle.desk.specs.declared.state.Desk.{Desk}
-use Rattle.passing.specs.declared.visiting.VisitResult.{VisitResult}
-use Rattle.passing.specs.Visit.{visitResult}
-use Rattle.passing.specs.Answer.{visitedOf}
+use Rattle.visits.specs.declared.visiting.VisitResult.{VisitResult}
+use Rattle.visits.specs.Visit.{visitResult}
+use Rattle.visits.specs.Answer.{visitedOf}
 use Rattle.desk.proofs.state.Desk as D
-use Rattle.passing.proofs.visiting.VisitResult as Out
-use Rattle.passing.proofs.visiting.VisitResult.Laws as Out′
+use Rattle.visits.proofs.visiting.VisitResult as Out
+use Rattle.visits.proofs.visiting.VisitResult.Laws as Out′
 use Rattle.conveyor.proofs.Lent.{Lent, refAt, refVal, token, Reads, deskVal, desk-makes}
 use Rattle.conveyor.proofs.engine.visit as visit
 

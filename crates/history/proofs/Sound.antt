@@ -1,0 +1,60 @@
+-- What a history keeps of a desk's holding: question 6 is answered by yes, and every waiting record is an operation.
+-- Assumes nothing.
+use Prim.Native.Nat.{ℕ, _%_, _≤_, _<_}
+use mathlib.Core.Path.{_≡_, refl}
+use mathlib.Core.Bool.{true}
+use mathlib.Core.List.{List}
+use native.Mathlib.Nat.{mod-eq-of-lt}
+use native.Mathlib.Omega.{arith}
+use lib.Dec.{ltb, leb, eqb}
+use lib.ListN.{length}
+use borrow.Author.Tests.{leb-true, eqb-true, lt-ltb, eq-eqb}
+use Rattle.lists.specs.Lists.{every, All}
+use Rattle.lists.proofs.Laws.{and-fst, and-snd, and-true}
+use Rattle.plan.specs.Decode.{planOf}
+use Rattle.queue.specs.declared.record.Request.{Request}
+use Rattle.desk.specs.Queueing.{waitingIn}
+use Rattle.desk.specs.Admission.{waitsHere, deskFits}
+use Rattle.history.specs.History.{Holding, start}
+use Rattle.history.proofs.Operations.{Runs}
+
+-- desk p's holding; records p is how many records its queue has
+pub record Sound (ws : List ℕ) (records : ℕ → ℕ) (p : ℕ) (h : Holding) : Type 0 where
+  pub desk : h .state .desk ≡ p
+  pub fits : deskFits (planOf ws) (h .state) (h .queue) ≡ true
+  pub size : length (h .queue) ≡ records p
+  pub room : h .state .waiting ≤ length (h .queue)
+  pub runs : All (Runs (planOf ws)) (waitingIn (h .state .waiting) (h .queue))
+
+-- 6, part by part
+pub record Six (ws : List ℕ) (h : Holding) : Type 0 where
+  pub below : ltb (h .state .desk) (planOf ws .desks) ≡ true
+  pub few : h .state .waiting ≤ 32
+  pub turn : h .state .awaited % planOf ws .desks ≡ h .state .desk
+  pub each : every (waitsHere (planOf ws) (h .state .desk)) (waitingIn (h .state .waiting) (h .queue)) ≡ true
+
+pub six : (ws : List ℕ) (h : Holding) → deskFits (planOf ws) (h .state) (h .queue) ≡ true → Six ws h
+unfolding deskFits
+six ws h e =
+    let a = and-snd (ltb (h .state .desk) (planOf ws .desks)) _ e in
+    let b = and-snd (leb (h .state .waiting) 32) _ a in
+    record {
+      below = and-fst _ _ e;
+      few = leb-true (h .state .waiting) 32 (and-fst _ _ a);
+      turn = eqb-true (h .state .awaited % planOf ws .desks) (h .state .desk) (and-fst _ _ b);
+      each = and-snd (eqb (h .state .awaited % planOf ws .desks) (h .state .desk)) _ b;
+    }
+
+-- a new desk stands
+pub start-sound : (ws cells : List ℕ) (rows : ℕ → List Request) (p : ℕ) → p < planOf ws .desks →
+    Sound ws (λ q. length (rows q)) p (start cells rows p)
+unfolding deskFits every
+start-sound ws cells rows p h =
+    record {
+      desk = refl;
+      fits = and-true _ _ (lt-ltb p (planOf ws .desks) h)
+          (and-true _ _ refl (and-true _ _ (eq-eqb (p % planOf ws .desks) p (mod-eq-of-lt h)) refl));
+      size = refl;
+      room = omega arith;
+      runs = tt;
+    }

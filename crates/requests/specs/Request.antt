@@ -1,0 +1,90 @@
+-- A request at a desk: everything that the call leaves, for good and bad input alike.
+use Prim.Native.Nat.{ℕ, _+_}
+use mathlib.Core.Path.{_≡_}
+use mathlib.Core.Bool.{Bool, true, false, cond}
+use mathlib.Core.List.{List}
+use lib.Dec.{ltb, eqb}
+use lib.ListN.{getD, set}
+use Rattle.verdict.specs.Verdict.{Verdict, ask, _then_, ifAccepted}
+use Rattle.plan.specs.Plan.{Plan}
+use Rattle.plan.specs.Decode.{planOf}
+use Rattle.plan.specs.Admission.{planVerdict}
+use Rattle.operation.specs.Operation.{Operation, deskOf}
+use Rattle.operation.specs.Admission.{operationVerdict}
+use Rattle.operation.specs.Run.{Reply, applyUpdate, run}
+use Rattle.conflict.specs.Class.{Class, free, local, global, classOf}
+use Rattle.queue.specs.declared.record.Request.{Request}
+use Rattle.desk.specs.declared.state.Desk.{Desk}
+use Rattle.desk.specs.Queueing.{operationOf, waitingIn, joinQueue}
+use Rattle.desk.specs.Admission.{deskBuffersFit, deskFits}
+use Rattle.queue.specs.Queue.{queueSize}
+
+-- replied (done or declined, with the number), waiting, elsewhere with the operation's desk, or refused with the question's number
+pub data Response : Type 0 where
+  replied : Reply → Response
+  waits : Response
+  redirected : ℕ → Response
+  requestRefused : ℕ → Response
+
+-- what a request leaves: the answer, the state, the store (01: book) and the queue (01: row)
+pub record Requested : Type 0 where
+  pub answer : Response
+  pub state : Desk
+  pub cells : List ℕ
+  pub queue : List Request
+
+module _ (d : Desk) (cells : List ℕ) (queue : List Request) where
+  -- "nothing lent and no state changes"
+  abbrev pub unchanged : Response → Requested
+  unchanged a = record { answer = a; state = d; cells = cells; queue = queue }
+
+  -- a free or a local operation runs, "immediately"
+  abbrev pub ranNow : Plan → Operation → Requested
+  ranNow p o = record {
+    answer = replied (run p o cells .reply);
+    state = d;
+    cells = applyUpdate (run p o cells .update) cells;
+    queue = queue;
+  }
+
+  -- a global one waits: it joins the waiting records by `joinQueue`, which is to store one record, and one more waits (`JoinsQueue`)
+  abbrev pub enqueued : Request → Requested
+  enqueued r = record {
+    answer = waits;
+    state = record { desk = d .desk; waiting = d .waiting + 1; awaited = d .awaited };
+    cells = cells;
+    queue = set queue (d .waiting) r;
+  }
+
+  abbrev pub JoinsQueue : Request → Type 0
+  JoinsQueue r = waitingIn (enqueued r .state .waiting) (enqueued r .queue) ≡ joinQueue (waitingIn (d .waiting) queue) r
+
+  -- where the operation goes, by its class and by whether this desk is its own
+  abbrev pub routed : Class → Bool → Plan → Request → Requested
+  routed free own p r = ranNow p (operationOf r)
+  routed local true p r = ranNow p (operationOf r)
+  routed local false p r = unchanged (redirected (deskOf p (operationOf r)))
+  -- 9: "For a global request at its desk: do fewer than 32 wait?"
+  routed global true p r = cond (ltb (d .waiting) queueSize) (enqueued r) (unchanged (requestRefused 9))
+  routed global false p r = unchanged (redirected (deskOf p (operationOf r)))
+
+  abbrev pub served : Verdict → Plan → Request → Requested
+  served v p r =
+      ifAccepted v (routed (classOf p (operationOf r)) (eqb (deskOf p (operationOf r)) (d .desk)) p r)
+      (λ question. unchanged (requestRefused question))
+
+-- the record of a request
+abbrev pub recordOf : ℕ → ℕ → List ℕ → Request
+recordOf client k ps =
+    record { client = client; transaction = k; p0 = getD ps 0 0; p1 = getD ps 1 0; p2 = getD ps 2 0; p3 = getD ps 3 0 }
+
+-- "Request: 1–8, then "elsewhere", then 9."
+unfoldable pub requestVerdict : List ℕ → Desk → List ℕ → List Request → Request → Verdict
+requestVerdict ws d cells queue r =
+    planVerdict ws
+    then ask 5 (deskBuffersFit cells queue)
+    then ask 6 (deskFits (planOf ws) d queue)
+    then operationVerdict (planOf ws) (operationOf r)
+
+unfoldable pub requestResult : List ℕ → Desk → List ℕ → List Request → Request → Requested
+requestResult ws d cells queue r = served d cells queue (requestVerdict ws d cells queue r) (planOf ws) r

@@ -1,0 +1,44 @@
+-- The three words of a reply, one after another.
+-- Assumes nothing.
+use mathlib.Core.Path.{_∙_, ap}
+use mathlib.Core.List.{_∷_, []}
+use native.Mathlib.Omega.{arith}
+use lib.ListN.{length-set, drop}
+use borrow.Author.Needs.{needs}
+use Rattle.lists.proofs.Laws.{fill-none, fill-word, fill-done}
+use Rattle.visits.proofs.running.write_reply.Statement.{statement}
+use Rattle.visits.proofs.running.write_reply.Tie as tie
+
+reply-head-requires : tie.Need-reply-head-requires
+reply-head-requires c κs = search needs
+
+slice-write-replies : tie.Need-slice-write-replies
+slice-write-replies c = search needs
+
+slice-write-replies-2 : tie.Need-slice-write-replies-2
+slice-write-replies-2 c = simp length-set (omega arith)
+
+slice-write-replies-3 : tie.Need-slice-write-replies-3
+slice-write-replies-3 c = simp length-set (omega arith)
+
+same-length : tie.Need-same-length
+same-length c = search needs
+
+returns : tie.Need-returns
+returns c =
+    let a = c .before .before .args in
+    let o = a .replies .now in
+    let words = c .reply-head .result ∷ a .client ∷ a .reply .number ∷ [] in
+    fill-done (fill-word (fill-word (fill-word (fill-none words o) (omega arith)) (omega arith)) (omega arith)) .0
+    ∙ ap (λ h. h ∷ a .client ∷ a .reply .number ∷ drop 3 o) (c .reply-head .ensures)
+
+pub write-reply-spec : {M : Type 1} → statement M
+write-reply-spec =
+    tie.close
+    (tie.spec
+    reply-head-requires
+    slice-write-replies
+    slice-write-replies-2
+    slice-write-replies-3
+    same-length
+    returns)

@@ -1,0 +1,60 @@
+// What a visit does once all its questions are answered with yes.
+ghost use mathlib.Core.Path.{_≡_};
+ghost use Rattle.verdict.specs.Verdict.{accepted};
+ghost use Rattle.plan.specs.Decode.{planOf};
+ghost use Rattle.plan.specs.Place.{transactionPlaces};
+ghost use Rattle.visits.specs.Visit.{visitVerdict, acceptedVisit};
+ghost use Rattle.visits.specs.Answer.{visitedOf};
+use crate::running;
+use crate::visiting::VisitAnswer;
+use crate::visiting::VisitResult;
+use desk::Desk;
+use queue::QUEUE_SIZE;
+use queue::Request;
+use word::fields;
+
+// Drops the desk's own updates, applies the others and sends them on, runs the waiting requests, and seals the frame for the next visit.
+pub(crate) fn accepted_visit(
+    plan: &[u32],
+    places: &[usize],
+    state: Desk,
+    cells: &mut [u32],
+    records: [Request; QUEUE_SIZE],
+    frame: &[u32],
+    out: &mut [u32],
+    replies: &mut [u32],
+) -> VisitResult
+    requires { ⌜ (visitVerdict (now plan) state (now cells) records (now frame) (now out) (now replies) ≡ accepted)
+        × (now places ≡ transactionPlaces (now plan)) ⌝ }
+    ensures { λ r. ⌜ visitedOf r (now (cells .exit)) (now (out .exit)) (now (replies .exit)) ≡ acceptedVisit (planOf (now (plan .entry))) state
+        (now (cells .entry)) records (now (frame .entry)) (now (out .entry)) (now (replies .entry)) ⌝ }
+{
+    let desk = state.desk;
+    let waiting = state.waiting as usize;
+    let sums = frame.len() - 2;
+    let body = &frame[2..sums];
+    let copied = 2 + token::forward_foreign(body, desk, cells, &mut out[2..]);
+    let end = copied
+        + running::run_waiting(
+            plan,
+            places,
+            waiting,
+            records,
+            desk,
+            cells,
+            &mut out[copied..],
+            replies,
+        );
+    let desks = plan[0] / fields::DESKS % 16;
+    let visit = frame[1];
+    token::seal(out, (visit + 1) % desks, visit + 1, end);
+    let after = Desk {
+        desk: desk,
+        waiting: 0,
+        awaited: visit as u64 + desks as u64,
+    };
+    VisitResult {
+        answer: VisitAnswer::Forwarded(end + 2, waiting),
+        state: after,
+    }
+}
