@@ -3,7 +3,7 @@
 use Prim.Native.Nat.{ℕ, zero, suc, _+_, _^_, _%_, _<_}
 use mathlib.Core.Path.{_≡_, refl, sym, _∙_, ap, ap₂, subst}
 use mathlib.Core.Bool.{Bool, true, false, _&&_, cond}
-use mathlib.Core.List.{List, [], _∷_, _++_, map, map-append}
+use mathlib.Core.List.{List, [], _∷_, map, map-append}
 use native.Mathlib.Omega.{arith}
 use lib.Dec.{ltb, eqb}
 use lib.ListN.{length, getD, take, length-map, length-set}
@@ -24,7 +24,8 @@ use Rattle.queue.specs.declared.record.Request.{Request}
 use Rattle.desk.specs.declared.state.Desk.{Desk}
 use Rattle.desk.specs.Queueing.{operationOf, waitingIn}
 use Rattle.desk.specs.Admission.{isAccepted, deskBuffersFit, waitsHere, deskStands}
-use Rattle.routing.specs.Request.{Requested, recordOf, served, routed, ranNow, enqueued, unchanged, JoinsQueue, requestVerdict, requestResult}
+use Rattle.routing.specs.Request.{Requested, recordOf, served, routed, ranNow, enqueued, unchanged, requestVerdict, requestResult}
+use Rattle.routing.specs.Request.{JoinsQueue}
 use Rattle.routing.specs.Request as asked
 use Rattle.routing.proofs.Joining.{joins-queue}
 use Rattle.serial.specs.System.{System}

@@ -12,6 +12,7 @@ use lib.ListN.{length, getD, set}
 use Rattle.queue.specs.Queue.{queueSize}
 use Rattle.queue.specs.declared.record.Request.{Request}
 
+-- the words of a record, and of a whole queue
 abbrev pub recordSize : ℕ
 recordSize = 6
 

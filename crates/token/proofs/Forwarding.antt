@@ -135,39 +135,28 @@ module _ {desk : ℕ} {ws s₀ o s t : List ℕ} {kept : Bool} {left end i : ℕ
 
   module _ (h : i < length ws) where
     at-head : left ≡ 0 → Stands desk ws s₀ o s t kept 0 end (getD ws i 0 ∷ drop (i + 1) ws)
-    at-head z =
-        subst (λ (m : ℕ). Stands desk ws s₀ o s t kept m end (getD ws i 0 ∷ drop (i + 1) ws)) z
-        (subst (Stands desk ws s₀ o s t kept left end) (here ws i h) (f .stands))
+    at-head z = rw (z, here ws i h) at (f .stands)
 
     at-cell : (left ≡ 0 → ⊥) → Stands desk ws s₀ o s t kept (suc (left - 1)) end (getD ws i 0 ∷ drop (i + 1) ws)
-    at-cell z =
-        subst (λ (m : ℕ). Stands desk ws s₀ o s t kept m end (getD ws i 0 ∷ drop (i + 1) ws)) (omega arith)
-        (subst (Stands desk ws s₀ o s t kept left end) (here ws i h) (f .stands))
+    at-cell z = let k : left ≡ suc (left - 1) = omega arith in rw (k, here ws i h) at (f .stands)
 
     pub forward-own : left ≡ 0 → not (eqb (updateDesk (getD ws i 0)) desk) ≡ false
         → Forwarded desk ws s₀ o s t (not (eqb (updateDesk (getD ws i 0)) desk)) (cellCount (getD ws i 0)) end (i + 1)
     forward-own z e =
-        let w = getD ws i 0 in
-        let rest = drop (i + 1) ws in
-        let own = not-false (eqb (updateDesk w) desk) e in
+        let own = not-false (eqb (updateDesk (getD ws i 0)) desk) e in
         let g = at-head z in
         rw e
         (record {
           stands = record {
-            reads = head-reads w rest (g .reads) .0;
-            store = sym (head-applies w rest desk s kept true own) ∙ g .store;
-            words = fill-same (g .words) (own-coming w rest desk kept own);
+            reads = head-reads _ _ (g .reads) .0;
+            store = sym (head-applies _ _ desk s kept true own) ∙ g .store;
+            words = fill-same (g .words) (own-coming _ _ desk kept own);
           };
         })
 
     module _ (room : length (foreignWords desk ws) ≤ length o) (z : left ≡ 0) (e : not (eqb (updateDesk (getD ws i 0)) desk) ≡ true) where
       head-words : Filling (foreignWords desk ws) o t end (getD ws i 0 ∷ coming desk true (cellCount (getD ws i 0)) (drop (i + 1) ws))
-      head-words =
-          let w = getD ws i 0 in
-          let rest = drop (i + 1) ws in
-          let g = at-head z in
-          fill-same (g .words)
-          (head-coming w rest desk kept (not-true (eqb (updateDesk w) desk) e) (head-reads w rest (g .reads) .1))
+      head-words = fill-same (at-head z .words) (head-coming _ _ desk kept (not-true _ e) (head-reads _ _ (at-head z .reads) .1))
 
       pub head-room : end < length t
       head-room = omega (arith, fill-size head-words, forward-length room)
@@ -175,14 +164,12 @@ module _ {desk : ℕ} {ws s₀ o s t : List ℕ} {kept : Bool} {left end i : ℕ
       pub forward-head : Forwarded desk ws s₀ o s (set t end (getD ws i 0)) (not (eqb (updateDesk (getD ws i 0)) desk))
           (cellCount (getD ws i 0)) (end + 1) (i + 1)
       forward-head =
-          let w = getD ws i 0 in
-          let rest = drop (i + 1) ws in
           let g = at-head z in
           rw e
           (record {
             stands = record {
-              reads = head-reads w rest (g .reads) .0;
-              store = sym (head-applies w rest desk s kept false (not-true (eqb (updateDesk w) desk) e)) ∙ g .store;
+              reads = head-reads _ _ (g .reads) .0;
+              store = sym (head-applies _ _ desk s kept false (not-true _ e)) ∙ g .store;
               words = fill-word head-words (omega (arith, fill-size head-words));
             };
           })
@@ -191,43 +178,31 @@ module _ {desk : ℕ} {ws s₀ o s t : List ℕ} {kept : Bool} {left end i : ℕ
     forward-more z = by-more (leb (length ws) (i + 1)) refl
       where
         by-more : (b : Bool) → leb (length ws) (i + 1) ≡ b → i + 1 < length ws
-        by-more true e =
-            absurd (half-reads (left - 1) (getD ws i 0) (subst (λ (r : List ℕ). Reads (suc (left - 1)) (getD ws i 0 ∷ r))
-            (drop-of-length-le ws (leb-true (length ws) (i + 1) e)) (at-cell z .reads)))
+        by-more true e = absurd (half-reads _ _ (rw (drop-of-length-le ws (leb-true (length ws) (i + 1) e)) at (at-cell z .reads)))
         by-more false e = leb-false (length ws) (i + 1) e
 
     module _ (z : left ≡ 0 → ⊥) where
-      at-value : Stands desk ws s₀ o s t kept (suc (left - 1)) end (getD ws i 0 ∷ getD ws (i + 1) 0 ∷ drop (i + 1 + 1) ws)
-      at-value =
-          subst (λ (r : List ℕ). Stands desk ws s₀ o s t kept (suc (left - 1)) end (getD ws i 0 ∷ r)) (here ws (i + 1) (forward-more z))
-          (at-cell z)
+      at-value : (b : Bool) → kept ≡ b
+          → Stands desk ws s₀ o s t b (suc (left - 1)) end (getD ws i 0 ∷ getD ws (i + 1) 0 ∷ drop (i + 1 + 1) ws)
+      at-value b e = rw (e, here ws (i + 1) (forward-more z)) at (at-cell z)
 
       pub forward-past : kept ≡ false → Forwarded desk ws s₀ o s t kept (left - 1) end (i + 1 + 1)
       forward-past e =
-          let w = getD ws i 0 in
-          let v = getD ws (i + 1) 0 in
-          let rest = drop (i + 1 + 1) ws in
-          let g = subst (λ (b : Bool). Stands desk ws s₀ o s t b (suc (left - 1)) end (w ∷ v ∷ rest)) e at-value in
+          let g = at-value false e in
           rw e
           (record {
             stands = record {
-              reads = cell-reads w v (left - 1) rest (g .reads) .0;
-              store = sym (cell-applies w v (left - 1) rest desk s false) ∙ g .store;
-              words = fill-same (g .words) (past-coming w v (left - 1) rest desk);
+              reads = cell-reads _ _ _ _ (g .reads) .0;
+              store = sym (cell-applies _ _ _ _ desk s false) ∙ g .store;
+              words = fill-same (g .words) (past-coming _ _ _ _ desk);
             };
           })
 
       module _ (room : length (foreignWords desk ws) ≤ length o) (e : kept ≡ true) where
-        kept-here : Stands desk ws s₀ o s t true (suc (left - 1)) end (getD ws i 0 ∷ getD ws (i + 1) 0 ∷ drop (i + 1 + 1) ws)
-        kept-here = rw e at at-value
-
         cell-words : Filling (foreignWords desk ws) o t end
             (getD ws i 0 ∷ getD ws (i + 1) 0 ∷ coming desk true (left - 1) (drop (i + 1 + 1) ws))
         cell-words =
-            let w = getD ws i 0 in
-            let v = getD ws (i + 1) 0 in
-            let rest = drop (i + 1 + 1) ws in
-            fill-same (kept-here .words) (cell-coming w v (left - 1) rest desk (cell-reads w v (left - 1) rest (kept-here .reads) .1))
+            let g = at-value true e in fill-same (g .words) (cell-coming _ _ _ _ desk (cell-reads _ _ _ _ (g .reads) .1))
 
         pub cell-room : end + 1 < length t
         cell-room = omega (arith, fill-size cell-words, forward-length room)
@@ -235,16 +210,14 @@ module _ {desk : ℕ} {ws s₀ o s t : List ℕ} {kept : Bool} {left end i : ℕ
         pub forward-cell : Forwarded desk ws s₀ o (set s (cellField (getD ws i 0)) (getD ws (i + 1) 0))
             (set (set t end (getD ws i 0)) (end + 1) (getD ws (i + 1) 0)) kept (left - 1) (end + 2) (i + 1 + 1)
         forward-cell =
-            let w = getD ws i 0 in
-            let v = getD ws (i + 1) 0 in
-            let rest = drop (i + 1 + 1) ws in
+            let g = at-value true e in
             let two : end + 1 + 1 ≡ end + 2 = omega arith in
             let size = fill-size cell-words in
             rw (e, ← two)
             (record {
               stands = record {
-                reads = cell-reads w v (left - 1) rest (kept-here .reads) .0;
-                store = sym (cell-applies w v (left - 1) rest desk s true) ∙ kept-here .store;
+                reads = cell-reads _ _ _ _ (g .reads) .0;
+                store = sym (cell-applies _ _ _ _ desk s true) ∙ g .store;
                 words = fill-word (fill-word cell-words (omega arith)) (omega arith);
               };
             })
