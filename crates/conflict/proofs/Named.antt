@@ -121,7 +121,8 @@ module _ (ws : List ℕ) (at : ℕ) (p : StandsAt ws at) where
         one-here e c x j q = ap (oneDeskEach mask) (cells-here 4 (omega arith) (omega arith) e) ∙ rw (← j, ← q)
 
         pub one-other : (kindOf w ≡ 4 → ⊥)
-            → oneDeskEach mask (cellsNamed writes ps (stepsFrom ws at s)) ≡ oneDeskEach mask (cellsNamed writes ps (stepsFrom ws at (s + 1)))
+            → oneDeskEach mask (cellsNamed writes ps (stepsFrom ws at s))
+            ≡ oneDeskEach mask (cellsNamed writes ps (stepsFrom ws at (s + 1)))
         unfolding accessBy
         one-other e = ap (oneDeskEach mask) (cells-other 4 (omega arith) (omega arith) e)
 

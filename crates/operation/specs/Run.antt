@@ -1,6 +1,6 @@
 -- "Running a transaction": the reply and the update of a run on a store (01: a book).
 use Prim.Native.Nat.{ℕ, _+_, _-_, _^_, _%_}
-use mathlib.Core.Bool.{Bool, true, false, cond}
+use mathlib.Core.Bool.{true, false, cond}
 use mathlib.Core.List.{List, [], _∷_, _++_}
 use lib.ListN.{getD, set}
 use lib.Dec.{leb}

@@ -13,6 +13,7 @@ use Rattle.lists.specs.Lists.{tabulate}
 use Rattle.queue.specs.declared.record.Request.{Request}
 use Rattle.queue.specs.Queue.{queueSize}
 
+-- the words of a record, and of a whole queue
 abbrev pub recordSize : ℕ
 recordSize = 6
 

@@ -47,7 +47,7 @@ module _ (d : Desk) (cells : List ℕ) (queue : List Request) where
     queue = queue;
   }
 
-  -- a global one waits: it joins the waiting records by `joinQueue`, which is to store one record, and one more waits (`JoinsQueue`)
+  -- a global one waits: it joins the waiting records by `joinQueue`, for which one record is stored
   abbrev pub enqueued : Request → Requested
   enqueued r = record {
     answer = waits;
@@ -56,6 +56,7 @@ module _ (d : Desk) (cells : List ℕ) (queue : List Request) where
     queue = set queue (d .waiting) r;
   }
 
+  -- the waiting records are then those before it, joined by the rule of the queue
   abbrev pub JoinsQueue : Request → Type 0
   JoinsQueue r = waitingIn (enqueued r .state .waiting) (enqueued r .queue) ≡ joinQueue (waitingIn (d .waiting) queue) r
 

@@ -108,66 +108,55 @@ module _ (w v left : ℕ) (ws : List ℕ) where
 -- ---- the walk
 
 -- with `rest` still to come, the store is `s` and the outgoing words, `end` of them written, are `t`
-record Stands (desk : ℕ) (ws s₀ o s t : List ℕ) (kept : Bool) (left end : ℕ) (rest : List ℕ) : Type 0 where
+record Progress (desk : ℕ) (ws s₀ o s t : List ℕ) (kept : Bool) (left end : ℕ) (rest : List ℕ) : Type 0 where
   reads : Reads left rest
   store : applies desk s kept left rest ≡ applyAll (foreign desk (updatesFrom 0 ws)) s₀
   words : Filling (foreignWords desk ws) o t end (coming desk kept left rest)
 
 -- the same in the walk's own variables
 pub record Forwarded (desk : ℕ) (ws s₀ o s t : List ℕ) (kept : Bool) (left end i : ℕ) : Type 0 where
-  stands : Stands desk ws s₀ o s t kept left end (drop i ws)
+  stands : Progress desk ws s₀ o s t kept left end (drop i ws)
 
 pub forward-start : (desk : ℕ) (ws s o : List ℕ) → ws ≡ updatesWords (updatesFrom 0 ws) → Forwarded desk ws s o s o false 0 0 0
 unfolding Reads applies coming writesFrom writeWords
-forward-start desk ws s o r = record { stands = record { reads = r; store = refl; words = fill-none (foreignWords desk ws) o } }
+forward-start desk ws s o r = record { progress = record { reads = r; store = refl; words = fill-none (foreignWords desk ws) o } }
 
 module _ {desk : ℕ} {ws s₀ o s t : List ℕ} {kept : Bool} {left end i : ℕ} (f : Forwarded desk ws s₀ o s t kept left end i) where
   pub forward-length : length (foreignWords desk ws) ≤ length o → length t ≡ length o
-  forward-length = fill-length (f .stands .words)
+  forward-length = fill-length (f .progress .words)
 
   pub forward-end : length ws ≤ i
       → (s ≡ applyAll (foreign desk (updatesFrom 0 ws)) s₀) × (end ≡ length (foreignWords desk ws))
       × (t ≡ overwritten (foreignWords desk ws) o)
   forward-end h =
-      let g = subst (Stands desk ws s₀ o s t kept left end) (drop-of-length-le ws h) (f .stands) in
+      let g = subst (Progress desk ws s₀ o s t kept left end) (drop-of-length-le ws h) (f .progress) in
       let d = fill-done (fill-same (g .words) (none-coming desk kept left)) in
       (sym (none-applies desk s kept left) ∙ g .store, d .1, d .0)
 
   module _ (h : i < length ws) where
-    at-head : left ≡ 0 → Stands desk ws s₀ o s t kept 0 end (getD ws i 0 ∷ drop (i + 1) ws)
-    at-head z =
-        subst (λ (m : ℕ). Stands desk ws s₀ o s t kept m end (getD ws i 0 ∷ drop (i + 1) ws)) z
-        (subst (Stands desk ws s₀ o s t kept left end) (drop-here ws i 0 h) (f .stands))
+    at-head : left ≡ 0 → Progress desk ws s₀ o s t kept 0 end (getD ws i 0 ∷ drop (i + 1) ws)
+    at-head z = rw (z, drop-here ws i 0 h) at (f .progress)
 
-    at-cell : (left ≡ 0 → ⊥) → Stands desk ws s₀ o s t kept (suc (left - 1)) end (getD ws i 0 ∷ drop (i + 1) ws)
-    at-cell z =
-        subst (λ (m : ℕ). Stands desk ws s₀ o s t kept m end (getD ws i 0 ∷ drop (i + 1) ws)) (omega arith)
-        (subst (Stands desk ws s₀ o s t kept left end) (drop-here ws i 0 h) (f .stands))
+    at-cell : (left ≡ 0 → ⊥) → Progress desk ws s₀ o s t kept (suc (left - 1)) end (getD ws i 0 ∷ drop (i + 1) ws)
+    at-cell z = let k : left ≡ suc (left - 1) = omega arith in rw (k, drop-here ws i 0 h) at (f .progress)
 
     pub forward-own : left ≡ 0 → not (eqb (updateDesk (getD ws i 0)) desk) ≡ false
         → Forwarded desk ws s₀ o s t (not (eqb (updateDesk (getD ws i 0)) desk)) (cellCount (getD ws i 0)) end (i + 1)
     forward-own z e =
-        let w = getD ws i 0 in
-        let rest = drop (i + 1) ws in
-        let own = not-false (eqb (updateDesk w) desk) e in
+        let own = not-false (eqb (updateDesk (getD ws i 0)) desk) e in
         let g = at-head z in
         rw e
         (record {
-          stands = record {
-            reads = head-reads w rest (g .reads) .0;
-            store = sym (head-applies w rest desk s kept true own) ∙ g .store;
-            words = fill-same (g .words) (own-coming w rest desk kept own);
+          progress = record {
+            reads = head-reads _ _ (g .reads) .0;
+            store = sym (head-applies _ _ desk s kept true own) ∙ g .store;
+            words = fill-same (g .words) (own-coming _ _ desk kept own);
           };
         })
 
     module _ (room : length (foreignWords desk ws) ≤ length o) (z : left ≡ 0) (e : not (eqb (updateDesk (getD ws i 0)) desk) ≡ true) where
       head-words : Filling (foreignWords desk ws) o t end (getD ws i 0 ∷ coming desk true (cellCount (getD ws i 0)) (drop (i + 1) ws))
-      head-words =
-          let w = getD ws i 0 in
-          let rest = drop (i + 1) ws in
-          let g = at-head z in
-          fill-same (g .words)
-          (head-coming w rest desk kept (not-true (eqb (updateDesk w) desk) e) (head-reads w rest (g .reads) .1))
+      head-words = fill-same (at-head z .words) (head-coming _ _ desk kept (not-true _ e) (head-reads _ _ (at-head z .reads) .1))
 
       pub head-room : end < length t
       head-room = omega (arith, fill-size head-words, forward-length room)
@@ -175,14 +164,12 @@ module _ {desk : ℕ} {ws s₀ o s t : List ℕ} {kept : Bool} {left end i : ℕ
       pub forward-head : Forwarded desk ws s₀ o s (set t end (getD ws i 0)) (not (eqb (updateDesk (getD ws i 0)) desk))
           (cellCount (getD ws i 0)) (end + 1) (i + 1)
       forward-head =
-          let w = getD ws i 0 in
-          let rest = drop (i + 1) ws in
           let g = at-head z in
           rw e
           (record {
-            stands = record {
-              reads = head-reads w rest (g .reads) .0;
-              store = sym (head-applies w rest desk s kept false (not-true (eqb (updateDesk w) desk) e)) ∙ g .store;
+            progress = record {
+              reads = head-reads _ _ (g .reads) .0;
+              store = sym (head-applies _ _ desk s kept false (not-true _ e)) ∙ g .store;
               words = fill-word head-words (omega (arith, fill-size head-words));
             };
           })
@@ -191,43 +178,31 @@ module _ {desk : ℕ} {ws s₀ o s t : List ℕ} {kept : Bool} {left end i : ℕ
     forward-more z = by-more (leb (length ws) (i + 1)) refl
       where
         by-more : (b : Bool) → leb (length ws) (i + 1) ≡ b → i + 1 < length ws
-        by-more true e =
-            absurd (half-reads (left - 1) (getD ws i 0) (subst (λ (r : List ℕ). Reads (suc (left - 1)) (getD ws i 0 ∷ r))
-            (drop-of-length-le ws (leb-true (length ws) (i + 1) e)) (at-cell z .reads)))
+        by-more true e = absurd (half-reads _ _ (rw (drop-of-length-le ws (leb-true (length ws) (i + 1) e)) at (at-cell z .reads)))
         by-more false e = leb-false (length ws) (i + 1) e
 
     module _ (z : left ≡ 0 → ⊥) where
-      at-value : Stands desk ws s₀ o s t kept (suc (left - 1)) end (getD ws i 0 ∷ getD ws (i + 1) 0 ∷ drop (i + 1 + 1) ws)
-      at-value =
-          subst (λ (r : List ℕ). Stands desk ws s₀ o s t kept (suc (left - 1)) end (getD ws i 0 ∷ r))
-          (drop-here ws (i + 1) 0 (forward-more z)) (at-cell z)
+      at-value : (b : Bool) → kept ≡ b
+          → Progress desk ws s₀ o s t b (suc (left - 1)) end (getD ws i 0 ∷ getD ws (i + 1) 0 ∷ drop (i + 1 + 1) ws)
+      at-value b e = rw (e, drop-here ws (i + 1) 0 (forward-more z)) at (at-cell z)
 
       pub forward-past : kept ≡ false → Forwarded desk ws s₀ o s t kept (left - 1) end (i + 1 + 1)
       forward-past e =
-          let w = getD ws i 0 in
-          let v = getD ws (i + 1) 0 in
-          let rest = drop (i + 1 + 1) ws in
-          let g = subst (λ (b : Bool). Stands desk ws s₀ o s t b (suc (left - 1)) end (w ∷ v ∷ rest)) e at-value in
+          let g = at-value false e in
           rw e
           (record {
-            stands = record {
-              reads = cell-reads w v (left - 1) rest (g .reads) .0;
-              store = sym (cell-applies w v (left - 1) rest desk s false) ∙ g .store;
-              words = fill-same (g .words) (past-coming w v (left - 1) rest desk);
+            progress = record {
+              reads = cell-reads _ _ _ _ (g .reads) .0;
+              store = sym (cell-applies _ _ _ _ desk s false) ∙ g .store;
+              words = fill-same (g .words) (past-coming _ _ _ _ desk);
             };
           })
 
       module _ (room : length (foreignWords desk ws) ≤ length o) (e : kept ≡ true) where
-        kept-here : Stands desk ws s₀ o s t true (suc (left - 1)) end (getD ws i 0 ∷ getD ws (i + 1) 0 ∷ drop (i + 1 + 1) ws)
-        kept-here = rw e at at-value
-
         cell-words : Filling (foreignWords desk ws) o t end
             (getD ws i 0 ∷ getD ws (i + 1) 0 ∷ coming desk true (left - 1) (drop (i + 1 + 1) ws))
         cell-words =
-            let w = getD ws i 0 in
-            let v = getD ws (i + 1) 0 in
-            let rest = drop (i + 1 + 1) ws in
-            fill-same (kept-here .words) (cell-coming w v (left - 1) rest desk (cell-reads w v (left - 1) rest (kept-here .reads) .1))
+            let g = at-value true e in fill-same (g .words) (cell-coming _ _ _ _ desk (cell-reads _ _ _ _ (g .reads) .1))
 
         pub cell-room : end + 1 < length t
         cell-room = omega (arith, fill-size cell-words, forward-length room)
@@ -235,16 +210,14 @@ module _ {desk : ℕ} {ws s₀ o s t : List ℕ} {kept : Bool} {left end i : ℕ
         pub forward-cell : Forwarded desk ws s₀ o (set s (cellField (getD ws i 0)) (getD ws (i + 1) 0))
             (set (set t end (getD ws i 0)) (end + 1) (getD ws (i + 1) 0)) kept (left - 1) (end + 2) (i + 1 + 1)
         forward-cell =
-            let w = getD ws i 0 in
-            let v = getD ws (i + 1) 0 in
-            let rest = drop (i + 1 + 1) ws in
+            let g = at-value true e in
             let two : end + 1 + 1 ≡ end + 2 = omega arith in
             let size = fill-size cell-words in
             rw (e, ← two)
             (record {
-              stands = record {
-                reads = cell-reads w v (left - 1) rest (kept-here .reads) .0;
-                store = sym (cell-applies w v (left - 1) rest desk s true) ∙ kept-here .store;
+              progress = record {
+                reads = cell-reads _ _ _ _ (g .reads) .0;
+                store = sym (cell-applies _ _ _ _ desk s true) ∙ g .store;
                 words = fill-word (fill-word cell-words (omega arith)) (omega arith);
               };
             })

@@ -32,10 +32,11 @@ repliesOf p (r ∷ rs) s =
     answered (r .client) (run p (operationOf r) s .reply) ∷ repliesOf p rs
     (applyUpdate (run p (operationOf r) s .update) s)
 
+-- "Replies go out as three words each"
 abbrev pub replySize : ℕ
 replySize = 3
 
--- as many as may wait are answered
+-- as many as may wait are answered: "replies at least 96 words"
 abbrev pub repliesSize : ℕ
 repliesSize = replySize * queueSize
 

@@ -1,6 +1,6 @@
 -- A run along the steps: what is still to run gives the whole outcome.
 -- Assumes nothing.
-use mathlib.Core.Path.{_≡_, refl, _∙_, sym, ap}
+use mathlib.Core.Path.{refl, _∙_, sym, ap}
 use Prim.Native.Nat.{_-_, _<_}
 use native.Mathlib.Omega.{arith}
 use Rattle.plan.proofs.Words.{transaction-steps}

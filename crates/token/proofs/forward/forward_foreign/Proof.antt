@@ -3,7 +3,7 @@
 use mathlib.Core.Path.{_≡_, refl, _∙_, ap}
 use Prim.Native.Nat.{_+_, _-_, _≤_, _<_}
 use native.Mathlib.Omega.{arith}
-use lib.ListN.{length, set, length-set}
+use lib.ListN.{length, length-set}
 use Rattle.token.proofs.Forwarding.{Forwarded, forward-start, forward-end, forward-own, forward-head, forward-more}
 use Rattle.token.proofs.Forwarding.{forward-past, forward-cell, forward-length, head-room, cell-room}
 use borrow.Author.Needs.{needs}
