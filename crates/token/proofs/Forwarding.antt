@@ -115,7 +115,7 @@ record Progress (desk : ℕ) (ws s₀ o s t : List ℕ) (kept : Bool) (left end 
 
 -- the same in the walk's own variables
 pub record Forwarded (desk : ℕ) (ws s₀ o s t : List ℕ) (kept : Bool) (left end i : ℕ) : Type 0 where
-  stands : Progress desk ws s₀ o s t kept left end (drop i ws)
+  progress : Progress desk ws s₀ o s t kept left end (drop i ws)
 
 pub forward-start : (desk : ℕ) (ws s o : List ℕ) → ws ≡ updatesWords (updatesFrom 0 ws) → Forwarded desk ws s o s o false 0 0 0
 unfolding Reads applies coming writesFrom writeWords
