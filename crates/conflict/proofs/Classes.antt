@@ -54,8 +54,8 @@ module _ (ws : List ℕ) (e : planVerdict ws ≡ accepted) (o : Operation) (i : 
   Unwritten = (c : ℕ) → MayRead (planOf ws) o c → (o′ : Operation) → IsOperation (planOf ws) o′ → MayWrite (planOf ws) o′ c → ⊥
 
   -- no operation of another desk may touch a cell that it may write
-  abbrev Alone : Type 0
-  Alone =
+  abbrev NoOtherTouches : Type 0
+  NoOtherTouches =
       (c : ℕ) → MayWrite (planOf ws) o c → (o′ : Operation) → IsOperation (planOf ws) o′ → OtherDesk (planOf ws) o o′
       → MayTouch (planOf ws) o′ c → ⊥
 
@@ -70,14 +70,14 @@ module _ (ws : List ℕ) (e : planVerdict ws ≡ accepted) (o : Operation) (i : 
       let m = some-member (written (planOf ws)) (readSet (planOf ws) o) r in
       let w = written-gives ws e (m .0) (m .2) in h (m .0) (m .1) (w .0) (w .1) (w .2)
 
-  one-desk-alone : oneDeskEach (deskMask (planOf ws)) (writeSet (planOf ws) o) ≡ true → Alone
-  one-desk-alone h c m o′ i′ other t =
+  one-desk-no-other : oneDeskEach (deskMask (planOf ws)) (writeSet (planOf ws) o) ≡ true → NoOtherTouches
+  one-desk-no-other h c m o′ i′ other t =
       let k = one-desk ws e c .0 (eqb-true _ _ (every-member (λ c. eqb (ones (deskMask (planOf ws) c)) 1)
       (writeSet (planOf ws) o) c h m)) in
       other (k .1 .1 o′ i′ t ∙ sym (k .1 .1 o i (inr m)))
 
-  alone-one-desk : Alone → oneDeskEach (deskMask (planOf ws)) (writeSet (planOf ws) o) ≡ true
-  alone-one-desk h =
+  no-other-one-desk : NoOtherTouches → oneDeskEach (deskMask (planOf ws)) (writeSet (planOf ws) o) ≡ true
+  no-other-one-desk h =
       member-every (λ c. eqb (ones (deskMask (planOf ws) c)) 1) (writeSet (planOf ws) o)
       (λ c m. eq-eqb _ _ (one-desk ws e c .1 (
         deskOf (planOf ws) o,
@@ -100,9 +100,9 @@ module _ (ws : List ℕ) (e : planVerdict ws ≡ accepted) (o : Operation) (i : 
       go : (w a q : Bool) → some isWrite (transactionOf (planOf ws) o .steps) ≡ w
           → oneDeskEach (deskMask (planOf ws)) (writeSet (planOf ws) o) ≡ a
           → some (written (planOf ws)) (readSet (planOf ws) o) ≡ q → Means (cond w (cond a local global) (cond q local free))
-      go true true q ew ea eq = (λ f. f .0 (writes-some (planOf ws) o ew .0) (writes-some (planOf ws) o ew .1), one-desk-alone ea)
+      go true true q ew ea eq = (λ f. f .0 (writes-some (planOf ws) o ew .0) (writes-some (planOf ws) o ew .1), one-desk-no-other ea)
       go true false q ew ea eq =
-          (λ f. f .0 (writes-some (planOf ws) o ew .0) (writes-some (planOf ws) o ew .1), λ l. false≢true (sym ea ∙ alone-one-desk (l .1)))
+          (λ f. f .0 (writes-some (planOf ws) o ew .0) (writes-some (planOf ws) o ew .1), λ l. false≢true (sym ea ∙ no-other-one-desk (l .1)))
       go false a false ew ea eq = (writes-none (planOf ws) o ew, unwritten eq)
       go false a true ew ea eq = (λ f. of-unwritten (f .1) eq, λ c m. absurd (writes-none (planOf ws) o ew c m))
 

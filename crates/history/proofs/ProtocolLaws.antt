@@ -78,9 +78,9 @@ module _ (ws : List ℕ) (accept : planVerdict ws ≡ accepted) (class : Operati
   means : (o : Operation) (k : Class) → IsOperation (planOf ws) o → class o ≡ k → Is (planOf ws) o k
   means o k i e = subst (Is (planOf ws) o) e (right o i)
 
-  alone : (o : Operation) → class o ≡ local → (c : ℕ) → Writes o c → (o′ : Operation)
+  local-one-desk : (o : Operation) → class o ≡ local → (c : ℕ) → Writes o c → (o′ : Operation)
       → IsOperation (planOf ws) o′ × MayTouch (planOf ws) o′ c → deskOf (planOf ws) o′ ≡ deskOf (planOf ws) o
-  alone o e c w o′ t =
+  local-one-desk o e c w o′ t =
       by-same (deskOf (planOf ws) o′) (deskOf (planOf ws) o) (λ q. q)
       (λ q. absurd (means o local (w .0) e .1 c (w .1) o′ (t .0) q (t .1)))
 
@@ -94,7 +94,7 @@ module _ (ws : List ℕ) (accept : planVerdict ws ≡ accepted) (class : Operati
         update-writes = ran-writes;
         free-writes = λ o e c w. means o free (w .0) (seen-free (class o) e) .0 c (w .1);
         free-reads = λ o e c r o′ w. means o free (r .0) (seen-free (class o) e) .1 c (r .1) o′ (w .0) (w .1);
-        local-alone = λ o e c w o′ t. alone o (seen-local (class o) e) c w o′ (touch-of o′ c t);
+        local-alone = λ o e c w o′ t. local-one-desk o (seen-local (class o) e) c w o′ (touch-of o′ c t);
         join-keeps = cons-in-snoc;
         join-only = snoc-in-cons;
         awaited-only = λ d p f x t.

@@ -1,6 +1,7 @@
 // The run of a script: the commands by their names, what is said of a bad line, and the counts at the end. A line is read whole before
 // anything is done, so that a bad one changes nothing.
 use crate::desks;
+use crate::events;
 use crate::forms;
 use crate::frames;
 use crate::layout::BEFORE;
@@ -27,7 +28,6 @@ use crate::loans;
 use crate::operations;
 use crate::plans;
 use crate::texts;
-use crate::visits;
 use terminal::Memory;
 use terminal::line;
 use terminal::memory;
@@ -115,7 +115,7 @@ fn read_rest(m: &mut Memory, name: u64) -> &mut Memory {
         DESK_NAME => take_desk(number_to(m, DESK, scanner::WORD)),
         REQUEST => operations::read_of_client(desks::read_made(m)),
         VISIT => forms::read(forms::take_latest(desks::read_made(m))),
-        PASS => visits::read_pass(m),
+        PASS => events::read_pass(m),
         READ => forms::read(forms::take_latest(m)),
         STATE_NAME => desks::read_state(m),
         CELL => number_to(
@@ -152,9 +152,9 @@ fn perform(m: &mut Memory, name: u64) -> &mut Memory {
         CLASS => plans::class(m),
         DESK_NAME => desks::new_desk(m),
         START => frames::start(m),
-        REQUEST => visits::request(m),
-        VISIT => visits::visit(m),
-        PASS => visits::pass(m),
+        REQUEST => events::request(m),
+        VISIT => events::visit(m),
+        PASS => events::pass(m),
         READ => frames::read(m),
         STATE_NAME => memory::copy(m, ITEM, BEFORE + STATE, 5),
         CELL => desks::set_cell(m),

@@ -13,12 +13,13 @@
 //     changes       what a call changed of all that it was lent
 //     calls         the engine's request and visit, on what stands in memory
 //     frames        frames that were sent; the starting frame, the frame reader
-//     visits        the lines of requests and visits, and the token that goes on
+//     events        the lines of requests and visits, and the token that goes on
 //     interpreter   commands, faults, counts, and the run of a script
 mod answers;
 mod calls;
 mod changes;
 mod desks;
+mod events;
 mod forms;
 mod frames;
 mod interpreter;
@@ -28,7 +29,6 @@ mod operations;
 mod plans;
 mod sums;
 mod texts;
-mod visits;
 mod words;
 
 pub use interpreter::run;

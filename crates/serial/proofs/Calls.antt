@@ -84,10 +84,10 @@ module _ (S : System) (L : Laws S) (b : Store) where
           g-low = I .g-low;
           turns = I .turns;
           low = I .low;
-          behind = I .behind;
-          aside = I .aside;
-          here = I .here;
-          there = I .there;
+          own-not-beyond = I .own-not-beyond;
+          others-beyond = I .others-beyond;
+          serial-at-place = I .serial-at-place;
+          serial-with-owed = I .serial-with-owed;
           queued = h;
           giving = λ i. snoc-nil past i ∙ I .giving i;
         }

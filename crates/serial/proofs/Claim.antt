@@ -39,19 +39,19 @@ module _ (S : System) (L : Laws S) where
     one-cell : (p c : ℕ) → p < n → JustOne S p c → getD (w p .store) c 0 ≡ getD (storeAfter S (order S s) b) c 0
     one-cell p c h j =
         let i : ℕ = placeAt n (s .heard p) (suc p) in
-        k .inv .here p h .1 c (just-hears p c j)
+        k .inv .serial-at-place p h .1 c (just-hears p c j)
         ∙ sym
         (upto-off S L {P = JustOne S p} i (order S s) b
         (All-part (BehindOf S p) (Leaves S (JustOne S p)) (beyond (place n) i (order S s)) (λ e f. not-just p (e .request .op) f)
-        (k .inv .behind p h)) .1 c j)
+        (k .inv .own-not-beyond p h)) .1 c j)
 
     other-cell : (c : ℕ) → ((p : ℕ) → p < n → JustOne S p c → ⊥) → getD (w (s .latest) .store) c 0 ≡ getD (storeAfter S (order S s) b) c 0
     other-cell c h =
         let p : ℕ = s .latest in
         let hd : Hears S p c = other-hears p c h in
-        k .inv .here p (k .latest-below) .1 c hd
+        k .inv .serial-at-place p (k .latest-below) .1 c hd
         ∙ rw (k .latest-heard)
-        (sym (upto-hears S L p (placeAt n (length (s .globals)) (suc p)) (order S s) b (k .inv .aside p (k .latest-below)) .1 c hd))
+        (sym (upto-hears S L p (placeAt n (length (s .globals)) (suc p)) (order S s) b (k .inv .others-beyond p (k .latest-below)) .1 c hd))
 
 pub serializable : (S : System) → Laws S → Claim S
 unfolding Claim

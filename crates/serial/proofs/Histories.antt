@@ -87,10 +87,10 @@ module _ (S : System) (L : Laws S) (b : Store) where
           g-low = λ p. le-refl _;
           turns = λ p q h l k. le-refl _;
           low = tt;
-          behind = λ p h. tt;
-          aside = λ p h. tt;
-          here = λ p h. (refl, λ c k. refl);
-          there = λ p h. (refl, λ c k. refl);
+          own-not-beyond = λ p h. tt;
+          others-beyond = λ p h. tt;
+          serial-at-place = λ p h. (refl, λ c k. refl);
+          serial-with-owed = λ p h. (refl, λ c k. refl);
           queued = λ p. tt;
           giving = λ i. refl;
         };

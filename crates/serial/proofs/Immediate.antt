@@ -70,7 +70,7 @@ module _ (S : System) (L : Laws S) where
       reads-heard c r = Conflicts.at-hears S L p (t .op) c hr (inl r)
 
       made-same : update (t .op) (stores p) ≡ made
-      made-same = Runs.update-same S L {P = Hears S p} (t .op) (stores p) at-spot reads-heard (I .here p below)
+      made-same = Runs.update-same S L {P = Hears S p} (t .op) (stores p) at-spot reads-heard (I .serial-at-place p below)
 
       -- its store with the same written in
       left-store : left .store ≡ applyUpdate made (stores p)
@@ -87,7 +87,7 @@ module _ (S : System) (L : Laws S) where
       -- all that stands behind it runs as before, and its write goes to the end
       new-end : storeAfter S (insert (place n) new es) b ≡ applyUpdate made (storeAfter S es b)
       new-end =
-          Runs.mid-store S L p new hr (upto (place n) spot es) (beyond (place n) spot es) b (I .behind p below)
+          Runs.mid-store S L p new hr (upto (place n) spot es) (beyond (place n) spot es) b (I .own-not-beyond p below)
           ∙ ap (λ (l : List (Finished Op)). applyUpdate made (storeAfter S l b)) (Sorting.upto-beyond (place n) spot es)
 
       new-upto : (j : ℕ) → spot ≤ j → storeAfter S (upto (place n) j (insert (place n) new es)) b
@@ -95,25 +95,25 @@ module _ (S : System) (L : Laws S) where
       new-upto j h =
           rw (Sorting.upto-insert-hi (place n) j new es h, Sorting.upto-split (place n) spot j es h)
           (Runs.mid-store S L p new hr (upto (place n) spot es) (upto (place n) j (beyond (place n) spot es)) b
-          (Sorting.all-upto (place n) (BehindOf S p) j (beyond (place n) spot es) (I .behind p below)))
+          (Sorting.all-upto (place n) (BehindOf S p) j (beyond (place n) spot es) (I .own-not-beyond p below)))
 
-      immediate-here : (q : ℕ) → q < n →
+      immediate-serial-at-place : (q : ℕ) → q < n →
           Same (Hears S q) (assign p (left .store) stores q)
           (storeAfter S (upto (place n) (placeAt n (g q) (suc q)) (insert (place n) new es)) b)
-      immediate-here q h =
+      immediate-serial-at-place q h =
           let k : ℕ = placeAt n (g q) (suc q) in
           by-same q p
-          (λ e. rw (e, eqb-self p, new-upto spot (le-refl _), left-store) (apply-same made (stores p) at-spot (I .here p below)))
+          (λ e. rw (e, eqb-self p, new-upto spot (le-refl _), left-store) (apply-same made (stores p) at-spot (I .serial-at-place p below)))
           (λ e. rw (eqb-no e)
-          (by-less k spot (λ l. rw (Sorting.upto-insert-lo (place n) k new es l) (I .here q h))
+          (by-less k spot (λ l. rw (Sorting.upto-insert-lo (place n) k new es l) (I .serial-at-place q h))
           (λ l. rw (new-upto k l)
           (Same-trans (stores q) (storeAfter S (upto (place n) k es) b) (applyUpdate made (storeAfter S (upto (place n) k es) b))
-          (I .here q h) (unheard q e (storeAfter S (upto (place n) k es) b))))))
+          (I .serial-at-place q h) (unheard q e (storeAfter S (upto (place n) k es) b))))))
 
-      immediate-there : (q : ℕ) → q < n →
+      immediate-serial-with-owed : (q : ℕ) → q < n →
           Same (Hears S q) (applyAll (owed aw q (tk .updates)) (assign p (left .store) stores q))
           (storeAfter S (insert (place n) new es) b)
-      immediate-there q h =
+      immediate-serial-with-owed q h =
           by-same q p
           (λ e. rw (
             e,
@@ -123,10 +123,10 @@ module _ (S : System) (L : Laws S) where
             Token.owed-past S L aw p made (tk .updates) (stores p) made-own
                 (All-part (Tagged S) (λ (u : ℕ × Update). Within (OutCell S (u .0)) (u .1)) (tk .updates) (λ u h. h .1) (I .tags)),
           )
-          (apply-same made (applyAll (owed aw p (tk .updates)) (stores p)) (storeAfter S es b) (I .there p below)))
+          (apply-same made (applyAll (owed aw p (tk .updates)) (stores p)) (storeAfter S es b) (I .serial-with-owed p below)))
           (λ e. rw (eqb-no e, new-end)
           (Same-trans (applyAll (owed aw q (tk .updates)) (stores q)) (storeAfter S es b) (applyUpdate made (storeAfter S es b))
-          (I .there q h) (unheard q e (storeAfter S es b))))
+          (I .serial-with-owed q h) (unheard q e (storeAfter S es b))))
 
       immediate-giving : (i : ℕ) → getD (past ++ (said ∷ [])) i []
           ≡ due S i (insert (place n) new es) b
@@ -134,11 +134,11 @@ module _ (S : System) (L : Laws S) where
           by-same i (length past)
           (λ e. rw e
           (snoc-own past said
-          ∙ rw (Runs.reply-same S L {P = Hears S p} (t .op) (stores p) at-spot reads-heard (I .here p below))
-          (sym (Runs.mid-due-own S L p new hr (upto (place n) spot es) (beyond (place n) spot es) b (I .behind p below)
+          ∙ rw (Runs.reply-same S L {P = Hears S p} (t .op) (stores p) at-spot reads-heard (I .serial-at-place p below))
+          (sym (Runs.mid-due-own S L p new hr (upto (place n) spot es) (beyond (place n) spot es) b (I .own-not-beyond p below)
           (rw (Sorting.upto-beyond (place n) spot es) (sym (I .giving (length past)) ∙ List·getD-eq-default past [] (le-refl _)))))))
           (λ e. snoc-other past said i e ∙ I .giving i
-          ∙ sym (Runs.mid-due-other S L p new hr (upto (place n) spot es) (beyond (place n) spot es) b (I .behind p below) i
+          ∙ sym (Runs.mid-due-other S L p new hr (upto (place n) spot es) (beyond (place n) spot es) b (I .own-not-beyond p below) i
           (λ k. e (sym k))
           ∙ ap (λ (l : List (Finished Op)). due S i l b) (Sorting.upto-beyond (place n) spot es)))
 
@@ -155,16 +155,16 @@ module _ (S : System) (L : Laws S) where
             turns = I .turns;
             low = Sorting.All-insert (place n) (Low (place n) (placeAt n m n)) new es
                 (omega (arith, place-mono S L {j = g p} {k = m} 0 (I .g-low p))) (I .low);
-            behind = λ q h. by-same q p (λ e. rw e (rw (Sorting.beyond-insert-hi (place n) spot new es (le-refl _)) (I .behind p below)))
+            own-not-beyond = λ q h. by-same q p (λ e. rw e (rw (Sorting.beyond-insert-hi (place n) spot new es (le-refl _)) (I .own-not-beyond p below)))
                 (λ e. Sorting.beyond-insert (place n) (BehindOf S q) (placeAt n (g q) (suc q)) new es (at-not p q (t .op) e hr)
-                (I .behind q h));
-            aside = λ q h. by-same q p (λ e. rw e
+                (I .own-not-beyond q h));
+            others-beyond = λ q h. by-same q p (λ e. rw e
                 (rw (Sorting.beyond-insert-hi (place n) (placeAt n m (suc p)) new es (place-mono S L (suc p) (I .g-low p)))
-                (I .aside p below)))
+                (I .others-beyond p below)))
                 (λ e. Sorting.beyond-insert (place n) (BesideOf S q) (placeAt n m (suc q)) new es (at-elsewhere p q (t .op) e hr)
-                (I .aside q h));
-            here = immediate-here;
-            there = immediate-there;
+                (I .others-beyond q h));
+            serial-at-place = immediate-serial-at-place;
+            serial-with-owed = immediate-serial-with-owed;
             queued = I .queued;
             giving = immediate-giving;
           }

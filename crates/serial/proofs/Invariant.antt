@@ -44,11 +44,11 @@ module _ (S : System) where
     -- nothing stands behind the last global's places; behind desk p's place nothing of desk p's; and behind what it would have with all
     -- globals heard only other desks' runs at once
     pub low : All (Low (place n) (placeAt n m n)) es
-    pub behind : (p : ℕ) → p < n → All (BehindOf S p) (beyond (place n) (placeAt n (g p) (suc p)) es)
-    pub aside : (p : ℕ) → p < n → All (BesideOf S p) (beyond (place n) (placeAt n m (suc p)) es)
+    pub own-not-beyond : (p : ℕ) → p < n → All (BehindOf S p) (beyond (place n) (placeAt n (g p) (suc p)) es)
+    pub others-beyond : (p : ℕ) → p < n → All (BesideOf S p) (beyond (place n) (placeAt n m (suc p)) es)
     -- on what it hears of, a desk's store is the serial one at its place, and with what it is owed the serial one at the end
-    pub here : (p : ℕ) → p < n → Same (Hears S p) (stores p) (storeAfter S (upto (place n) (placeAt n (g p) (suc p)) es) b)
-    pub there : (p : ℕ) → p < n → Same (Hears S p) (applyAll (owed aw p (tk .updates)) (stores p)) (storeAfter S es b)
+    pub serial-at-place : (p : ℕ) → p < n → Same (Hears S p) (stores p) (storeAfter S (upto (place n) (placeAt n (g p) (suc p)) es) b)
+    pub serial-with-owed : (p : ℕ) → p < n → Same (Hears S p) (applyAll (owed aw p (tk .updates)) (stores p)) (storeAfter S es b)
     pub queued : (p : ℕ) → All (OfDesk S p) (queues p)
     pub giving : (i : ℕ) → getD past i [] ≡ due S i es b
 

@@ -47,11 +47,11 @@ module _ (S : System) (L : Laws S) (b : Store) (cs : List (Call (S .Op) (S .Extr
   -- on the cells that desk p hears of, those that no other desk's local may write, its store is the serial one at its place
   pub store-is-serial-at-place : (p : ℕ) → p < n →
       Same (Hears S p) (desksOf S b cs p .store) (storeAfter S (upto (place n) (placeOfDesk p) (orderOf S b cs)) b)
-  store-is-serial-at-place p h = history-good S L b cs pr .inv .here p h
+  store-is-serial-at-place p h = history-good S L b cs pr .inv .serial-at-place p h
 
   -- behind its place stands nothing of desk p's but free operations
   pub nothing-own-behind : (p : ℕ) → p < n → All (BehindOf S p) (beyond (place n) (placeOfDesk p) (orderOf S b cs))
-  nothing-own-behind p h = history-good S L b cs pr .inv .behind p h
+  nothing-own-behind p h = history-good S L b cs pr .inv .own-not-beyond p h
 
   -- whose turn comes first has heard least: at its turn, what a desk has heard every desk has
   pub heard-by-turn : (p q : ℕ) → p < n → q < n → desksOf S b cs p .awaited ≤ desksOf S b cs q .awaited →
@@ -74,4 +74,4 @@ module _ (S : System) (L : Laws S) (b : Store) (cs : List (Call (S .Op) (S .Extr
   pub store-with-owed-is-serial : (p : ℕ) → p < n →
       Same (Hears S p) (applyAll (owed (awaitedOf (desksOf S b cs)) p (latestOf S b cs .updates)) (desksOf S b cs p .store))
       (storeAfter S (orderOf S b cs) b)
-  store-with-owed-is-serial p h = history-good S L b cs pr .inv .there p h
+  store-with-owed-is-serial p h = history-good S L b cs pr .inv .serial-with-owed p h

@@ -81,7 +81,7 @@ module _ (S : System) (L : Laws S) where
           subst (λ (us : List Update). Same (Hears S p) (applyAll us (stores p)) end)
           (Token.owed-now aw p (tk .updates)
           (All-part (Tagged S) (λ (u : ℕ × Update). u .0 ≢ p → aw p < aw (u .0)) (tk .updates) (λ u h. later (u .0) (h .0)) (I .tags)))
-          (I .there p below)
+          (I .serial-with-owed p below)
 
       reading : All (ReadsIn S (Hears S p)) queue
       reading = All-part (OfDesk S p) (ReadsIn S (Hears S p)) queue (λ t d c r. Conflicts.desk-hears S L p (t .op) c d (inl r))
@@ -122,45 +122,45 @@ module _ (S : System) (L : Laws S) where
           )
           refl
 
-      visit-aside : (q : ℕ) → q < n → All (BesideOf S q) (beyond (place n) (placeAt n (m + length queue) (suc q)) (es ++ last))
-      visit-aside q h = ranked-beyond S L (BesideOf S q) q (length past) m es queue (I .low) (I .aside q h)
+      visit-others-beyond : (q : ℕ) → q < n → All (BesideOf S q) (beyond (place n) (placeAt n (m + length queue) (suc q)) (es ++ last))
+      visit-others-beyond q h = ranked-beyond S L (BesideOf S q) q (length past) m es queue (I .low) (I .others-beyond q h)
 
-      visit-behind : (q : ℕ) → q < n → All (BehindOf S q) (beyond (place n) (placeAt n (g′ q) (suc q)) (es ++ last))
-      visit-behind q h =
+      visit-own-not-beyond : (q : ℕ) → q < n → All (BehindOf S q) (beyond (place n) (placeAt n (g′ q) (suc q)) (es ++ last))
+      visit-own-not-beyond q h =
           by-same q p
           (λ e. rw (e, eqb-self p)
           (ranked-beyond S L (BehindOf S p) p (length past) m es queue (I .low)
           (Sorting.beyond-mono (place n) (BehindOf S p) (placeAt n (g p) (suc p)) (placeAt n m (suc p)) es
-          (place-mono S L (suc p) (I .g-low p)) (I .behind p below))))
+          (place-mono S L (suc p) (I .g-low p)) (I .own-not-beyond p below))))
           (λ e. rw (eqb-no e)
-          (Sorting.beyond-append (place n) (BehindOf S q) (placeAt n (g q) (suc q)) es last (I .behind q h)
+          (Sorting.beyond-append (place n) (BehindOf S q) (placeAt n (g q) (suc q)) es last (I .own-not-beyond q h)
           (ranked-all S L (NotOf S q) (length past) m queue
           (All-part (OfDesk S p) (λ (t : Request Op). NotOf S q (t .op)) queue (λ t d. inr (λ k. e (sym k ∙ d))) (I .queued p)))))
 
-      visit-here : (q : ℕ) → q < n → Same (Hears S q) (assign p (left .store) stores q)
+      visit-serial-at-place : (q : ℕ) → q < n → Same (Hears S q) (assign p (left .store) stores q)
           (storeAfter S (upto (place n) (placeAt n (g′ q) (suc q)) (es ++ last)) b)
-      visit-here q h =
+      visit-serial-at-place q h =
           let k : ℕ = placeAt n (m + length queue) (suc p) in
           by-same q p
           (λ e. rw (e, eqb-self p)
           (Same-trans (runAll S queue mine) (storeAfter S (es ++ last) b) (storeAfter S (upto (place n) k (es ++ last)) b) mine-after
-          (upto-hears S L p k (es ++ last) b (visit-aside p below))))
+          (upto-hears S L p k (es ++ last) b (visit-others-beyond p below))))
           (λ e. rw (eqb-no e)
           (rw
           (Sorting.upto-append (place n) (placeAt n (g q) (suc q)) es last
           (ranked-high S L (length past) (placeAt n (g q) (suc q)) m queue
           (omega (arith, place-mono S L {j = g q} {k = m} 0 (I .g-low q)))))
-          (I .here q h)))
+          (I .serial-at-place q h)))
 
-      visit-there : (q : ℕ) → q < n →
+      visit-serial-with-owed : (q : ℕ) → q < n →
           Same (Hears S q) (applyAll (owed aw′ q (out .updates)) (assign p (left .store) stores q))
           (storeAfter S (es ++ last) b)
-      visit-there q h =
+      visit-serial-with-owed q h =
           by-same q p
           (λ e. rw (e, owed-own) (rw (eqb-self p) mine-after))
           (λ e. rw (owed-other q h e) (rw (eqb-no e)
           (rw (applyAll-append (owed aw q (tk .updates)) news (stores q), ← news-end)
-          (applyAll-same news (applyAll (owed aw q (tk .updates)) (stores q)) end (I .there q h)))))
+          (applyAll-same news (applyAll (owed aw q (tk .updates)) (stores q)) end (I .serial-with-owed q h)))))
 
       visit-giving : (i : ℕ) → getD (past ++ (repliesOf S queue mine ∷ [])) i [] ≡ due S i (es ++ last) b
       visit-giving i =
@@ -205,10 +205,10 @@ module _ (S : System) (L : Laws S) where
                 (λ e h. omega (arith, place-mono S L {j = m} {k = m + length queue} n (omega arith))) (I .low))
                 (All-part (Low (place n) (placeAt n (m + length queue) 0)) (Low (place n) (placeAt n (m + length queue) n)) last
                 (λ e h. omega arith) (ranked-low S L (length past) m queue));
-            behind = visit-behind;
-            aside = visit-aside;
-            here = visit-here;
-            there = visit-there;
+            own-not-beyond = visit-own-not-beyond;
+            others-beyond = visit-others-beyond;
+            serial-at-place = visit-serial-at-place;
+            serial-with-owed = visit-serial-with-owed;
             queued = λ q. by-same q p (λ e. rw (eqb-yes e) tt) (λ e. rw (eqb-no e) (I .queued q));
             giving = visit-giving;
           }

@@ -1,9 +1,9 @@
--- `script::visits::pass` is safe and ends.
+-- `script::events::pass` is safe and ends.
 -- Assumes nothing.
 use Prim.Native.Nat.{_-_, _≤_}
 use borrow.Author.Needs.{needs}
-use Rattle.script.proofs.visits.pass.Statement.{statement}
-use Rattle.script.proofs.visits.pass.Tie as tie
+use Rattle.script.proofs.events.pass.Statement.{statement}
+use Rattle.script.proofs.events.pass.Tie as tie
 
 abbrev Inv-loop : tie.InvT-loop
 Inv-loop m₀ visits i₀ m i = i ≤ visits
