@@ -1,6 +1,7 @@
 // The two calls that take the lent queue. Its length and its first 32 records are read; all else is reckoned on those, and a request then
 // stores at most one record.
 ghost use mathlib.Core.Path.{_≡_};
+ghost use Rattle.desk.specs.Holding.{holding};
 ghost use Rattle.requests.specs.Request.{recordOf, requestResult};
 ghost use Rattle.visits.specs.Visit.{visitResult};
 ghost use Rattle.requests.specs.Answer.{requestedOf};
@@ -21,7 +22,8 @@ pub fn request(
     params: [u32; 4],
 ) -> RequestResult
     ensures { λ r. ⌜ requestedOf r (now (cells .exit)) (now (queue .exit))
-        ≡ requestResult (now (plan .entry)) state (now (cells .entry)) (now (queue .entry)) (recordOf client transaction params) ⌝ }
+        ≡ requestResult (now (plan .entry)) (holding state (now (cells .entry)) (now (queue .entry)))
+        (recordOf client transaction params) ⌝ }
 {
     let size = queue.len();
     let records = queue::copied(queue);
@@ -50,8 +52,8 @@ pub fn visit(
     replies: &mut [u32],
 ) -> VisitResult
     ensures { λ r. ⌜ visitedOf r (now (cells .exit)) (now (out .exit)) (now (replies .exit))
-        ≡ visitResult (now (plan .entry)) state (now (cells .entry)) (now (queue .entry)) (now (frame .entry)) (now (out .entry))
-        (now (replies .entry)) ⌝ }
+        ≡ visitResult (now (plan .entry)) (holding state (now (cells .entry)) (now (queue .entry)))
+        (now (frame .entry)) (now (out .entry)) (now (replies .entry)) ⌝ }
 {
     let size = queue.len();
     let records = queue::copied(queue);

@@ -2,6 +2,7 @@
 // refused with 5 in its turn.
 ghost use mathlib.Core.Path.{_≡_};
 ghost use Rattle.queue.specs.Words.{queueIn, KeptUnlessRow};
+ghost use Rattle.desk.specs.Holding.{holding};
 ghost use Rattle.requests.specs.Request.{recordOf, requestResult};
 ghost use Rattle.visits.specs.Visit.{visitResult};
 ghost use Rattle.requests.specs.Answer.{requestedOf};
@@ -21,7 +22,8 @@ pub fn request_on_words(
     params: [u32; 4],
 ) -> RequestResult
     ensures { λ r. ⌜ (requestedOf r (now (cells .exit)) (queueIn (now (row .exit)))
-        ≡ requestResult (now (plan .entry)) state (now (cells .entry)) (queueIn (now (row .entry))) (recordOf client transaction params))
+        ≡ requestResult (now (plan .entry)) (holding state (now (cells .entry)) (queueIn (now (row .entry))))
+        (recordOf client transaction params))
         × KeptUnlessRow (now (row .entry)) (now (row .exit)) ⌝ }
 {
     let size = queue::size_in(row);
@@ -52,8 +54,8 @@ pub fn visit_on_words(
     replies: &mut [u32],
 ) -> VisitResult
     ensures { λ r. ⌜ visitedOf r (now (cells .exit)) (now (out .exit)) (now (replies .exit))
-        ≡ visitResult (now (plan .entry)) state (now (cells .entry)) (queueIn (now (row .entry))) (now (frame .entry)) (now (out .entry))
-        (now (replies .entry)) ⌝ }
+        ≡ visitResult (now (plan .entry)) (holding state (now (cells .entry)) (queueIn (now (row .entry))))
+        (now (frame .entry)) (now (out .entry)) (now (replies .entry)) ⌝ }
 {
     let size = queue::size_in(row);
     let records = queue::records_in(row);

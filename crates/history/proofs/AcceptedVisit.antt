@@ -26,7 +26,8 @@ use Rattle.token.proofs.Verdicts.{read-after}
 use Rattle.queue.specs.Queue.{noRequest}
 use Rattle.queue.specs.declared.record.Request.{Request}
 use Rattle.desk.specs.declared.state.Desk.{Desk}
-use Rattle.desk.specs.Queueing.{operationOf, waitingIn}
+use Rattle.desk.specs.Holding.{Holding, waitingAt}
+use Rattle.desk.specs.Queueing.{operationOf}
 use Rattle.desk.specs.Admission.{deskBuffersFit, waitsHere, deskFits}
 use Rattle.visits.specs.Admission.{visitBuffersFit}
 use Rattle.visits.specs.Visit.{forwarded, Visited, caughtUp, outgoingFrame, visitedBy, visitVerdict, visitResult}
@@ -34,8 +35,7 @@ use Rattle.visits.specs.Waiting.{runAll, Answered, repliesOf, replyWords, repli
 use Rattle.visits.specs.Running.{replyTo, allReplies}
 use Rattle.visits.proofs.WaitingRuns.{replies-length}
 use Rattle.visits.proofs.OwnUpdates.{replies-count}
-use Rattle.history.specs.History.{Holding}
-use Rattle.history.specs.Answering.{WaitsAt, replyPart, visitResultAt, storeBefore, AnswersWaiting, VisitAnswersWaiting}
+use Rattle.history.specs.Answering.{WaitsAt, replyPart, storeBefore, AnswersWaiting, VisitAnswersWaiting}
 use Rattle.history.specs.AcceptedVisit.{RecordsFit, Sends, VisitFrameReads, ChangedWordRefused}
 use Rattle.history.proofs.Operations.{Runs}
 use Rattle.history.proofs.Sound.{Sound, Six, six}
@@ -62,31 +62,31 @@ module _ (plan : List ℕ) (h : Holding) (frame out replies : List ℕ) where
   d = h .state
 
   abbrev waiting : List Request
-  waiting = waitingIn (d .waiting) (h .queue)
+  waiting = waitingAt h
 
   abbrev caught : Store
-  caught = caughtUp (planOf plan) d (h .cells) (h .queue) frame out replies
+  caught = caughtUp (planOf plan) h frame
 
   abbrev given : List Answered
   given = repliesOf (planOf plan) waiting caught
 
   abbrev left : Visited
-  left = visitResultAt plan h frame out replies
+  left = visitResult plan h frame out replies
 
   abbrev sends : List ℕ
-  sends = outgoingFrame (planOf plan) d (h .cells) (h .queue) frame out replies
+  sends = outgoingFrame (planOf plan) h frame
 
   -- ---- acceptance shows the verdict
 
-  forwarded-accepted : (words count : ℕ) (v : Verdict) → visitedBy (planOf plan) d (h .cells) (h .queue) frame out replies v .answer
-      ≡ forwarded words count → v ≡ accepted
+  forwarded-accepted : (words count : ℕ) (v : Verdict) → visitedBy (planOf plan) h frame out replies v .answer ≡ forwarded words count
+      → v ≡ accepted
   forwarded-accepted words count accepted e = refl
   forwarded-accepted words count (refused q) e = cc
 
   module _ (words count : ℕ) (answered : left .answer ≡ forwarded words count) where
-    verdict-of : visitVerdict plan d (h .cells) (h .queue) frame out replies ≡ accepted
+    verdict-of : visitVerdict plan h frame out replies ≡ accepted
     unfolding visitResult
-    verdict-of = forwarded-accepted words count (visitVerdict plan d (h .cells) (h .queue) frame out replies) answered
+    verdict-of = forwarded-accepted words count (visitVerdict plan h frame out replies) answered
 
     plan-of : planVerdict plan ≡ accepted
     unfolding visitVerdict
@@ -128,7 +128,7 @@ module _ (plan : List ℕ) (h : Holding) (frame out replies : List ℕ) where
     replies-size = replies-length (planOf plan) waiting caught ∙ ap (λ (n : ℕ). 3 * n) waiting-length
 
     answers-each : (k : ℕ) (r : Request) → WaitsAt k r h →
-        replyPart k (left .replies) ≡ replyWords (replyTo (planOf plan) r (storeBefore plan h frame out replies k))
+        replyPart k (left .replies) ≡ replyWords (replyTo (planOf plan) r (storeBefore plan h frame k))
     answers-each k r w =
         let l : k < d .waiting = w .0 in
         rw (
@@ -139,7 +139,7 @@ module _ (plan : List ℕ) (h : Holding) (frame out replies : List ℕ) where
           take-take k (d .waiting) (h .queue) (omega arith),
         ) refl
 
-    answers-waiting : AnswersWaiting plan h frame out replies count left
+    answers-waiting : AnswersWaiting plan h frame replies count left
     answers-waiting =
         let counted : count ≡ d .waiting =
         same-count (passed-is .0) ∙ replies-count (planOf plan) waiting caught ∙ waiting-length in
@@ -167,7 +167,7 @@ module _ (plan : List ℕ) (h : Holding) (frame out replies : List ℕ) where
         }
 
     -- what an accepted visit writes is read as visit v + 1 with the outgoing updates
-    frame-reads : RecordsFit (h .queue) → Sends plan h frame out replies (take words (left .out))
+    frame-reads : RecordsFit (h .queue) → Sends plan h frame (take words (left .out))
     frame-reads fit =
         let ok : Sound plan (λ (q : ℕ). length (h .queue)) (d .desk) h =
         record {
@@ -177,8 +177,7 @@ module _ (plan : List ℕ) (h : Holding) (frame out replies : List ℕ) where
           room = room-of;
           runs = mem-All (Runs (planOf plan)) waiting (waits-runs fit);
         } in
-        let r = sends-reads plan plan-of (λ q. length (h .queue)) h ok frame out replies
-        (turn-of plan d (h .cells) (h .queue) frame out replies verdict-of) in
+        let r = sends-reads plan plan-of (λ q. length (h .queue)) h ok frame out replies (turn-of plan h frame out replies verdict-of) in
         let whole : take words (left .out) ≡ sends =
         rw (passed-is .2, same-words (passed-is .0)) (take-append-seam sends (drop (length sends) out)) in
         rw whole

@@ -5,8 +5,9 @@ use mathlib.Core.List.{List, [], _∷_}
 use native.Mathlib.Omega.{arith}
 use Rattle.lists.proofs.Laws.{by-same, eqb-yes, eqb-no, eqb-self}
 use Rattle.queue.specs.declared.record.Request.{Request}
+use Rattle.desk.specs.Holding.{Holding}
 use Rattle.requests.specs.Request.{recordOf}
-use Rattle.history.specs.History.{Holding, Call, request, visit, stepAt, holdingsAfter}
+use Rattle.history.specs.History.{Call, request, visit, stepAt, holdingsAfter}
 use Rattle.history.specs.Answering.{WaitsAt, RequestWaits, NoVisit, WaitingStays, AnsweredAtNextVisit}
 use Rattle.history.proofs.Joining.{request-joined, visit-keeps}
 use Rattle.history.proofs.AcceptedVisit.{visit-answers-waiting}

@@ -18,6 +18,7 @@ use Rattle.conflict.proofs.MaskMeaning.{desk-low}
 use Rattle.conflict.proofs.Touching.{some-desk}
 use Rattle.token.specs.Frame.{startingFrame}
 use Rattle.queue.specs.declared.record.Request.{Request}
+use Rattle.desk.specs.Holding.{Holding}
 use Rattle.serial.specs.System.{System}
 use Rattle.serial.specs.SerialRun as run
 use Rattle.serial.specs.Order as protocolOrder
@@ -26,7 +27,7 @@ use Rattle.serial.specs.AtEnd.{ProperFrom, answersOf}
 use Rattle.serial.specs.Desk as desk
 use Rattle.serial.specs.Machine.{Machine, Words, machineAfter, seen, answersSeen, MachineProper}
 use Rattle.serial.proofs.Bridge.{AllOk, machine-proper, machine-answers, machine-serializable}
-use Rattle.history.specs.History.{Holding, Call, isRefused, outcomes, holdingsAfter, start, ProperFromStart}
+use Rattle.history.specs.History.{Call, isRefused, outcomes, holdingsAfter, start, ProperFromStart}
 use Rattle.history.specs.Order.{Finished}
 use Rattle.history.specs.SerialRun.{Classifies, Serial, newSerial, serial, order, storeAfter, due}
 use Rattle.history.specs.Claim.{Serializable, Claim}

@@ -13,13 +13,14 @@ use Rattle.plan.specs.Admission.{planVerdict}
 use Rattle.operation.specs.Operation.{Operation}
 use Rattle.operation.specs.Run.{Reply}
 use Rattle.conflict.specs.Class.{Class}
+use Rattle.desk.specs.Holding.{Holding}
 use Rattle.requests.specs.Request.{recordOf, requestResult}
 use Rattle.requests.specs.Request as asked
 use Rattle.visits.specs.Visit.{Visited, visitedBy, visitVerdict, visitResult}
 use Rattle.visits.specs.Waiting.{Answered, repliesWords}
 use Rattle.serial.specs.Desk as desk
 use Rattle.serial.specs.Machine.{answersSeen}
-use Rattle.history.specs.History.{Holding, Call, request, visit, stepAt, outcomes}
+use Rattle.history.specs.History.{Call, request, visit, stepAt, outcomes}
 use Rattle.history.specs.SerialRun.{Classifies}
 use Rattle.history.specs.Claim.{repliesIn, PutsOut, EachGives}
 use Rattle.history.proofs.Seen.{answeredSeen}
@@ -51,7 +52,7 @@ module _ (ws : List ℕ) (h : Holding) (p : ℕ) (ft out replies : List ℕ) whe
   rs = repliesRun ws h (visit p ft out replies)
 
   abbrev by : Verdict → Visited
-  by v = visitedBy (planOf ws) (h .state) (h .cells) (h .queue) ft out replies v
+  by v = visitedBy (planOf ws) h ft out replies v
 
   put-by : (v : Verdict) (ts : List Answered) → desk.given (forwardingSeen (by v .answer) (by v .out) rs) ≡ map answeredSeen ts →
       PutsOut (by v .answer) replies (by v .replies) ts
@@ -61,12 +62,10 @@ module _ (ws : List ℕ) (h : Holding) (p : ℕ) (ft out replies : List ℕ) whe
   put-by (refused q) ts e = (sym (seen-once [] ts e), refl)
 
   pub visit-puts : (ts : List Answered) →
-      desk.given (forwardingSeen (visitResult ws (h .state) (h .cells) (h .queue) ft out replies .answer)
-      (visitResult ws (h .state) (h .cells) (h .queue) ft out replies .out) rs) ≡ map answeredSeen ts →
-      PutsOut (visitResult ws (h .state) (h .cells) (h .queue) ft out replies .answer) replies
-      (visitResult ws (h .state) (h .cells) (h .queue) ft out replies .replies) ts
+      let v = visitResult ws h ft out replies in
+      desk.given (forwardingSeen (v .answer) (v .out) rs) ≡ map answeredSeen ts → PutsOut (v .answer) replies (v .replies) ts
   unfolding visitResult
-  visit-puts ts e = put-by (visitVerdict ws (h .state) (h .cells) (h .queue) ft out replies) ts e
+  visit-puts ts e = put-by (visitVerdict ws h ft out replies) ts e
 
 -- ---- every call
 
@@ -85,12 +84,12 @@ module _ (ws : List ℕ) (accept : planVerdict ws ≡ accepted) (class : Operati
   pub each-gives : (cs : List Call) (w : ℕ → Holding) (i : ℕ) → Match i cs w → EachGives replies i cs (outcomes ws w cs)
   each-gives [] w i m = tt
   each-gives (request p client k ps ∷ cs) w i m =
-      let a = requestResult ws (w p .state) (w p .cells) (w p .queue) (recordOf client k ps) .answer in (
+      let a = requestResult ws (w p) (recordOf client k ps) .answer in (
         seen-once (repliesIn client a) (replies i) (sym (response-given client a) ∙ first i (responseSeen client a) (m 0)),
         each-gives cs (stepAt ws w (request p client k ps)) (suc i) (λ j. m (suc j) ∙ later i j),
       )
   each-gives (visit p ft out buffer ∷ cs) w i m =
-      let v = visitResult ws (w p .state) (w p .cells) (w p .queue) ft out buffer in (
+      let v = visitResult ws (w p) ft out buffer in (
         visit-puts ws (w p) p ft out buffer (replies i)
             (first i (forwardingSeen (v .answer) (v .out) (repliesRun ws (w p) (visit p ft out buffer))) (m 0)),
         each-gives cs (stepAt ws w (visit p ft out buffer)) (suc i) (λ j. m (suc j) ∙ later i j),

@@ -18,11 +18,12 @@ use Rattle.operation.specs.Operation.{deskOf}
 use Rattle.conflict.specs.Class.{Class, free, local, global, classOf}
 use Rattle.queue.specs.Queue.{noRequest}
 use Rattle.queue.specs.declared.record.Request.{Request}
+use Rattle.desk.specs.Holding.{Holding}
 use Rattle.desk.specs.Queueing.{operationOf}
 use Rattle.desk.specs.Admission.{deskBuffersFit}
 use Rattle.requests.specs.Request.{Requested, served, routed, enqueued, unchanged, requestVerdict, requestResult}
 use Rattle.visits.specs.Visit.{visitedBy, visitVerdict, visitResult}
-use Rattle.history.specs.History.{Holding, requested, visited, forwardingRefused, holdingAfter}
+use Rattle.history.specs.History.{requested, visited, forwardingRefused, holdingAfter}
 use Rattle.history.specs.Answering.{WaitsAt}
 use Rattle.requests.specs.Request as asked
 
@@ -48,8 +49,7 @@ module _ (plan : List ℕ) (h : Holding) where
 
     module _ (size : length (h .queue) ≡ 32) where
       -- 9: "do fewer than 32 wait?"
-      by-room : (b : Bool) → ltb (h .state .waiting) 32 ≡ b → Joined (cond b (enqueued (h .state) (h .cells) (h .queue) r)
-          (unchanged (h .state) (h .cells) (h .queue) (asked.requestRefused 9)))
+      by-room : (b : Bool) → ltb (h .state .waiting) 32 ≡ b → Joined (cond b (enqueued h r) (unchanged h (asked.requestRefused 9)))
       by-room true e =
           let room : h .state .waiting < length (h .queue) = omega (arith, ltb-true (h .state .waiting) 32 e) in
           record {
@@ -61,40 +61,38 @@ module _ (plan : List ℕ) (h : Holding) where
           }
       by-room false e = other (h .cells) (asked.requestRefused 9) refl
 
-      by-class : (c : Class) (b : Bool) → Joined (routed (h .state) (h .cells) (h .queue) c b (planOf plan) r)
+      by-class : (c : Class) (b : Bool) → Joined (routed h c b (planOf plan) r)
       by-class free b = other _ (asked.replied _) refl
       by-class local true = other _ (asked.replied _) refl
       by-class local false = other _ (asked.redirected _) refl
       by-class global true = by-room (ltb (h .state .waiting) 32) refl
       by-class global false = other _ (asked.redirected _) refl
 
-    by-verdict : (v : Verdict) → (v ≡ accepted → length (h .queue) ≡ 32) →
-        Joined (served (h .state) (h .cells) (h .queue) v (planOf plan) r)
+    by-verdict : (v : Verdict) → (v ≡ accepted → length (h .queue) ≡ 32) → Joined (served h v (planOf plan) r)
     by-verdict (refused q) f = other (h .cells) (asked.requestRefused q) refl
     by-verdict accepted f =
         by-class (f refl) (classOf (planOf plan) (operationOf r)) (eqb (deskOf (planOf plan) (operationOf r)) (h .state .desk))
 
-    size-of : requestVerdict plan (h .state) (h .cells) (h .queue) r ≡ accepted → length (h .queue) ≡ 32
+    size-of : requestVerdict plan h r ≡ accepted → length (h .queue) ≡ 32
     unfolding requestVerdict deskBuffersFit
     size-of e =
         let a = then-accepted (planVerdict plan) _ e .1 in
         eqb-true (length (h .queue)) 32
         (and-snd (eqb (length (h .cells)) 1024) _ (ask-then-accepted 5 (deskBuffersFit (h .cells) (h .queue)) _ a .0))
 
-    pub request-joined : Joined (requestResult plan (h .state) (h .cells) (h .queue) r)
+    pub request-joined : Joined (requestResult plan h r)
     unfolding requestResult
-    request-joined = by-verdict (requestVerdict plan (h .state) (h .cells) (h .queue) r) size-of
+    request-joined = by-verdict (requestVerdict plan h r) size-of
 
   -- ---- a refused visit
 
   module _ (frame out replies : List ℕ) (k : ℕ) (t : Request) (w : WaitsAt k t h) where
-    by-keeps : (v : Verdict) →
-        forwardingRefused (visitedBy (planOf plan) (h .state) (h .cells) (h .queue) frame out replies v .answer) ≡ true →
-        WaitsAt k t (holdingAfter h (visited (visitedBy (planOf plan) (h .state) (h .cells) (h .queue) frame out replies v)))
+    by-keeps : (v : Verdict) → forwardingRefused (visitedBy (planOf plan) h frame out replies v .answer) ≡ true →
+        WaitsAt k t (holdingAfter h (visited (visitedBy (planOf plan) h frame out replies v)))
     by-keeps accepted e = absurd (false≢true e)
     by-keeps (refused q) e = w
 
-    pub visit-keeps : forwardingRefused (visitResult plan (h .state) (h .cells) (h .queue) frame out replies .answer) ≡ true →
-        WaitsAt k t (holdingAfter h (visited (visitResult plan (h .state) (h .cells) (h .queue) frame out replies)))
+    pub visit-keeps : forwardingRefused (visitResult plan h frame out replies .answer) ≡ true →
+        WaitsAt k t (holdingAfter h (visited (visitResult plan h frame out replies)))
     unfolding visitResult
-    visit-keeps = by-keeps (visitVerdict plan (h .state) (h .cells) (h .queue) frame out replies)
+    visit-keeps = by-keeps (visitVerdict plan h frame out replies)

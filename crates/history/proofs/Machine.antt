@@ -14,6 +14,7 @@ use Rattle.operation.specs.Run.{Update, Reply}
 use Rattle.conflict.specs.Class.{Class}
 use Rattle.token.specs.Frame.{startingFrame}
 use Rattle.token.proofs.Readers.{starting-reads}
+use Rattle.desk.specs.Holding.{Holding}
 use Rattle.requests.specs.Request.{recordOf, requestResult}
 use Rattle.requests.specs.Request as asked
 use Rattle.visits.specs.Visit.{visitResult}
@@ -23,7 +24,7 @@ use Rattle.serial.specs.Frame as frame
 use Rattle.serial.specs.Desk as desk
 use Rattle.serial.specs.Step as step
 use Rattle.serial.specs.Machine.{Machine, Words, machineAfter, answersSeen, MachineProper}
-use Rattle.history.specs.History.{Holding, Call, request, visit, deskCalled, Outcome, requested, visited, isRefused, holdingAfter}
+use Rattle.history.specs.History.{Call, request, visit, deskCalled, Outcome, requested, visited, isRefused, holdingAfter}
 use Rattle.history.specs.History.{responseRefused, forwardingRefused, frameWritten, written, outcome, stepAt, outcomeAt, outcomes}
 use Rattle.history.specs.History.{holdingsAfter, WordsFit, Proper}
 use Rattle.history.specs.SerialRun.{Classifies}
@@ -53,27 +54,26 @@ response-sends client asked.waits = refl
 response-sends client (asked.redirected d) = refl
 response-sends client (asked.requestRefused question) = refl
 
-passage-refused : (a : visiting.Forwarding) (out : List ℕ) (rs : List Answered) → desk.isRefused (forwardingSeen a out rs) ≡ forwardingRefused a
+passage-refused : (a : visiting.Forwarding) (out : List ℕ) (rs : List Answered)
+    → desk.isRefused (forwardingSeen a out rs) ≡ forwardingRefused a
 passage-refused (visiting.forwarded words count) out rs = refl
 passage-refused (visiting.visitRefused question) out rs = refl
 
-passage-sends : (a : visiting.Forwarding) (out : List ℕ) (rs : List Answered) → desk.sent (forwardingSeen a out rs)
-    ≡ map frameSeen (frameWritten a out)
+passage-sends : (a : visiting.Forwarding) (out : List ℕ) (rs : List Answered)
+    → desk.sent (forwardingSeen a out rs) ≡ map frameSeen (frameWritten a out)
 passage-sends (visiting.forwarded words count) out rs = refl
 passage-sends (visiting.visitRefused question) out rs = refl
 
 module _ (ws : List ℕ) (h : Holding) (rs : List Answered) where
   pub refused-seen : (c : Call) → desk.isRefused (outcomeSeen c (outcome ws h c) rs) ≡ isRefused (outcome ws h c)
-  refused-seen (request p client k ps) =
-      response-refused client (requestResult ws (h .state) (h .cells) (h .queue) (recordOf client k ps) .answer)
+  refused-seen (request p client k ps) = response-refused client (requestResult ws h (recordOf client k ps) .answer)
   refused-seen (visit p ft out replies) =
-      let v = visitResult ws (h .state) (h .cells) (h .queue) ft out replies in passage-refused (v .answer) (v .out) rs
+      let v = visitResult ws h ft out replies in passage-refused (v .answer) (v .out) rs
 
   pub sent-is : (c : Call) → desk.sent (outcomeSeen c (outcome ws h c) rs) ≡ map frameSeen (written (outcome ws h c))
-  sent-is (request p client k ps) =
-      response-sends client (requestResult ws (h .state) (h .cells) (h .queue) (recordOf client k ps) .answer)
+  sent-is (request p client k ps) = response-sends client (requestResult ws h (recordOf client k ps) .answer)
   sent-is (visit p ft out replies) =
-      let v = visitResult ws (h .state) (h .cells) (h .queue) ft out replies in passage-sends (v .answer) (v .out) rs
+      let v = visitResult ws h ft out replies in passage-sends (v .answer) (v .out) rs
 
 -- the words that a visit brings are those of its frame
 pub shows : (c : Call) (p : ℕ) (f : frame.Frame) (x : Brought) → callSeen c ≡ desk.visit p f x → f ≡ frameSeen (frameBrought c)
@@ -92,14 +92,10 @@ module _ (ws : List ℕ) (accept : planVerdict ws ≡ accepted) (class : Operati
   pub sound-does : (h : Holding) (c : Call) → WordsFit c → Sound ws records (desk.deskCalled (callSeen c)) h →
       Sound ws records (desk.deskCalled (callSeen c)) (holdingAfter h (outcome ws h c))
   sound-does h (request p client k ps) f ok =
-      subst
-      (λ (q : ℕ). Sound ws records q h → Sound ws records q
-      (holdingAfter h (requested (requestResult ws (h .state) (h .cells) (h .queue) (recordOf client k ps)))))
+      subst (λ (q : ℕ). Sound ws records q h → Sound ws records q (holdingAfter h (requested (requestResult ws h (recordOf client k ps)))))
       (ok .desk) (λ s. request-sound ws accept class right records h s client k ps f) ok
   sound-does h (visit p ft out replies) f ok =
-      subst
-      (λ (q : ℕ). Sound ws records q h → Sound ws records q
-      (holdingAfter h (visited (visitResult ws (h .state) (h .cells) (h .queue) ft out replies))))
+      subst (λ (q : ℕ). Sound ws records q h → Sound ws records q (holdingAfter h (visited (visitResult ws h ft out replies))))
       (ok .desk) (λ s. visit-sound ws accept records h s ft out replies) ok
 
   abbrev pub Served : Holding → Call → Type 0

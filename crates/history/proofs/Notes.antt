@@ -16,11 +16,11 @@ use Rattle.plan.specs.Admission.{planVerdict}
 use Rattle.operation.specs.Operation.{Operation, deskOf}
 use Rattle.conflict.specs.Class.{Class, free, local, global}
 use Rattle.queue.specs.declared.record.Request.{Request}
-use Rattle.desk.specs.declared.state.Desk.{Desk}
+use Rattle.desk.specs.Holding.{Holding}
 use Rattle.desk.specs.Queueing.{operationOf}
 use Rattle.desk.specs.Admission.{deskBuffersFit, deskFits}
 use Rattle.requests.specs.Request.{recordOf, served, requestVerdict, requestResult}
-use Rattle.history.specs.History.{Holding, Call, request, visit, deskCalled, responseRefused, isRefused, outcomeAt, stepAt, outcomes}
+use Rattle.history.specs.History.{Call, request, visit, deskCalled, responseRefused, isRefused, outcomeAt, stepAt, outcomes}
 use Rattle.history.specs.History.{written, WordsFit, Proper}
 use Rattle.history.specs.SerialRun.{Serial, noteNothing, noteRun, noteJoin, noteRequest, ranked, noteVisit, note, noteAll}
 use Rattle.history.proofs.Operations.{Runs}
@@ -74,17 +74,16 @@ module _ (p : Plan) where
 
 module _ (ws : List ℕ) where
   -- an accepted request holds an operation
-  not-refused : (d : Desk) (cells : List ℕ) (queue : List Request) (r : Request) (v : Verdict) →
-      responseRefused (served d cells queue v (planOf ws) r .answer) ≡ false → v ≡ accepted
-  not-refused d cells queue r accepted e = refl
-  not-refused d cells queue r (refused q) e = absurd (true≢false e)
+  not-refused : (h : Holding) (r : Request) (v : Verdict) → responseRefused (served h v (planOf ws) r .answer) ≡ false → v ≡ accepted
+  not-refused h r accepted e = refl
+  not-refused h r (refused q) e = absurd (true≢false e)
 
   pub accepted-runs : (h : Holding) (client k : ℕ) (ps : List ℕ) → ((i : ℕ) → getD ps i 0 < 2 ^ 32) →
-      responseRefused (requestResult ws (h .state) (h .cells) (h .queue) (recordOf client k ps) .answer) ≡ false →
+      responseRefused (requestResult ws h (recordOf client k ps) .answer) ≡ false →
       Runs (planOf ws) (recordOf client k ps)
   unfolding requestResult requestVerdict
   accepted-runs h client k ps words e =
-      let v = not-refused (h .state) (h .cells) (h .queue) (recordOf client k ps) _ e in
+      let v = not-refused h (recordOf client k ps) _ e in
       let a = then-accepted (planVerdict ws) _ v .1 in
       let b = ask-then-accepted 5 (deskBuffersFit (h .cells) (h .queue)) _ a .1 in
       let c = ask-then-accepted 6 (deskFits (planOf ws) (h .state) (h .queue)) _ b .1 in

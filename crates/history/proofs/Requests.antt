@@ -22,7 +22,8 @@ use Rattle.conflict.specs.Class.{Class, free, local, global, classOf}
 use Rattle.conflict.proofs.Classes.{class-free, class-local, class-global}
 use Rattle.queue.specs.declared.record.Request.{Request}
 use Rattle.desk.specs.declared.state.Desk.{Desk}
-use Rattle.desk.specs.Queueing.{operationOf, waitingIn}
+use Rattle.desk.specs.Holding.{Holding, waitingAt}
+use Rattle.desk.specs.Queueing.{operationOf}
 use Rattle.desk.specs.Admission.{deskBuffersFit, waitsHere, deskFits}
 use Rattle.requests.specs.Request.{Requested, recordOf, served, routed, ranNow, enqueued, unchanged, JoinsQueue, requestVerdict}
 use Rattle.requests.specs.Request.{requestResult}
@@ -31,7 +32,7 @@ use Rattle.requests.proofs.Joining.{joins-queue}
 use Rattle.serial.specs.System.{System}
 use Rattle.serial.specs.Desk as desk
 use Rattle.serial.specs.Step as step
-use Rattle.history.specs.History.{Holding, requested, holdingAfter}
+use Rattle.history.specs.History.{requested, holdingAfter}
 use Rattle.history.specs.SerialRun.{Is, Classifies}
 use Rattle.history.proofs.Operations.{Runs}
 use Rattle.history.proofs.Protocol.{classSeen, roomBy, sizesFit, requestAsked, system}
@@ -81,7 +82,7 @@ module _ (ws : List ℕ) (accept : planVerdict ws ≡ accepted) (class : Operati
   -- ---- the verdict
 
   abbrev pub asking : Verdict
-  asking = requestVerdict ws d (h .cells) (h .queue) r
+  asking = requestVerdict ws h r
 
   asking-is : asking ≡ requestAsked ws class records (h .cells) (d .desk) o
   unfolding requestVerdict deskBuffersFit
@@ -108,28 +109,28 @@ module _ (ws : List ℕ) (accept : planVerdict ws ≡ accepted) (class : Operati
   abbrev seen : Requested → Seen
   seen m = (view (holdingAfter h (requested m)), responseSeen client (m .answer))
 
-  waiting-count : length (map requestSeen (waitingIn (d .waiting) (h .queue))) ≡ d .waiting
-  waiting-count = length-map (waitingIn (d .waiting) (h .queue)) requestSeen ∙ length-take-le (d .waiting) (h .queue) (ok .room)
+  waiting-count : length (map requestSeen (waitingAt h)) ≡ d .waiting
+  waiting-count = length-map (waitingAt h) requestSeen ∙ length-take-le (d .waiting) (h .queue) (ok .room)
 
   module _ (p : Passes) where
-    pub joined : d .waiting < 32 → JoinsQueue d (h .cells) (h .queue) r
-    joined l = joins-queue d (h .cells) (h .queue) r (omega (arith, p .whole))
+    pub joined : d .waiting < 32 → JoinsQueue h r
+    joined l = joins-queue h r (omega (arith, p .whole))
 
-    now-seen : seen (ranNow d (h .cells) (h .queue) (planOf ws) o) ≡ step.requestStep S step.immediate (view h) (requestSeen r)
+    now-seen : seen (ranNow h (planOf ws) o) ≡ step.requestStep S step.immediate (view h) (requestSeen r)
     now-seen =
         ap₂ (λ (s : Store) (m : Outcome).
         (record { store = s; queue = view h .queue; awaited = d .awaited }, desk.replied (client, m .reply)))
         (sym (one-seen ws class records o (h .cells) (p .runs))) (sym (ran-is ws class records o (h .cells) (p .runs)))
 
     join-seen : (b : Bool) → ltb (d .waiting) 32 ≡ b →
-        seen (cond b (enqueued d (h .cells) (h .queue) r) (unchanged d (h .cells) (h .queue) (asked.requestRefused 9)))
+        seen (cond b (enqueued h r) (unchanged h (asked.requestRefused 9)))
         ≡ cond b (step.requestStep S step.enqueue (view h) (requestSeen r)) (view h, desk.refused)
     join-seen true e =
         ap (λ (q : List (desk.Request Operation)). (record { store = h .cells; queue = q; awaited = d .awaited }, desk.waits))
         (ap (map requestSeen) (joined (ltb-true (d .waiting) 32 e)) ∙ map-append requestSeen (take (d .waiting) (h .queue)) (r ∷ []))
     join-seen false e = refl
 
-    routed-seen : (c : Class) (b : Bool) → seen (routed d (h .cells) (h .queue) c b (planOf ws) r)
+    routed-seen : (c : Class) (b : Bool) → seen (routed h c b (planOf ws) r)
         ≡ cond (roomBy c b (length (view h .queue)))
         (step.requestStep S (step.routeBy (classSeen c) b) (view h) (requestSeen r)) (view h, desk.refused)
     routed-seen free b = now-seen
@@ -138,18 +139,18 @@ module _ (ws : List ℕ) (accept : planVerdict ws ≡ accepted) (class : Operati
     routed-seen global true = rw waiting-count (join-seen (ltb (d .waiting) 32) refl)
     routed-seen global false = refl
 
-  served-seen : (v : Verdict) → (v ≡ accepted → Passes) → seen (served d (h .cells) (h .queue) v (planOf ws) r)
+  served-seen : (v : Verdict) → (v ≡ accepted → Passes) → seen (served h v (planOf ws) r)
       ≡ cond (isAccepted v && roomBy (class o) own (length (view h .queue)))
       (step.requestStep S (step.routeBy (classSeen (class o)) own) (view h) (requestSeen r)) (view h, desk.refused)
   served-seen (refused q) f = refl
   served-seen accepted f =
       let p : Passes = f refl in
-      ap (λ (c : Class). seen (routed d (h .cells) (h .queue) c own (planOf ws) r))
+      ap (λ (c : Class). seen (routed h c own (planOf ws) r))
       (class-same ws accept o (p .runs) (class o) (right o (p .runs)))
       ∙ routed-seen p (class o) own
 
   -- the state and the answer are the protocol's
-  pub request-seen : seen (requestResult ws d (h .cells) (h .queue) r)
+  pub request-seen : seen (requestResult ws h r)
       ≡ step.serve S (view h) (desk.request (d .desk) (requestSeen r) (record { frame = []; out = []; replies = [] }))
   unfolding requestResult
   request-seen =
@@ -166,7 +167,7 @@ module _ (ws : List ℕ) (accept : planVerdict ws ≡ accepted) (class : Operati
   kept : (cells : List ℕ) → Sound ws records (d .desk) (record { state = d; cells = cells; queue = h .queue })
   kept cells = record { desk = refl; fits = ok .fits; size = ok .size; room = ok .room; runs = ok .runs }
 
-  joins-sound : Passes → d .waiting < 32 → classOf (planOf ws) o ≡ global → own ≡ true → After (enqueued d (h .cells) (h .queue) r)
+  joins-sound : Passes → d .waiting < 32 → classOf (planOf ws) o ≡ global → own ≡ true → After (enqueued h r)
   unfolding deskFits waitsHere
   joins-sound p l c b =
       let s = six ws h (ok .fits) in
@@ -177,30 +178,29 @@ module _ (ws : List ℕ) (accept : planVerdict ws ≡ accepted) (class : Operati
             (and-true _ _ (le-leb (d .waiting + 1) 32 (omega arith))
             (and-true _ _ (eq-eqb (d .awaited % planOf ws .desks) (d .desk) (s .turn))
             (ap (every (waitsHere (planOf ws) (d .desk))) (joined p l)
-            ∙ every-last (waitsHere (planOf ws) (d .desk)) (waitingIn (d .waiting) (h .queue)) r (s .each) here)));
+            ∙ every-last (waitsHere (planOf ws) (d .desk)) (waitingAt h) r (s .each) here)));
         size = length-set (h .queue) (d .waiting) r ∙ ok .size;
         room = omega (arith, length-set (h .queue) (d .waiting) r, p .whole);
         runs = subst (All (Runs (planOf ws))) (sym (joined p l))
-            (All-append (Runs (planOf ws)) (waitingIn (d .waiting) (h .queue)) (r ∷ []) (ok .runs) (p .runs, tt));
+            (All-append (Runs (planOf ws)) (waitingAt h) (r ∷ []) (ok .runs) (p .runs, tt));
       }
 
   join-sound : Passes → classOf (planOf ws) o ≡ global → own ≡ true → (t : Bool) → ltb (d .waiting) 32 ≡ t →
-      After (cond t (enqueued d (h .cells) (h .queue) r) (unchanged d (h .cells) (h .queue) (asked.requestRefused 9)))
+      After (cond t (enqueued h r) (unchanged h (asked.requestRefused 9)))
   join-sound p c b true e = joins-sound p (ltb-true (d .waiting) 32 e) c b
   join-sound p c b false e = kept (h .cells)
 
-  routed-sound : Passes → (c : Class) (b : Bool) → classOf (planOf ws) o ≡ c → own ≡ b →
-      After (routed d (h .cells) (h .queue) c b (planOf ws) r)
+  routed-sound : Passes → (c : Class) (b : Bool) → classOf (planOf ws) o ≡ c → own ≡ b → After (routed h c b (planOf ws) r)
   routed-sound p free b c e = kept _
   routed-sound p local true c e = kept _
   routed-sound p local false c e = kept _
   routed-sound p global true c e = join-sound p c e (ltb (d .waiting) 32) refl
   routed-sound p global false c e = kept _
 
-  served-sound : (v : Verdict) → (v ≡ accepted → Passes) → After (served d (h .cells) (h .queue) v (planOf ws) r)
+  served-sound : (v : Verdict) → (v ≡ accepted → Passes) → After (served h v (planOf ws) r)
   served-sound (refused q) f = kept _
   served-sound accepted f = routed-sound (f refl) (classOf (planOf ws) o) own refl refl
 
-  pub request-sound : After (requestResult ws d (h .cells) (h .queue) r)
+  pub request-sound : After (requestResult ws h r)
   unfolding requestResult
   request-sound = served-sound asking passes

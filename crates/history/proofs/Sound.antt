@@ -13,9 +13,9 @@ use Rattle.lists.specs.Lists.{every, All}
 use Rattle.lists.proofs.Laws.{and-fst, and-snd, and-true}
 use Rattle.plan.specs.Decode.{planOf}
 use Rattle.queue.specs.declared.record.Request.{Request}
-use Rattle.desk.specs.Queueing.{waitingIn}
+use Rattle.desk.specs.Holding.{Holding, waitingAt}
 use Rattle.desk.specs.Admission.{waitsHere, deskFits}
-use Rattle.history.specs.History.{Holding, start}
+use Rattle.history.specs.History.{start}
 use Rattle.history.proofs.Operations.{Runs}
 
 -- desk p's holding; records p is how many records its queue has
@@ -24,14 +24,14 @@ pub record Sound (ws : List ℕ) (records : ℕ → ℕ) (p : ℕ) (h : Holding)
   pub fits : deskFits (planOf ws) (h .state) (h .queue) ≡ true
   pub size : length (h .queue) ≡ records p
   pub room : h .state .waiting ≤ length (h .queue)
-  pub runs : All (Runs (planOf ws)) (waitingIn (h .state .waiting) (h .queue))
+  pub runs : All (Runs (planOf ws)) (waitingAt h)
 
 -- 6, part by part
 pub record Six (ws : List ℕ) (h : Holding) : Type 0 where
   pub below : ltb (h .state .desk) (planOf ws .desks) ≡ true
   pub few : h .state .waiting ≤ 32
   pub turn : h .state .awaited % planOf ws .desks ≡ h .state .desk
-  pub each : every (waitsHere (planOf ws) (h .state .desk)) (waitingIn (h .state .waiting) (h .queue)) ≡ true
+  pub each : every (waitsHere (planOf ws) (h .state .desk)) (waitingAt h) ≡ true
 
 pub six : (ws : List ℕ) (h : Holding) → deskFits (planOf ws) (h .state) (h .queue) ≡ true → Six ws h
 unfolding deskFits

@@ -6,14 +6,14 @@ use lib.ListN.{take}
 use Rattle.plan.specs.Decode.{planOf}
 use Rattle.operation.specs.Operation.{Operation}
 use Rattle.operation.specs.Run.{Reply}
-use Rattle.desk.specs.Queueing.{waitingIn}
+use Rattle.desk.specs.Holding.{Holding, waitingAt}
 use Rattle.requests.specs.Request.{recordOf}
 use Rattle.requests.specs.Request as asked
 use Rattle.visits.specs.Visit.{caughtUp}
 use Rattle.visits.specs.Visit as visiting
 use Rattle.visits.specs.Waiting.{Answered, repliesOf}
 use Rattle.serial.specs.Desk as desk
-use Rattle.history.specs.History.{Holding, Call, request, visit, Outcome, requested, visited}
+use Rattle.history.specs.History.{Call, request, visit, Outcome, requested, visited}
 use Rattle.history.proofs.Protocol.{Brought}
 use Rattle.history.proofs.Seen.{requestSeen, frameSeen, answeredSeen}
 
@@ -22,7 +22,7 @@ abbrev pub view : Holding → desk.Desk Operation
 view h =
     record {
       store = h .cells;
-      queue = map requestSeen (waitingIn (h .state .waiting) (h .queue));
+      queue = map requestSeen (waitingAt h);
       awaited = h .state .awaited;
     }
 
@@ -51,5 +51,4 @@ outcomeSeen (visit p frame out replies) (visited v) rs = forwardingSeen (v .answ
 abbrev pub repliesRun : List ℕ → Holding → Call → List Answered
 repliesRun ws h (request p client k ps) = []
 repliesRun ws h (visit p frame out replies) =
-    repliesOf (planOf ws) (waitingIn (h .state .waiting) (h .queue))
-    (caughtUp (planOf ws) (h .state) (h .cells) (h .queue) frame out replies)
+    repliesOf (planOf ws) (waitingAt h) (caughtUp (planOf ws) h frame)

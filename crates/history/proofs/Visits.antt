@@ -27,7 +27,7 @@ use Rattle.token.specs.Admission.{frameVerdict, frameVisit, frameUpdates, Reads
 use Rattle.token.proofs.RoundTrip.{reads-written, written-reads}
 use Rattle.queue.specs.declared.record.Request.{Request}
 use Rattle.desk.specs.declared.state.Desk.{Desk}
-use Rattle.desk.specs.Queueing.{waitingIn}
+use Rattle.desk.specs.Holding.{Holding, waitingAt}
 use Rattle.desk.specs.Admission.{deskBuffersFit, deskFits}
 use Rattle.visits.specs.Admission.{visitBuffersFit, turnVerdict}
 use Rattle.token.specs.Forward.{foreign, applyAll}
@@ -39,7 +39,7 @@ use Rattle.serial.specs.Store as store
 use Rattle.serial.specs.Frame as frame
 use Rattle.serial.specs.Desk as desk
 use Rattle.serial.specs.Step as step
-use Rattle.history.specs.History.{Holding, visited, holdingAfter}
+use Rattle.history.specs.History.{visited, holdingAfter}
 use Rattle.history.proofs.Protocol.{Brought, visitAsked, system}
 use Rattle.history.proofs.Outgoing.{outgoing-formed}
 use Rattle.history.proofs.Seen.{requestSeen, updateSeen, frameSeen, answeredSeen, foreign-seen, apply-seen, sent-seen, runAll-seen}
@@ -56,18 +56,17 @@ pub record Turn (ws : List ℕ) (d : Desk) (ft : List ℕ) : Type 0 where
   pub reads : frameVerdict (planOf ws .desks) ft ≡ accepted
   pub number : frameVisit ft ≡ d .awaited
 
-pub turn-of : (ws : List ℕ) (d : Desk) (cells : List ℕ) (queue : List Request) (ft out replies : List ℕ) →
-    visitVerdict ws d cells queue ft out replies ≡ accepted → Turn ws d ft
+pub turn-of : (ws : List ℕ) (h : Holding) (ft out replies : List ℕ) → visitVerdict ws h ft out replies ≡ accepted → Turn ws (h .state) ft
 unfolding visitVerdict turnVerdict
-turn-of ws d cells queue ft out replies e =
+turn-of ws h ft out replies e =
     let a = then-accepted (planVerdict ws) _ e .1 in
-    let b = ask-then-accepted 5 (deskBuffersFit cells queue && visitBuffersFit out replies) _ a .1 in
-    let c = ask-then-accepted 6 (deskFits (planOf ws) d queue) _ b .1 in
+    let b = ask-then-accepted 5 (deskBuffersFit (h .cells) (h .queue) && visitBuffersFit out replies) _ a .1 in
+    let c = ask-then-accepted 6 (deskFits (planOf ws) (h .state) (h .queue)) _ b .1 in
     let f = then-accepted (frameVerdict (planOf ws .desks) ft) _ c in
-    let t = ask-then-accepted 13 (eqb (addressedDesk (headOf ft)) (d .desk)) _ (f .1) .1 in
+    let t = ask-then-accepted 13 (eqb (addressedDesk (headOf ft)) (h .state .desk)) _ (f .1) .1 in
     record {
       reads = f .0;
-      number = eqb-true (frameVisit ft) (d .awaited) (ask-then-accepted 14 (eqb (frameVisit ft) (d .awaited)) _ t .0);
+      number = eqb-true (frameVisit ft) (h .state .awaited) (ask-then-accepted 14 (eqb (frameVisit ft) (h .state .awaited)) _ t .0);
     }
 
 module _ (ws : List ℕ) (accept : planVerdict ws ≡ accepted) (records : ℕ → ℕ) (h : Holding)
@@ -82,22 +81,22 @@ module _ (ws : List ℕ) (accept : planVerdict ws ≡ accepted) (records : ℕ �
   us = frameUpdates ft
 
   abbrev q : List Request
-  q = waitingIn (d .waiting) (h .queue)
+  q = waitingAt h
 
   abbrev c : Store
-  c = caughtUp (planOf ws) d (h .cells) (h .queue) ft out replies
+  c = caughtUp (planOf ws) h ft
 
   abbrev outs : List SentUpdate
-  outs = outgoingUpdates (planOf ws) d (h .cells) (h .queue) ft out replies
+  outs = outgoingUpdates (planOf ws) h ft
 
   abbrev sends : List ℕ
-  sends = outgoingFrame (planOf ws) d (h .cells) (h .queue) ft out replies
+  sends = outgoingFrame (planOf ws) h ft
 
   abbrev left : Visited
-  left = acceptedVisit (planOf ws) d (h .cells) (h .queue) ft out replies
+  left = acceptedVisit (planOf ws) h ft out replies
 
   abbrev asking : Verdict
-  asking = visitVerdict ws d (h .cells) (h .queue) ft out replies
+  asking = visitVerdict ws h ft out replies
 
   -- ---- what is written reads
 
@@ -140,14 +139,14 @@ module _ (ws : List ℕ) (accept : planVerdict ws ≡ accepted) (records : ℕ �
         runs = tt;
       }
 
-  visited-sound : (v : Verdict) → (v ≡ accepted → Turn ws d ft) → After (visitedBy (planOf ws) d (h .cells) (h .queue) ft out replies v)
+  visited-sound : (v : Verdict) → (v ≡ accepted → Turn ws d ft) → After (visitedBy (planOf ws) h ft out replies v)
   visited-sound accepted f = passed-sound (f refl)
   visited-sound (refused k) f =
       record { desk = refl; fits = ok .fits; size = ok .size; room = ok .room; runs = ok .runs }
 
-  pub visit-sound : After (visitResult ws d (h .cells) (h .queue) ft out replies)
+  pub visit-sound : After (visitResult ws h ft out replies)
   unfolding visitResult
-  visit-sound = visited-sound asking (turn-of ws d (h .cells) (h .queue) ft out replies)
+  visit-sound = visited-sound asking (turn-of ws h ft out replies)
 
   -- ---- what the protocol sees
 
@@ -204,17 +203,17 @@ module _ (ws : List ℕ) (accept : planVerdict ws ≡ accepted) (records : ℕ �
         ap₂ (λ (s : Store) (a : desk.Answer Reply). (record { store = s; queue = []; awaited = frameVisit ft + n }, a)) store-seen
         (ap₂ desk.forwarded (ap frameSeen (take-append-seam sends (drop (length sends) out)) ∙ outgoing-seen t) given-seen)
 
-    visited-seen : (v : Verdict) → (v ≡ accepted → Turn ws d ft) → seen (visitedBy (planOf ws) d (h .cells) (h .queue) ft out replies v)
+    visited-seen : (v : Verdict) → (v ≡ accepted → Turn ws d ft) → seen (visitedBy (planOf ws) h ft out replies v)
         ≡ cond (eqb (frameVisit ft) (d .awaited) && isAccepted v)
         (step.visitStep S (d .desk) (view h) (frameSeen ft)) (view h, desk.refused)
     visited-seen accepted f = rw (eq-eqb (frameVisit ft) (d .awaited) (f refl .number)) (passed-seen (f refl))
     visited-seen (refused k) f = rw (and-false (eqb (frameVisit ft) (d .awaited))) refl
 
     -- the state and the answer are the protocol's
-    pub visit-seen : seen (visitResult ws d (h .cells) (h .queue) ft out replies)
+    pub visit-seen : seen (visitResult ws h ft out replies)
         ≡ step.serve S (view h) (desk.visit (d .desk) (frameSeen ft) brought)
     unfolding visitResult
     visit-seen =
-        visited-seen asking (turn-of ws d (h .cells) (h .queue) ft out replies)
+        visited-seen asking (turn-of ws h ft out replies)
         ∙ ap (λ (v : Verdict). cond (eqb (frameVisit ft) (d .awaited) && isAccepted v)
         (step.visitStep S (d .desk) (view h) (frameSeen ft)) (view h, desk.refused)) asking-is

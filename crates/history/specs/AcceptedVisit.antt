@@ -12,35 +12,34 @@ use Rattle.operation.specs.Words.{AllWords}
 use Rattle.token.specs.Admission.{frameVerdict, frameVisit, frameUpdates, readVerdict}
 use Rattle.queue.specs.Queue.{paramsOf}
 use Rattle.queue.specs.declared.record.Request.{Request}
+use Rattle.desk.specs.Holding.{Holding}
 use Rattle.desk.specs.Admission.{deskBuffersFit, deskFits}
 use Rattle.visits.specs.Admission.{visitBuffersFit}
-use Rattle.visits.specs.Visit.{forwarded, visitRefused, outgoingUpdates}
-use Rattle.history.specs.History.{Holding}
-use Rattle.history.specs.Answering.{visitResultAt}
+use Rattle.visits.specs.Visit.{forwarded, visitRefused, outgoingUpdates, visitResult}
 
 -- "Words are unsigned 32-bit": the parameters of every record
 abbrev pub RecordsFit : List Request → Type 0
 RecordsFit queue = (r : Request) → List·Memᴰ r queue → AllWords (paramsOf r)
 
-module _ (plan : List ℕ) (h : Holding) (frame out replies : List ℕ) where
+module _ (plan : List ℕ) (h : Holding) (frame : List ℕ) where
   -- these words read as visit v + 1 with the outgoing updates
   pub record Sends (sent : List ℕ) : Type 0 where
     pub verdict : readVerdict plan sent ≡ accepted
     pub number : frameVisit sent ≡ frameVisit frame + 1
-    pub updates : frameUpdates sent ≡ outgoingUpdates (planOf plan) (h .state) (h .cells) (h .queue) frame out replies
+    pub updates : frameUpdates sent ≡ outgoingUpdates (planOf plan) h frame
 
   -- "A "no" gives its number; nothing lent and no state changes"
-  abbrev pub RefusedWith : ℕ → Type 0
-  RefusedWith question =
-      visitResultAt plan h frame out replies
+  abbrev pub RefusedWith : List ℕ → List ℕ → ℕ → Type 0
+  RefusedWith out replies question =
+      visitResult plan h frame out replies
       ≡ record { answer = visitRefused question; state = h .state; cells = h .cells; out = out; replies = replies }
 
 -- the frame that an accepted visit writes: the first words of the outgoing ones, as many as its answer says
 abbrev pub VisitFrameReads : Type 0
 VisitFrameReads =
     (plan : List ℕ) (h : Holding) (frame out replies : List ℕ) (words count : ℕ)
-    → visitResultAt plan h frame out replies .answer ≡ forwarded words count → RecordsFit (h .queue)
-    → Sends plan h frame out replies (take words (visitResultAt plan h frame out replies .out))
+    → visitResult plan h frame out replies .answer ≡ forwarded words count → RecordsFit (h .queue)
+    → Sends plan h frame (take words (visitResult plan h frame out replies .out))
 
 -- where questions 1 to 6 pass: word i is changed to another word x
 abbrev pub ChangedWordRefused : Type 0

@@ -9,12 +9,13 @@ use Rattle.plan.specs.Decode.{planOf}
 use Rattle.operation.specs.Run.{Store}
 use Rattle.queue.specs.Queue.{noRequest}
 use Rattle.queue.specs.declared.record.Request.{Request}
+use Rattle.desk.specs.Holding.{Holding}
 use Rattle.requests.specs.Request.{recordOf, requestResult}
 use Rattle.requests.specs.Request as asked
 use Rattle.visits.specs.Visit.{forwarded, Visited, caughtUp, visitResult}
 use Rattle.visits.specs.Waiting.{runAll, replyWords}
 use Rattle.visits.specs.Running.{replyTo}
-use Rattle.history.specs.History.{Holding, Call, request, visit, isRefused, outcomeAt, stepAt, holdingsAfter}
+use Rattle.history.specs.History.{Call, request, visit, isRefused, outcomeAt, stepAt, holdingsAfter}
 
 -- ---- a waiting request, and its reply
 
@@ -32,17 +33,14 @@ replyPart k words = take wordsOfReply (drop (wordsOfReply * k) words)
 
 -- ---- a visit, at a desk that holds h
 
-module _ (plan : List ℕ) (h : Holding) (frame out replies : List ℕ) where
-  abbrev pub visitResultAt : Visited
-  visitResultAt = visitResult plan (h .state) (h .cells) (h .queue) frame out replies
-
+module _ (plan : List ℕ) (h : Holding) (frame : List ℕ) where
   -- "applies the others in order, runs all waiting requests in order": the store on which record k runs, once the updates of the
   -- other desks are applied and the records before it have run
   abbrev pub storeBefore : ℕ → Store
-  storeBefore k = runAll (planOf plan) (take k (h .queue)) (caughtUp (planOf plan) (h .state) (h .cells) (h .queue) frame out replies)
+  storeBefore k = runAll (planOf plan) (take k (h .queue)) (caughtUp (planOf plan) h frame)
 
-  -- what the visit puts out: `count` replies, in the reply words that it leaves
-  pub record AnswersWaiting (count : ℕ) (left : Visited) : Type 0 where
+  -- what the visit puts out: `count` replies, over the front of these reply words
+  pub record AnswersWaiting (replies : List ℕ) (count : ℕ) (left : Visited) : Type 0 where
     pub count-is : count ≡ h .state .waiting
     -- record k's reply is reply k: "kind 12 with bit 0 set if done, the client's word, the number", of its own run
     pub each : (k : ℕ) (r : Request) → WaitsAt k r h → replyPart k (left .replies) ≡ replyWords (replyTo (planOf plan) r (storeBefore k))
@@ -55,8 +53,8 @@ module _ (plan : List ℕ) (h : Holding) (frame out replies : List ℕ) where
 abbrev pub VisitAnswersWaiting : Type 0
 VisitAnswersWaiting =
     (plan : List ℕ) (h : Holding) (frame out replies : List ℕ) (words count : ℕ)
-    → visitResultAt plan h frame out replies .answer ≡ forwarded words count
-    → AnswersWaiting plan h frame out replies count (visitResultAt plan h frame out replies)
+    → visitResult plan h frame out replies .answer ≡ forwarded words count
+    → AnswersWaiting plan h frame replies count (visitResult plan h frame out replies)
 
 -- ---- from the request to the visit
 
@@ -64,7 +62,7 @@ VisitAnswersWaiting =
 abbrev pub RequestWaits : Type 0
 RequestWaits =
     (plan : List ℕ) (w : ℕ → Holding) (p client k : ℕ) (ps : List ℕ)
-    → requestResult plan (w p .state) (w p .cells) (w p .queue) (recordOf client k ps) .answer ≡ asked.waits
+    → requestResult plan (w p) (recordOf client k ps) .answer ≡ asked.waits
     → WaitsAt (w p .state .waiting) (recordOf client k ps) (stepAt plan w (request p client k ps) p)
 
 -- the call is no accepted visit at desk p
@@ -88,6 +86,6 @@ abbrev pub AnsweredAtNextVisit : Type 0
 AnsweredAtNextVisit =
     (plan : List ℕ) (p : ℕ) (cs : List Call) (w : ℕ → Holding) → NoVisits plan p w cs → (k : ℕ) (r : Request) → WaitsAt k r (w p)
     → (frame out replies : List ℕ) (words count : ℕ)
-    → visitResultAt plan (holdingsAfter plan w cs p) frame out replies .answer ≡ forwarded words count
-    → (k < count) × (replyPart k (visitResultAt plan (holdingsAfter plan w cs p) frame out replies .replies)
-    ≡ replyWords (replyTo (planOf plan) r (storeBefore plan (holdingsAfter plan w cs p) frame out replies k)))
+    → visitResult plan (holdingsAfter plan w cs p) frame out replies .answer ≡ forwarded words count
+    → (k < count) × (replyPart k (visitResult plan (holdingsAfter plan w cs p) frame out replies .replies)
+    ≡ replyWords (replyTo (planOf plan) r (storeBefore plan (holdingsAfter plan w cs p) frame k)))

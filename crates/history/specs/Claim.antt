@@ -12,10 +12,11 @@ use Rattle.operation.specs.Operation.{Operation}
 use Rattle.operation.specs.Run.{Store}
 use Rattle.conflict.specs.Class.{Class, JustOne}
 use Rattle.queue.specs.declared.record.Request.{Request}
+use Rattle.desk.specs.Holding.{Holding}
 use Rattle.requests.specs.Request as asked
 use Rattle.visits.specs.Visit as visiting
 use Rattle.visits.specs.Waiting.{Answered, repliesWords}
-use Rattle.history.specs.History.{Holding, Call, request, visit, Outcome, requested, visited, isRefused, outcomes, holdingsAfter}
+use Rattle.history.specs.History.{Call, request, visit, Outcome, requested, visited, isRefused, outcomes, holdingsAfter}
 use Rattle.history.specs.History.{start, ProperFromStart}
 use Rattle.history.specs.SerialRun.{Classifies, Serial, serial, order, storeAfter, due}
 

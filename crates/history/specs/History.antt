@@ -10,18 +10,13 @@ use Rattle.plan.specs.Decode.{planOf}
 use Rattle.token.specs.Frame.{startingFrame}
 use Rattle.queue.specs.declared.record.Request.{Request}
 use Rattle.desk.specs.declared.state.Desk.{Desk}
+use Rattle.desk.specs.Holding.{Holding, holding}
 use Rattle.requests.specs.Request.{Requested, recordOf, requestResult}
 use Rattle.requests.specs.Request as asked
 use Rattle.visits.specs.Visit.{Visited, visitResult}
 use Rattle.visits.specs.Visit as visiting
 
 -- ---- the calls
-
--- "State, book and row": what a desk holds from call to call. The cells are its book, the queue its row of records.
-pub record Holding : Type 0 where
-  pub state : Desk
-  pub cells : List ℕ
-  pub queue : List Request
 
 -- "A history is a list of requests and visits, each at a desk"; "client, transaction, parameters, frame words and the sizes and
 -- contents of outgoing and reply buffers are any"
@@ -56,8 +51,8 @@ isRefused (visited v) = forwardingRefused (v .answer)
 
 -- what the desk holds behind the call. "the row of records is untouched" by a visit
 abbrev pub holdingAfter : Holding → Outcome → Holding
-holdingAfter h (requested r) = record { state = r .state; cells = r .cells; queue = r .queue }
-holdingAfter h (visited v) = record { state = v .state; cells = v .cells; queue = h .queue }
+holdingAfter h (requested r) = holding (r .state) (r .cells) (r .queue)
+holdingAfter h (visited v) = holding (v .state) (v .cells) (h .queue)
 
 -- the frame that an accepted visit wrote: the first `words` words of its outgoing buffer, `words` being its answer
 abbrev pub frameWritten : visiting.Forwarding → List ℕ → List (List ℕ)
@@ -75,8 +70,8 @@ assign p x f q = cond (eqb q p) x (f q)
 module _ (plan : List ℕ) where
   -- the call at a desk with this holding
   abbrev pub outcome : Holding → Call → Outcome
-  outcome h (request p client k ps) = requested (requestResult plan (h .state) (h .cells) (h .queue) (recordOf client k ps))
-  outcome h (visit p frame out replies) = visited (visitResult plan (h .state) (h .cells) (h .queue) frame out replies)
+  outcome h (request p client k ps) = requested (requestResult plan h (recordOf client k ps))
+  outcome h (visit p frame out replies) = visited (visitResult plan h frame out replies)
 
   abbrev pub outcomeAt : (ℕ → Holding) → Call → Outcome
   outcomeAt w c = outcome (w (deskCalled c)) c
@@ -101,7 +96,7 @@ newState p = record { desk = p; waiting = 0; awaited = p }
 
 -- "At its start each desk is as the new desk call gives it, the books are equal, the rows hold anything."
 abbrev pub start : List ℕ → (ℕ → List Request) → ℕ → Holding
-start cells rows p = record { state = newState p; cells = cells; queue = rows p }
+start cells rows p = holding (newState p) cells (rows p)
 
 -- ---- the premise
 

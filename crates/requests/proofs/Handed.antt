@@ -17,6 +17,7 @@ use Rattle.queue.specs.Queue.{recordsOf}
 use Rattle.queue.specs.declared.record.Request.{Request}
 use Rattle.queue.proofs.Copying.{records-whole}
 use Rattle.desk.specs.declared.state.Desk.{Desk}
+use Rattle.desk.specs.Holding.{holding}
 use Rattle.desk.specs.Queueing.{operationOf}
 use Rattle.desk.specs.Admission.{deskBuffersFit, deskFits}
 use Rattle.requests.specs.Request.{requestVerdict}
@@ -54,7 +55,7 @@ module _ (ws : List ℕ) (d : Desk) (cells : List ℕ) (size : ℕ) (records : L
   rest : List Request → Verdict
   rest rs = ask 6 (deskFits (planOf ws) d rs) then operationVerdict (planOf ws) (operationOf r)
 
-  handed : requestVerdict ws d cells queue r ≡ (openingVerdict ws cells size then rest records)
+  handed : requestVerdict ws (holding d cells queue) r ≡ (openingVerdict ws cells size then rest records)
   unfolding requestVerdict openingVerdict deskBuffersFit rest
   handed =
       ap (_then_ (planVerdict ws))
@@ -64,18 +65,18 @@ module _ (ws : List ℕ) (d : Desk) (cells : List ℕ) (size : ℕ) (records : L
       ∙ then-associates (planVerdict ws) _ (rest records)
 
   pub opening-refused : (question : ℕ) → openingVerdict ws cells size ≡ refused question
-      → requestVerdict ws d cells queue r ≡ refused question
+      → requestVerdict ws (holding d cells queue) r ≡ refused question
   opening-refused question e = handed ∙ ap (λ (v : Verdict). v then rest records) e
 
   module _ (e : openingVerdict ws cells size ≡ accepted) where
-    opened : requestVerdict ws d cells queue r ≡ rest records
+    opened : requestVerdict ws (holding d cells queue) r ≡ rest records
     opened = handed ∙ ap (λ (v : Verdict). v then rest records) e
 
-    pub desk-unfit : deskFits (planOf ws) d records ≡ false → requestVerdict ws d cells queue r ≡ refused 6
+    pub desk-unfit : deskFits (planOf ws) d records ≡ false → requestVerdict ws (holding d cells queue) r ≡ refused 6
     unfolding rest
     desk-unfit h = opened ∙ rw h
 
     pub by-operation : deskFits (planOf ws) d records ≡ true
-        → requestVerdict ws d cells queue r ≡ operationVerdict (planOf ws) (operationOf r)
+        → requestVerdict ws (holding d cells queue) r ≡ operationVerdict (planOf ws) (operationOf r)
     unfolding rest
     by-operation h = opened ∙ rw h

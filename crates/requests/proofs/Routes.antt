@@ -11,7 +11,7 @@ use Rattle.plan.specs.Decode.{planOf}
 use Rattle.operation.specs.Operation.{deskOf}
 use Rattle.conflict.specs.Class.{Class, free, local, global, isFree, isGlobal}
 use Rattle.queue.specs.declared.record.Request.{Request}
-use Rattle.desk.specs.declared.state.Desk.{Desk}
+use Rattle.desk.specs.Holding.{Holding}
 use Rattle.desk.specs.Queueing.{operationOf}
 use Rattle.requests.specs.Request.{
   Requested,
@@ -29,20 +29,20 @@ use Rattle.requests.specs.Route.{Way, runs, joins, leaves, wayBy}
 
 -- ---- by the verdict
 
-pub left-by-verdict : (ws : List ℕ) (d : Desk) (cells : List ℕ) (queue : List Request) (r : Request) (v : Verdict)
-    → requestVerdict ws d cells queue r ≡ v → requestResult ws d cells queue r ≡ served d cells queue v (planOf ws) r
+pub left-by-verdict : (ws : List ℕ) (h : Holding) (r : Request) (v : Verdict) → requestVerdict ws h r ≡ v
+    → requestResult ws h r ≡ served h v (planOf ws) r
 unfolding requestResult
-left-by-verdict ws d cells queue r v e = ap (λ (w : Verdict). served d cells queue w (planOf ws) r) e
+left-by-verdict ws h r v e = ap (λ (w : Verdict). served h w (planOf ws) r) e
 
 -- ---- by the way that the operation goes
 
-module _ (d : Desk) (cells : List ℕ) (queue : List Request) (p : Plan) (r : Request) where
+module _ (h : Holding) (p : Plan) (r : Request) where
   abbrev pub leftBy : Way → Requested
-  leftBy runs = ranNow d cells queue p (operationOf r)
-  leftBy joins = cond (ltb (d .waiting) 32) (enqueued d cells queue r) (unchanged d cells queue (requestRefused 9))
-  leftBy leaves = unchanged d cells queue (redirected (deskOf p (operationOf r)))
+  leftBy runs = ranNow h p (operationOf r)
+  leftBy joins = cond (ltb (h .state .waiting) 32) (enqueued h r) (unchanged h (requestRefused 9))
+  leftBy leaves = unchanged h (redirected (deskOf p (operationOf r)))
 
-  pub routed-by-way : (k : Class) (own : Bool) → routed d cells queue k own p r ≡ leftBy (wayBy k own)
+  pub routed-by-way : (k : Class) (own : Bool) → routed h k own p r ≡ leftBy (wayBy k own)
   routed-by-way free own = refl
   routed-by-way local true = refl
   routed-by-way local false = refl

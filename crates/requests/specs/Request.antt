@@ -15,6 +15,7 @@ use Rattle.operation.specs.Run.{Reply, applyUpdate, run}
 use Rattle.conflict.specs.Class.{Class, free, local, global, classOf}
 use Rattle.queue.specs.declared.record.Request.{Request}
 use Rattle.desk.specs.declared.state.Desk.{Desk}
+use Rattle.desk.specs.Holding.{Holding}
 use Rattle.desk.specs.Queueing.{operationOf, waitingIn, joinQueue}
 use Rattle.desk.specs.Admission.{deskBuffersFit, deskFits}
 use Rattle.queue.specs.Queue.{queueSize}
@@ -33,32 +34,32 @@ pub record Requested : Type 0 where
   pub cells : List ℕ
   pub queue : List Request
 
-module _ (d : Desk) (cells : List ℕ) (queue : List Request) where
+module _ (h : Holding) where
   -- "nothing lent and no state changes"
   abbrev pub unchanged : Response → Requested
-  unchanged a = record { answer = a; state = d; cells = cells; queue = queue }
+  unchanged a = record { answer = a; state = h .state; cells = h .cells; queue = h .queue }
 
   -- a free or a local operation runs, "immediately"
   abbrev pub ranNow : Plan → Operation → Requested
   ranNow p o = record {
-    answer = replied (run p o cells .reply);
-    state = d;
-    cells = applyUpdate (run p o cells .update) cells;
-    queue = queue;
+    answer = replied (run p o (h .cells) .reply);
+    state = h .state;
+    cells = applyUpdate (run p o (h .cells) .update) (h .cells);
+    queue = h .queue;
   }
 
   -- a global one waits: it joins the waiting records by `joinQueue`, for which one record is stored
   abbrev pub enqueued : Request → Requested
   enqueued r = record {
     answer = waits;
-    state = record { desk = d .desk; waiting = d .waiting + 1; awaited = d .awaited };
-    cells = cells;
-    queue = set queue (d .waiting) r;
+    state = record { desk = h .state .desk; waiting = h .state .waiting + 1; awaited = h .state .awaited };
+    cells = h .cells;
+    queue = set (h .queue) (h .state .waiting) r;
   }
 
   -- the waiting records are then those before it, joined by the rule of the queue
   abbrev pub JoinsQueue : Request → Type 0
-  JoinsQueue r = waitingIn (enqueued r .state .waiting) (enqueued r .queue) ≡ joinQueue (waitingIn (d .waiting) queue) r
+  JoinsQueue r = waitingIn (enqueued r .state .waiting) (enqueued r .queue) ≡ joinQueue (waitingIn (h .state .waiting) (h .queue)) r
 
   -- where the operation goes, by its class and by whether this desk is its own
   abbrev pub routed : Class → Bool → Plan → Request → Requested
@@ -66,12 +67,12 @@ module _ (d : Desk) (cells : List ℕ) (queue : List Request) where
   routed local true p r = ranNow p (operationOf r)
   routed local false p r = unchanged (redirected (deskOf p (operationOf r)))
   -- 9: "For a global request at its desk: do fewer than 32 wait?"
-  routed global true p r = cond (ltb (d .waiting) queueSize) (enqueued r) (unchanged (requestRefused 9))
+  routed global true p r = cond (ltb (h .state .waiting) queueSize) (enqueued r) (unchanged (requestRefused 9))
   routed global false p r = unchanged (redirected (deskOf p (operationOf r)))
 
   abbrev pub served : Verdict → Plan → Request → Requested
   served v p r =
-      ifAccepted v (routed (classOf p (operationOf r)) (eqb (deskOf p (operationOf r)) (d .desk)) p r)
+      ifAccepted v (routed (classOf p (operationOf r)) (eqb (deskOf p (operationOf r)) (h .state .desk)) p r)
       (λ question. unchanged (requestRefused question))
 
 -- the record of a request
@@ -80,12 +81,12 @@ recordOf client k ps =
     record { client = client; transaction = k; p0 = getD ps 0 0; p1 = getD ps 1 0; p2 = getD ps 2 0; p3 = getD ps 3 0 }
 
 -- "Request: 1–8, then "elsewhere", then 9."
-unfoldable pub requestVerdict : List ℕ → Desk → List ℕ → List Request → Request → Verdict
-requestVerdict ws d cells queue r =
+unfoldable pub requestVerdict : List ℕ → Holding → Request → Verdict
+requestVerdict ws h r =
     planVerdict ws
-    then ask 5 (deskBuffersFit cells queue)
-    then ask 6 (deskFits (planOf ws) d queue)
+    then ask 5 (deskBuffersFit (h .cells) (h .queue))
+    then ask 6 (deskFits (planOf ws) (h .state) (h .queue))
     then operationVerdict (planOf ws) (operationOf r)
 
-unfoldable pub requestResult : List ℕ → Desk → List ℕ → List Request → Request → Requested
-requestResult ws d cells queue r = served d cells queue (requestVerdict ws d cells queue r) (planOf ws) r
+unfoldable pub requestResult : List ℕ → Holding → Request → Requested
+requestResult ws h r = served h (requestVerdict ws h r) (planOf ws) r

@@ -14,6 +14,7 @@ ghost use Rattle.operation.specs.Admission.{operationVerdict};
 ghost use Rattle.conflict.specs.Class.{classOf};
 ghost use Rattle.queue.specs.Queue.{recordsOf, queueSize};
 ghost use Rattle.queue.specs.declared.record.Request.{Request as Queued};
+ghost use Rattle.desk.specs.Holding.{holding};
 ghost use Rattle.desk.specs.Queueing.{operationOf};
 ghost use Rattle.requests.specs.Request.{requestRefused, unchanged, ranNow, enqueued, routed, served, recordOf, requestResult};
 ghost use Rattle.requests.specs.Answer.{responseOf};
@@ -55,7 +56,7 @@ pub struct RequestStep {
 // An answer with which nothing is stored and the state stays.
 fn unchanged_step(answer: RequestAnswer, state: Desk, size: usize, request: Request) -> RequestStep
     ensures { λ r. ⌜ ((cells : List ℕ) (queue : List Queued) → length queue ≡ size
-        → steppedOf r cells queue ≡ unchanged state cells queue (responseOf answer)) ⌝ }
+        → steppedOf r cells queue ≡ unchanged (holding state cells queue) (responseOf answer)) ⌝ }
 {
     let result = RequestResult {
         answer: answer,
@@ -79,7 +80,7 @@ fn run_step(
 ) -> RequestStep
     requires { ⌜ Placed (now plan) request at ⌝ }
     ensures { λ r. ⌜ ((queue : List Queued) → length queue ≡ size → steppedOf r (now (cells .exit)) queue
-        ≡ ranNow state (now (cells .entry)) queue (planOf (now (plan .entry))) (operationOf request)) ⌝ }
+        ≡ ranNow (holding state (now (cells .entry)) queue) (planOf (now (plan .entry))) (operationOf request)) ⌝ }
 {
     let reply = desk::run_operation(plan, at, request, cells);
     unchanged_step(RequestAnswer::Replied(reply), state, size, request)
@@ -88,7 +89,8 @@ fn run_step(
 // Question 9; then the request waits, behind those that wait.
 fn wait_step(state: Desk, size: usize, request: Request) -> RequestStep
     ensures { λ r. ⌜ ((cells : List ℕ) (queue : List Queued) → length queue ≡ size → steppedOf r cells queue
-        ≡ cond (ltb (state .waiting) queueSize) (enqueued state cells queue request) (unchanged state cells queue (requestRefused 9))) ⌝ }
+        ≡ cond (ltb (state .waiting) queueSize) (enqueued (holding state cells queue) request)
+        (unchanged (holding state cells queue) (requestRefused 9))) ⌝ }
 {
     let waiting = state.waiting;
     if MOST_WAITING <= waiting {
@@ -122,7 +124,7 @@ fn routed_step(
 ) -> RequestStep
     requires { ⌜ Placed (now plan) request at × TableHolds (now plan) checked ⌝ }
     ensures { λ r. ⌜ ((queue : List Queued) → length queue ≡ size → steppedOf r (now (cells .exit)) queue
-        ≡ routed state (now (cells .entry)) queue (classOf (planOf (now (plan .entry))) (operationOf request))
+        ≡ routed (holding state (now (cells .entry)) queue) (classOf (planOf (now (plan .entry))) (operationOf request))
         (eqb (deskOf (planOf (now (plan .entry))) (operationOf request)) (state .desk)) (planOf (now (plan .entry))) request) ⌝ }
 {
     let here = state.desk;
@@ -146,7 +148,7 @@ fn admitted_step(
 ) -> RequestStep
     requires { ⌜ (planVerdict (now plan) ≡ accepted) × (now places ≡ transactionPlaces (now plan)) × TableHolds (now plan) checked ⌝ }
     ensures { λ r. ⌜ ((queue : List Queued) → length queue ≡ size → steppedOf r (now (cells .exit)) queue
-        ≡ served state (now (cells .entry)) queue (operationVerdict (planOf (now (plan .entry))) (operationOf request))
+        ≡ served (holding state (now (cells .entry)) queue) (operationVerdict (planOf (now (plan .entry))) (operationOf request))
         (planOf (now (plan .entry))) request) ⌝ }
 {
     match desk::locate(plan, places, request) {
@@ -186,7 +188,7 @@ fn request_core(
     request: Request,
 ) -> RequestStep
     ensures { λ r. ⌜ ((queue : List Queued) → length queue ≡ size → recordsOf queue ≡ records
-        → steppedOf r (now (cells .exit)) queue ≡ requestResult (now (plan .entry)) state (now (cells .entry)) queue request) ⌝ }
+        → steppedOf r (now (cells .exit)) queue ≡ requestResult (now (plan .entry)) (holding state (now (cells .entry)) queue) request) ⌝ }
 {
     if let Verdict::Refused(question) = opening_verdict(plan, cells, size) {
         return unchanged_step(RequestAnswer::Refused(question), state, size, request);
@@ -212,7 +214,7 @@ pub fn request_step(
 ) -> RequestStep
     ensures { λ r. ⌜ ((queue : List Queued) → length queue ≡ size → recordsOf queue ≡ records
         → steppedOf r (now (cells .exit)) queue
-        ≡ requestResult (now (plan .entry)) state (now (cells .entry)) queue (recordOf client transaction params)) ⌝ }
+        ≡ requestResult (now (plan .entry)) (holding state (now (cells .entry)) queue) (recordOf client transaction params)) ⌝ }
 {
     let request = Request {
         client: client,

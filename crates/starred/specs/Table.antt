@@ -14,6 +14,7 @@ use Rattle.token.specs.Answer.{VisitRead, visitNumber, refusal, visitRead, part
 use Rattle.queue.specs.Queue.{noRequest, queueSize}
 use Rattle.queue.specs.declared.record.Request.{Request}
 use Rattle.desk.specs.declared.state.Desk.{Desk}
+use Rattle.desk.specs.Holding.{Holding, holding}
 use Rattle.requests.specs.Request.{recordOf}
 use Rattle.visits.specs.Visit.{visitResult}
 use Rattle.conflict.specs.Answer.{Classified, classedFree, classedLocal, classedGlobal, classRefused, classifyResult}
@@ -78,11 +79,11 @@ abbrev shown : visiting.Visited → Left
 shown v = left (v .answer) (v .state) (take 7 (v .out)) (take replySize (v .replies))
 
 -- "State, book and row pass from call to call at their desk": each visit runs on what the one before left
-abbrev visitsFrom : List Request → Desk → List ℕ → List (List ℕ) → List Left
-visitsFrom queue d store [] = []
-visitsFrom queue d store (ws ∷ frames) =
-    let v = visitResult planP d store queue ws (replicate longestFrame 0) (replicate repliesSize 0) in
-    shown v ∷ visitsFrom queue (v .state) (v .cells) frames
+abbrev visitsFrom : Holding → List (List ℕ) → List Left
+visitsFrom h [] = []
+visitsFrom h (ws ∷ frames) =
+    let v = visitResult planP h ws (replicate longestFrame 0) (replicate repliesSize 0) in
+    shown v ∷ visitsFrom (holding (v .state) (v .cells) (h .queue)) frames
 
 abbrev pub resultOf : Input → Result
 resultOf readPlan = verdict (planVerdict planP)
@@ -92,7 +93,7 @@ resultOf (cellsWritten k ps) = cells (writeSet (planOf planP) (operation k ps))
 resultOf (startFrame out) = started (startVerdict out) (startWords out)
 resultOf (readFrame ws) = frame (visitRead (readVerdict planP ws) ws) (updatesFrom 0 (partRead (readVerdict planP ws) ws))
 resultOf (visits d waiting frames) =
-    visited (visitsFrom (waiting ++ replicate (queueSize - length waiting) noRequest) d (replicate storeSize 0) frames)
+    visited (visitsFrom (holding d (replicate storeSize 0) (waiting ++ replicate (queueSize - length waiting) noRequest)) frames)
 
 pub record Row : Type 0 where
   pub input : Input

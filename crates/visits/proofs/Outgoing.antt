@@ -19,9 +19,8 @@ use Rattle.token.proofs.Verdicts.{headed, admitted}
 use Rattle.token.proofs.RoundTrip.{part-written, reads-written}
 use Rattle.token.proofs.Lengths.{updates-length}
 use Rattle.token.proofs.Foreign.{words-append, forwarded-fits}
-use Rattle.queue.specs.declared.record.Request.{Request}
 use Rattle.desk.specs.declared.state.Desk.{Desk}
-use Rattle.desk.specs.Queueing.{waitingIn}
+use Rattle.desk.specs.Holding.{Holding, waitingAt}
 use Rattle.visits.specs.Waiting.{runAll, updatesOf}
 use Rattle.visits.specs.Running.{allMade, allReplies, AllRun}
 use Rattle.visits.specs.Visit.{Forwarding, forwarded, Visited, acceptedVisit}
@@ -44,31 +43,30 @@ part-is f = ap (λ (i : ℕ). take i (drop 2 f)) (twice (length f))
     twice : (k : ℕ) → k - 2 - 2 ≡ k - 4
     twice k = omega arith
 
-module _ (ws : List ℕ) (d : Desk) (cells : List ℕ) (queue : List Request) (f out replies : List ℕ)
-    (a : Passable ws d cells queue f out replies) (body : List ℕ) (b : body ≡ updatesPart f) where
+module _ (ws : List ℕ) (h : Holding) (f out replies : List ℕ) (a : Passable ws h f out replies)
+    (body : List ℕ) (b : body ≡ updatesPart f) where
   pub written : body ≡ updatesWords (updatesFrom 0 body)
   written = rw b (part-written (planOf ws .desks) f (a .frame))
 
-  module _ (s : Store) (e : s ≡ applyAll (foreign (d .desk) (updatesFrom 0 body)) cells) where
+  module _ (s : Store) (e : s ≡ applyAll (foreign (h .state .desk) (updatesFrom 0 body)) (h .cells)) where
     -- the outgoing frame carries them
-    well-formed : WellFormed (planOf ws .desks) (foreign (d .desk) (frameUpdates f) ++ map (sent (d .desk))
-        (updatesOf (planOf ws) (waitingIn (d .waiting) queue) s))
+    well-formed : WellFormed (planOf ws .desks) (foreign (h .state .desk) (frameUpdates f) ++ map (sent (h .state .desk))
+        (updatesOf (planOf ws) (waitingAt h) s))
     well-formed =
-        let own = updatesOf (planOf ws) (waitingIn (d .waiting) queue) s in
+        let own = updatesOf (planOf ws) (waitingAt h) s in
         let n = planOf ws .desks in
         let r = reads-written n f (frameVisit f) (frameUpdates f) (record { verdict = a .frame; number = refl; sent = refl }) in
-        forwarded-fits n (d .desk) (frameUpdates f) own (r .1)
-        (omega (arith, updates-count (planOf ws) (waitingIn (d .waiting) queue) s, length-take (d .waiting) queue, a .waiting))
-        (all-fit ws (a .plan) (d .desk) (a .desk) (waitingIn (d .waiting) queue) s (a .operations))
+        forwarded-fits n (h .state .desk) (frameUpdates f) own (r .1)
+        (omega (arith, updates-count (planOf ws) (waitingAt h) s, length-take (h .state .waiting) (h .queue), a .waiting))
+        (all-fit ws (a .plan) (h .state .desk) (a .desk) (waitingAt h) s (a .operations))
 
-    words-are : foreignWords (d .desk) body ++ allMade (planOf ws) (d .desk) (waitingIn (d .waiting) queue) s
-        ≡ updatesWords (foreign (d .desk) (frameUpdates f) ++ map (sent (d .desk))
-        (updatesOf (planOf ws) (waitingIn (d .waiting) queue) s))
+    words-are : foreignWords (h .state .desk) body ++ allMade (planOf ws) (h .state .desk) (waitingAt h) s
+        ≡ updatesWords (foreign (h .state .desk) (frameUpdates f) ++ map (sent (h .state .desk)) (updatesOf (planOf ws) (waitingAt h) s))
     unfolding allMade
-    words-are = rw b (sym (words-append (foreign (d .desk) (frameUpdates f))
-        (map (sent (d .desk)) (updatesOf (planOf ws) (waitingIn (d .waiting) queue) s))))
+    words-are = rw b (sym (words-append (foreign (h .state .desk) (frameUpdates f))
+        (map (sent (h .state .desk)) (updatesOf (planOf ws) (waitingAt h) s))))
 
-    pub words-fit : 2 + length (foreignWords (d .desk) body ++ allMade (planOf ws) (d .desk) (waitingIn (d .waiting) queue) s) + 2 ≤
+    pub words-fit : 2 + length (foreignWords (h .state .desk) body ++ allMade (planOf ws) (h .state .desk) (waitingAt h) s) + 2 ≤
         length out
     words-fit =
         let g = accepted-gives ws (a .plan) in
@@ -80,49 +78,50 @@ module _ (ws : List ℕ) (d : Desk) (cells : List ℕ) (queue : List Request) (f
               (omega (arith, g .desks-high, desk-count ws)) well-formed,
         )
 
-    pub all-run : (o : List ℕ) → length (allMade (planOf ws) (d .desk) (waitingIn (d .waiting) queue) s) ≤ length o
-        → AllRun ws (take (d .waiting) queue) (d .desk) s o replies
+    pub all-run : (o : List ℕ) → length (allMade (planOf ws) (h .state .desk) (waitingAt h) s) ≤ length o
+        → AllRun ws (waitingAt h) (h .state .desk) s o replies
     all-run o room =
         record {
           plan = a .plan;
           operations = a .operations;
           room = room;
-          replyRoom = omega (arith, a .replyRoom, a .waiting, length-take (d .waiting) queue);
+          replyRoom = omega (arith, a .replyRoom, a .waiting, length-take (h .state .waiting) (h .queue));
         }
 
     pub passed-is : (n end : ℕ) (s′ o q : List ℕ) → n ≡ planOf ws .desks
-        → end ≡ 2 + length (foreignWords (d .desk) body ++ allMade (planOf ws) (d .desk) (waitingIn (d .waiting) queue) s)
-        → s′ ≡ runAll (planOf ws) (waitingIn (d .waiting) queue) s
+        → end ≡ 2 + length (foreignWords (h .state .desk) body ++ allMade (planOf ws) (h .state .desk) (waitingAt h) s)
+        → s′ ≡ runAll (planOf ws) (waitingAt h) s
         → o ≡ overwritten (frameAround ((frameVisit f + 1) % n) (frameVisit f + 1)
-        (foreignWords (d .desk) body ++ allMade (planOf ws) (d .desk) (waitingIn (d .waiting) queue) s)) out
-        → q ≡ overwritten (allReplies (planOf ws) (waitingIn (d .waiting) queue) s) replies
+        (foreignWords (h .state .desk) body ++ allMade (planOf ws) (h .state .desk) (waitingAt h) s)) out
+        → q ≡ overwritten (allReplies (planOf ws) (waitingAt h) s) replies
         → _≡_ {A = Visited} (record {
-          answer = forwarded (end + 2) (d .waiting);
-          state = record { desk = d .desk; waiting = 0; awaited = frameVisit f + n };
+          answer = forwarded (end + 2) (h .state .waiting);
+          state = record { desk = h .state .desk; waiting = 0; awaited = frameVisit f + n };
           cells = s′;
           out = o;
           replies = q;
-        }) (acceptedVisit (planOf ws) d cells queue f out replies)
+        }) (acceptedVisit (planOf ws) h f out replies)
     unfolding allReplies
     passed-is n end s′ o q en ee es eo eq =
-        let caught : s ≡ applyAll (foreign (d .desk) (frameUpdates f)) cells =
-        e ∙ ap (λ (t : List ℕ). applyAll (foreign (d .desk) (updatesFrom 0 t)) cells) b in
-        let rs = waitingIn (d .waiting) queue in
+        let caught : s ≡ applyAll (foreign (h .state .desk) (frameUpdates f)) (h .cells) =
+        e ∙ ap (λ (t : List ℕ). applyAll (foreign (h .state .desk) (updatesFrom 0 t)) (h .cells)) b in
+        let rs = waitingAt h in
         let v = frameVisit f + 1 in
-        let us = foreign (d .desk) (frameUpdates f) ++ map (sent (d .desk)) (updatesOf (planOf ws) rs s) in
-        let count : d .waiting ≡ length rs = sym (length-take-le (d .waiting) queue (omega (arith, a .waiting, a .queueLong))) in
+        let us = foreign (h .state .desk) (frameUpdates f) ++ map (sent (h .state .desk)) (updatesOf (planOf ws) rs s) in
+        let count : h .state .waiting ≡ length rs =
+        sym (length-take-le (h .state .waiting) (h .queue) (omega (arith, a .waiting, a .queueLong))) in
         rw (← caught)
         (visited-same _ _ _ _ _ _ _ _ _ _
         (ap₂ forwarded
         (omega (arith, ee, ap length words-are, frame-length (v % planOf ws .desks) v (updatesWords us)))
         (count ∙ sym (replies-count (planOf ws) rs s)))
-        (ap (λ (m : ℕ). record { desk = d .desk; waiting = 0; awaited = frameVisit f + m }) en)
+        (ap (λ (m : ℕ). record { desk = h .state .desk; waiting = 0; awaited = frameVisit f + m }) en)
         es
         (eo ∙ ap₂ (λ (m : ℕ) (t : List ℕ). overwritten (frameAround (v % m) v t) out) en words-are)
         eq)
 
   -- the others' updates alone have room behind words 0 and 1
-  pub body-room : length (foreignWords (d .desk) body) ≤ length (take (length out - 2) (drop 2 out))
+  pub body-room : length (foreignWords (h .state .desk) body) ≤ length (take (length out - 2) (drop 2 out))
   body-room =
       omega (
         arith,

@@ -17,8 +17,7 @@ use Rattle.plan.specs.Decode.{headOf, planOf}
 use Rattle.plan.specs.Admission.{planVerdict}
 use Rattle.token.specs.Admission.{frameVerdict, frameVisit}
 use Rattle.queue.specs.declared.record.Request.{Request}
-use Rattle.desk.specs.declared.state.Desk.{Desk}
-use Rattle.desk.specs.Queueing.{waitingIn}
+use Rattle.desk.specs.Holding.{Holding, waitingAt}
 use Rattle.desk.specs.Admission.{deskBuffersFit, waitsHere, deskFits}
 use Rattle.visits.specs.Admission.{visitBuffersFit, turnVerdict}
 use Rattle.visits.specs.Visit.{visitVerdict}
@@ -28,15 +27,15 @@ use Rattle.token.specs.Frame.{longestFrame}
 use Rattle.queue.specs.Queue.{queueSize}
 use Rattle.visits.specs.Waiting.{repliesSize}
 
-pub record Passable (ws : List ℕ) (d : Desk) (cells : List ℕ) (queue : List Request) (f out replies : List ℕ) : Type 0 where
+pub record Passable (ws : List ℕ) (h : Holding) (f out replies : List ℕ) : Type 0 where
   pub plan : planVerdict ws ≡ accepted
-  pub cellsLong : length cells ≡ storeSize
-  pub queueLong : length queue ≡ queueSize
+  pub cellsLong : length (h .cells) ≡ storeSize
+  pub queueLong : length (h .queue) ≡ queueSize
   pub room : longestFrame ≤ length out
   pub replyRoom : repliesSize ≤ length replies
-  pub desk : d .desk < planOf ws .desks
-  pub waiting : d .waiting ≤ queueSize
-  pub operations : every (isOperation (planOf ws)) (waitingIn (d .waiting) queue) ≡ true
+  pub desk : h .state .desk < planOf ws .desks
+  pub waiting : h .state .waiting ≤ queueSize
+  pub operations : every (isOperation (planOf ws)) (waitingAt h) ≡ true
   pub frame : frameVerdict (planOf ws .desks) f ≡ accepted
   pub visit : frameVisit f < 4294967295
 
@@ -46,30 +45,30 @@ unfolding waitsHere
 operations-here p desk rs e =
     member-every (isOperation p) rs (λ r m. and-fst (isOperation p r) _ (every-member (waitsHere p desk) rs r e m))
 
-pub questions-give : (ws : List ℕ) (d : Desk) (cells : List ℕ) (queue : List Request) (frame out replies : List ℕ)
-    → visitVerdict ws d cells queue frame out replies ≡ accepted → Passable ws d cells queue frame out replies
+pub questions-give : (ws : List ℕ) (h : Holding) (frame out replies : List ℕ) → visitVerdict ws h frame out replies ≡ accepted
+    → Passable ws h frame out replies
 unfolding visitVerdict deskBuffersFit visitBuffersFit deskFits turnVerdict
-questions-give ws d cells queue frame out replies e =
+questions-give ws h frame out replies e =
     let q4 = then-accepted (planVerdict ws) _ e in
-    let q5 = ask-then-accepted 5 (deskBuffersFit cells queue && visitBuffersFit out replies) _ (q4 .1) in
-    let desk5 = and-fst (deskBuffersFit cells queue) _ (q5 .0) in
-    let visit5 = and-snd (deskBuffersFit cells queue) _ (q5 .0) in
-    let q6 = ask-then-accepted 6 (deskFits (planOf ws) d queue) _ (q5 .1) in
-    let w6 = and-snd (ltb (d .desk) (planOf ws .desks)) _ (q6 .0) in
-    let a6 = and-snd (leb (d .waiting) queueSize) _ w6 in
+    let q5 = ask-then-accepted 5 (deskBuffersFit (h .cells) (h .queue) && visitBuffersFit out replies) _ (q4 .1) in
+    let desk5 = and-fst (deskBuffersFit (h .cells) (h .queue)) _ (q5 .0) in
+    let visit5 = and-snd (deskBuffersFit (h .cells) (h .queue)) _ (q5 .0) in
+    let q6 = ask-then-accepted 6 (deskFits (planOf ws) (h .state) (h .queue)) _ (q5 .1) in
+    let w6 = and-snd (ltb (h .state .desk) (planOf ws .desks)) _ (q6 .0) in
+    let a6 = and-snd (leb (h .state .waiting) queueSize) _ w6 in
     let q12 = then-accepted (frameVerdict (planOf ws .desks) frame) _ (q6 .1) in
-    let q13 = ask-then-accepted 13 (eqb (addressedDesk (headOf frame)) (d .desk)) _ (q12 .1) in
-    let q14 = ask-then-accepted 14 (eqb (frameVisit frame) (d .awaited)) _ (q13 .1) in
+    let q13 = ask-then-accepted 13 (eqb (addressedDesk (headOf frame)) (h .state .desk)) _ (q12 .1) in
+    let q14 = ask-then-accepted 14 (eqb (frameVisit frame) (h .state .awaited)) _ (q13 .1) in
     record {
       plan = q4 .0;
-      cellsLong = eqb-true (length cells) storeSize (and-fst _ _ desk5);
-      queueLong = eqb-true (length queue) queueSize (and-snd (eqb (length cells) storeSize) _ desk5);
+      cellsLong = eqb-true (length (h .cells)) storeSize (and-fst _ _ desk5);
+      queueLong = eqb-true (length (h .queue)) queueSize (and-snd (eqb (length (h .cells)) storeSize) _ desk5);
       room = leb-true longestFrame (length out) (and-fst _ _ visit5);
       replyRoom = leb-true repliesSize (length replies) (and-snd (leb longestFrame (length out)) _ visit5);
-      desk = ltb-true (d .desk) (planOf ws .desks) (and-fst _ _ (q6 .0));
-      waiting = leb-true (d .waiting) queueSize (and-fst _ _ w6);
-      operations = operations-here (planOf ws) (d .desk) (waitingIn (d .waiting) queue)
-          (and-snd (eqb (d .awaited % planOf ws .desks) (d .desk)) _ a6);
+      desk = ltb-true (h .state .desk) (planOf ws .desks) (and-fst _ _ (q6 .0));
+      waiting = leb-true (h .state .waiting) queueSize (and-fst _ _ w6);
+      operations = operations-here (planOf ws) (h .state .desk) (waitingAt h)
+          (and-snd (eqb (h .state .awaited % planOf ws .desks) (h .state .desk)) _ a6);
       frame = q12 .0;
       visit = ltb-true (frameVisit frame) 4294967295 (ask-accepted 15 (ltb (frameVisit frame) 4294967295) (q14 .1));
     }

@@ -17,6 +17,7 @@ use Rattle.queue.specs.Queue.{recordsOf}
 use Rattle.queue.specs.declared.record.Request.{Request}
 use Rattle.queue.proofs.Copying.{records-whole}
 use Rattle.desk.specs.declared.state.Desk.{Desk}
+use Rattle.desk.specs.Holding.{holding}
 use Rattle.desk.specs.Admission.{deskBuffersFit, deskFits}
 use Rattle.visits.specs.Admission.{visitBuffersFit, turnVerdict}
 use Rattle.visits.specs.Visit.{unchanged, acceptedVisit, visitVerdict, visitResult}
@@ -68,7 +69,7 @@ module _ (ws : List ℕ) (d : Desk) (records : List Request) (frame : List ℕ) 
 
 module _ (ws : List ℕ) (d : Desk) (cells : List ℕ) (size : ℕ) (records : List Request) (frame out replies : List ℕ) where
   handed : (queue : List Request) → length queue ≡ size → recordsOf queue ≡ records
-      → visitVerdict ws d cells queue frame out replies
+      → visitVerdict ws (holding d cells queue) frame out replies
       ≡ (openingVerdict ws cells size out replies then tokenVerdict ws d records frame)
   unfolding visitVerdict openingVerdict tokenVerdict deskBuffersFit
   handed queue l q =
@@ -81,32 +82,32 @@ module _ (ws : List ℕ) (d : Desk) (cells : List ℕ) (size : ℕ) (records : L
       ∙ then-associates (planVerdict ws) _ (tokenVerdict ws d records frame)
 
   module _ (queue : List Request) (l : length queue ≡ size) (q : recordsOf queue ≡ records) where
-    left-refused : (question : ℕ) → visitVerdict ws d cells queue frame out replies ≡ refused question
-        → unchanged d cells out replies question ≡ visitResult ws d cells queue frame out replies
+    left-refused : (question : ℕ) → visitVerdict ws (holding d cells queue) frame out replies ≡ refused question
+        → unchanged (holding d cells queue) out replies question ≡ visitResult ws (holding d cells queue) frame out replies
     unfolding visitResult
     left-refused question e = rw e
 
     pub opening-refused : (question : ℕ) → openingVerdict ws cells size out replies ≡ refused question
-        → unchanged d cells out replies question ≡ visitResult ws d cells queue frame out replies
+        → unchanged (holding d cells queue) out replies question ≡ visitResult ws (holding d cells queue) frame out replies
     opening-refused question e =
         left-refused question (handed queue l q ∙ ap (λ (v : Verdict). v then tokenVerdict ws d records frame) e)
 
     module _ (e : openingVerdict ws cells size out replies ≡ accepted) where
-      opened : visitVerdict ws d cells queue frame out replies ≡ tokenVerdict ws d records frame
+      opened : visitVerdict ws (holding d cells queue) frame out replies ≡ tokenVerdict ws d records frame
       opened = handed queue l q ∙ ap (λ (v : Verdict). v then tokenVerdict ws d records frame) e
 
       pub passage-refused : (question : ℕ) → tokenVerdict ws d records frame ≡ refused question
-          → unchanged d cells out replies question ≡ visitResult ws d cells queue frame out replies
+          → unchanged (holding d cells queue) out replies question ≡ visitResult ws (holding d cells queue) frame out replies
       passage-refused question h = left-refused question (opened ∙ h)
 
       pub left-passed : tokenVerdict ws d records frame ≡ accepted
-          → acceptedVisit (planOf ws) d cells records frame out replies ≡ visitResult ws d cells queue frame out replies
+          → acceptedVisit (planOf ws) (holding d cells records) frame out replies ≡ visitResult ws (holding d cells queue) frame out replies
       unfolding visitResult
       left-passed h =
-          rw (opened ∙ h) (ap (λ (rs : List Request). acceptedVisit (planOf ws) d cells rs frame out replies)
+          rw (opened ∙ h) (ap (λ (rs : List Request). acceptedVisit (planOf ws) (holding d cells rs) frame out replies)
           (sym (sym (records-whole queue (l ∙ queue-long ws cells size out replies e)) ∙ q)))
 
   -- the records are a queue themselves
   pub of-records : length records ≡ 32 → openingVerdict ws cells size out replies ≡ accepted
-      → tokenVerdict ws d records frame ≡ accepted → visitVerdict ws d cells records frame out replies ≡ accepted
+      → tokenVerdict ws d records frame ≡ accepted → visitVerdict ws (holding d cells records) frame out replies ≡ accepted
   of-records l e h = opened records (l ∙ sym (queue-long ws cells size out replies e)) (records-whole records l) e ∙ h

@@ -12,9 +12,8 @@ use Rattle.operation.specs.Run.{Store}
 use Rattle.token.specs.Frame.{SentUpdate, sent, frameWords}
 use Rattle.token.specs.Admission.{frameVerdict, frameVisit, frameUpdates}
 use Rattle.token.specs.Forward.{foreign, applyAll}
-use Rattle.queue.specs.declared.record.Request.{Request}
 use Rattle.desk.specs.declared.state.Desk.{Desk}
-use Rattle.desk.specs.Queueing.{waitingIn}
+use Rattle.desk.specs.Holding.{Holding, waitingAt}
 use Rattle.desk.specs.Admission.{deskBuffersFit, deskFits}
 use Rattle.visits.specs.Admission.{visitBuffersFit, turnVerdict}
 use Rattle.visits.specs.Waiting.{runAll, updatesOf, repliesOf, repliesWords}
@@ -33,48 +32,48 @@ pub record Visited : Type 0 where
   pub replies : List ℕ
 
 -- "nothing lent and no state changes"
-abbrev pub unchanged : Desk → List ℕ → List ℕ → List ℕ → ℕ → Visited
-unchanged d cells out replies question =
-    record { answer = visitRefused question; state = d; cells = cells; out = out; replies = replies }
+abbrev pub unchanged : Holding → List ℕ → List ℕ → ℕ → Visited
+unchanged h out replies question =
+    record { answer = visitRefused question; state = h .state; cells = h .cells; out = out; replies = replies }
 
-module _ (p : Plan) (d : Desk) (cells : List ℕ) (queue : List Request) (frame out replies : List ℕ) where
+module _ (p : Plan) (h : Holding) (frame : List ℕ) where
+  -- "drops this desk's own updates, applies the others in order"
   abbrev pub caughtUp : Store
-  caughtUp = applyAll (foreign (d .desk) (frameUpdates frame)) cells
+  caughtUp = applyAll (foreign (h .state .desk) (frameUpdates frame)) (h .cells)
 
   -- "runs all waiting requests in order, and appends one update for each, empty or not"
   abbrev pub outgoingUpdates : List SentUpdate
   outgoingUpdates =
-      foreign (d .desk) (frameUpdates frame) ++ map (sent (d .desk)) (updatesOf p (waitingIn (d .waiting) queue) caughtUp)
+      foreign (h .state .desk) (frameUpdates frame) ++ map (sent (h .state .desk)) (updatesOf p (waitingAt h) caughtUp)
 
   -- "the outgoing frame, addressed for v + 1"
   abbrev pub outgoingFrame : List ℕ
   outgoingFrame = frameWords (p .desks) (frameVisit frame + 1) outgoingUpdates
 
   abbrev pub replyingWords : List ℕ
-  replyingWords = repliesWords (repliesOf p (waitingIn (d .waiting) queue) caughtUp)
+  replyingWords = repliesWords (repliesOf p (waitingAt h) caughtUp)
 
   -- "Then none waits; the row of records is untouched. Words past what is written are untouched."
-  abbrev pub acceptedVisit : Visited
-  acceptedVisit = record {
-    answer = forwarded (length outgoingFrame) (length (repliesOf p (waitingIn (d .waiting) queue) caughtUp));
-    state = record { desk = d .desk; waiting = 0; awaited = frameVisit frame + p .desks };
-    cells = runAll p (waitingIn (d .waiting) queue) caughtUp;
+  abbrev pub acceptedVisit : List ℕ → List ℕ → Visited
+  acceptedVisit out replies = record {
+    answer = forwarded (length outgoingFrame) (length (repliesOf p (waitingAt h) caughtUp));
+    state = record { desk = h .state .desk; waiting = 0; awaited = frameVisit frame + p .desks };
+    cells = runAll p (waitingAt h) caughtUp;
     out = overwritten outgoingFrame out;
     replies = overwritten replyingWords replies;
   }
 
-  abbrev pub visitedBy : Verdict → Visited
-  visitedBy v = ifAccepted v acceptedVisit (unchanged d cells out replies)
+  abbrev pub visitedBy : List ℕ → List ℕ → Verdict → Visited
+  visitedBy out replies v = ifAccepted v (acceptedVisit out replies) (unchanged h out replies)
 
 -- "Visit: 1–6, 10–15."
-unfoldable pub visitVerdict : List ℕ → Desk → List ℕ → List Request → List ℕ → List ℕ → List ℕ → Verdict
-visitVerdict ws d cells queue frame out replies =
+unfoldable pub visitVerdict : List ℕ → Holding → List ℕ → List ℕ → List ℕ → Verdict
+visitVerdict ws h frame out replies =
     planVerdict ws
-    then ask 5 (deskBuffersFit cells queue && visitBuffersFit out replies)
-    then ask 6 (deskFits (planOf ws) d queue)
+    then ask 5 (deskBuffersFit (h .cells) (h .queue) && visitBuffersFit out replies)
+    then ask 6 (deskFits (planOf ws) (h .state) (h .queue))
     then frameVerdict (planOf ws .desks) frame
-    then turnVerdict d frame
+    then turnVerdict (h .state) frame
 
-unfoldable pub visitResult : List ℕ → Desk → List ℕ → List Request → List ℕ → List ℕ → List ℕ → Visited
-visitResult ws d cells queue frame out replies =
-    visitedBy (planOf ws) d cells queue frame out replies (visitVerdict ws d cells queue frame out replies)
+unfoldable pub visitResult : List ℕ → Holding → List ℕ → List ℕ → List ℕ → Visited
+visitResult ws h frame out replies = visitedBy (planOf ws) h frame out replies (visitVerdict ws h frame out replies)

@@ -3,6 +3,7 @@ ghost use mathlib.Core.Path.{_≡_};
 ghost use Rattle.verdict.specs.Verdict.{accepted};
 ghost use Rattle.plan.specs.Decode.{planOf};
 ghost use Rattle.plan.specs.Place.{transactionPlaces};
+ghost use Rattle.desk.specs.Holding.{holding};
 ghost use Rattle.visits.specs.Visit.{visitVerdict, acceptedVisit};
 ghost use Rattle.visits.specs.Answer.{visitedOf};
 use crate::running;
@@ -24,10 +25,10 @@ pub(crate) fn accepted_visit(
     out: &mut [u32],
     replies: &mut [u32],
 ) -> VisitResult
-    requires { ⌜ (visitVerdict (now plan) state (now cells) records (now frame) (now out) (now replies) ≡ accepted)
+    requires { ⌜ (visitVerdict (now plan) (holding state (now cells) records) (now frame) (now out) (now replies) ≡ accepted)
         × (now places ≡ transactionPlaces (now plan)) ⌝ }
-    ensures { λ r. ⌜ visitedOf r (now (cells .exit)) (now (out .exit)) (now (replies .exit)) ≡ acceptedVisit (planOf (now (plan .entry))) state
-        (now (cells .entry)) records (now (frame .entry)) (now (out .entry)) (now (replies .entry)) ⌝ }
+    ensures { λ r. ⌜ visitedOf r (now (cells .exit)) (now (out .exit)) (now (replies .exit)) ≡ acceptedVisit (planOf (now (plan .entry)))
+        (holding state (now (cells .entry)) records) (now (frame .entry)) (now (out .entry)) (now (replies .entry)) ⌝ }
 {
     let desk = state.desk;
     let waiting = state.waiting as usize;

@@ -10,6 +10,7 @@ ghost use Rattle.plan.specs.Admission.{planVerdict};
 ghost use Rattle.plan.specs.Place.{transactionPlaces};
 ghost use Rattle.queue.specs.Queue.{recordsOf, queueSize};
 ghost use Rattle.queue.specs.declared.record.Request.{Request as Queued};
+ghost use Rattle.desk.specs.Holding.{holding};
 ghost use Rattle.visits.specs.Admission.{visitBuffersFit, turnVerdict};
 ghost use Rattle.visits.specs.Visit.{visitResult};
 ghost use Rattle.visits.specs.Core.{openingVerdict, tokenVerdict};
@@ -126,8 +127,8 @@ pub fn visit_core(
     replies: &mut [u32],
 ) -> VisitResult
     ensures { λ r. ⌜ ((queue : List Queued) → length queue ≡ size → recordsOf queue ≡ records
-        → visitedOf r (now (cells .exit)) (now (out .exit)) (now (replies .exit)) ≡ visitResult (now (plan .entry)) state
-        (now (cells .entry)) queue (now (frame .entry)) (now (out .entry)) (now (replies .entry))) ⌝ }
+        → visitedOf r (now (cells .exit)) (now (out .exit)) (now (replies .exit)) ≡ visitResult (now (plan .entry))
+        (holding state (now (cells .entry)) queue) (now (frame .entry)) (now (out .entry)) (now (replies .entry))) ⌝ }
 {
     if let Verdict::Refused(question) = opening_verdict(plan, cells, size, out, replies) {
         return VisitResult {

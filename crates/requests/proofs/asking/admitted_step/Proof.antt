@@ -5,6 +5,7 @@ use Rattle.verdict.specs.Verdict.{Verdict}
 use Rattle.plan.specs.Decode.{planOf}
 use Rattle.plan.specs.Place.{transactionPlace}
 use Rattle.operation.specs.Admission.{operationVerdict}
+use Rattle.desk.specs.Holding.{holding}
 use Rattle.desk.specs.Queueing.{operationOf}
 use Rattle.requests.specs.Request.{served}
 use Rattle.desk.specs.Place.{placeOf, Placed}
@@ -46,17 +47,18 @@ returns : tie.Need-returns
 returns c = λ queue l.
     let e = c .before .before .before .before in
     let d = e .before .before .before .before .before .before .before in
+    let h = holding (d .args .state) (d .args .cells .now) queue in
     c .before .before .routed-step .ensures queue l
-    ∙ sym (ap (λ (v : Verdict). served (d .args .state) (d .args .cells .now) queue v (planOf (d .args .plan .now)) (d .args .request))
-    (placed e .admitted .passed))
+    ∙ sym (ap (λ (v : Verdict). served h v (planOf (d .args .plan .now)) (d .args .request)) (placed e .admitted .passed))
 
 returns-2 : tie.Need-returns-2
 returns-2 c = λ queue l.
     let e = c .before .before in
     let f = e .before .before in
     let d = f .before .before .before .before in
+    let h = holding (d .args .state) (d .args .cells .now) queue in
     c .unchanged-step .ensures (d .args .cells .now) queue l
-    ∙ sym (ap (λ (v : Verdict). served (d .args .state) (d .args .cells .now) queue v (planOf (d .args .plan .now)) (d .args .request))
+    ∙ sym (ap (λ (v : Verdict). served h v (planOf (d .args .plan .now)) (d .args .request))
     (found-lacking (operationVerdict (planOf (d .args .plan .now)) (operationOf (d .args .request)))
     (transactionPlace (d .args .plan .now) (d .args .request .transaction)) _
     (sym (ap placeOf (e .question .given .1)) ∙ f .locate .ensures)))

@@ -30,7 +30,7 @@ returns c = λ queue l q.
     let f = e .before .before in
     let d = f .before .before .before .before in
     c .unchanged-step .ensures (d .args .cells .now) queue l
-    ∙ sym (left-by-verdict (d .args .plan .now) (d .args .state) (d .args .cells .now) queue (d .args .request) _
+    ∙ sym (left-by-verdict (d .args .plan .now) _ (d .args .request) _
     (opening-refused (d .args .plan .now) (d .args .state) (d .args .cells .now) (d .args .size) (d .args .records) (d .args .request)
     queue l q _ (sym (f .opening-verdict .ensures) ∙ ap verdictOf (e .question .given .1))))
 
@@ -69,7 +69,7 @@ returns-2 c = λ queue l q.
     let e = g .before .before .before .before .before in
     let d = e .before .before .before .before .before .before in
     c .unchanged-step2 .ensures (d .args .cells .now) queue l
-    ∙ sym (left-by-verdict (d .args .plan .now) (d .args .state) (d .args .cells .now) queue (d .args .request) _
+    ∙ sym (left-by-verdict (d .args .plan .now) _ (d .args .request) _
     (desk-unfit (d .args .plan .now) (d .args .state) (d .args .cells .now) (d .args .size) (d .args .records) (d .args .request)
     queue l q (opens e) (sym (g .before .before .check-desk .ensures .0) ∙ not-true _ (g .if1 .taken))))
 
@@ -91,7 +91,7 @@ returns-3 c = λ queue l q.
     let e = g .before .before .before .before .before in
     let d = e .before .before .before .before .before .before in
     c .before .before .admitted-step .ensures queue l
-    ∙ sym (left-by-verdict (d .args .plan .now) (d .args .state) (d .args .cells .now) queue (d .args .request) _
+    ∙ sym (left-by-verdict (d .args .plan .now) _ (d .args .request) _
     (by-operation (d .args .plan .now) (d .args .state) (d .args .cells .now) (d .args .size) (d .args .records) (d .args .request)
     queue l q (opens e) (sym (g .before .before .check-desk .ensures .0) ∙ not-false _ (g .if1 .left))))
 

@@ -8,9 +8,11 @@ use Rattle.plan.specs.Decode.{planOf}
 use Rattle.operation.specs.Operation.{deskOf}
 use Rattle.conflict.specs.Class.{classOf}
 use Rattle.queue.specs.declared.record.Request.{Request}
+use Rattle.desk.specs.Holding.{holding}
 use Rattle.desk.specs.Queueing.{operationOf}
 use Rattle.requests.specs.Request.{routed, unchanged, redirected}
-use Rattle.requests.specs.Route.{Way, wayOf, wayBy}
+use Rattle.requests.specs.Route.{wayOf, wayBy}
+use Rattle.requests.specs.declared.route.Route.{Route}
 use Rattle.requests.proofs.Routes.{leftBy, routed-by-way}
 use borrow.Author.Needs.{needs}
 use Rattle.requests.proofs.asking.routed_step.Statement.{statement}
@@ -44,51 +46,40 @@ same-length : tie.Need-same-length
 same-length c = search needs
 
 -- what the definition leaves is what it leaves for the way found
-found : (c : tie.After-route-of) (queue : List Request) →
+found : (c : tie.After-route-of) (queue : List Request) (w : Route) → c .route-of .result ≡ w →
     let d = c .before .before .before .before in
+    let h = holding (d .args .state) (d .args .cells .now) queue in
     let p = planOf (d .args .plan .now) in
-    routed (d .args .state) (d .args .cells .now) queue (classOf p (operationOf (d .args .request)))
-    (eqb (deskOf p (operationOf (d .args .request))) (d .args .state .desk)) p (d .args .request)
-    ≡ leftBy (d .args .state) (d .args .cells .now) queue p (d .args .request) (wayOf (c .route-of .result))
-found c queue =
+    leftBy h p (d .args .request) (wayOf w)
+    ≡ routed h (classOf p (operationOf (d .args .request))) (eqb (deskOf p (operationOf (d .args .request))) (d .args .state .desk)) p
+    (d .args .request)
+found c queue w e =
     let d = c .before .before .before .before in
+    let h = holding (d .args .state) (d .args .cells .now) queue in
     let p = planOf (d .args .plan .now) in
     let k = classOf p (operationOf (d .args .request)) in
-    routed-by-way (d .args .state) (d .args .cells .now) queue p (d .args .request) k
-    (eqb (deskOf p (operationOf (d .args .request))) (d .args .state .desk))
-    ∙ ap (λ (w : Way). leftBy (d .args .state) (d .args .cells .now) queue p (d .args .request) w)
-    (ap (λ (n : ℕ). wayBy k (eqb n (d .args .state .desk))) (sym (c .before .operation-desk .ensures)) ∙ sym (c .route-of .ensures))
+    ap (leftBy h p (d .args .request)) (sym (ap wayOf e) ∙ c .route-of .ensures
+    ∙ ap (λ (n : ℕ). wayBy k (eqb n (d .args .state .desk))) (c .before .operation-desk .ensures))
+    ∙ sym (routed-by-way h p (d .args .request) k (eqb (deskOf p (operationOf (d .args .request))) (d .args .state .desk)))
 
 returns : tie.Need-returns
 returns c = λ queue l.
     let e = c .before .before .before .before in
-    let f = e .before .before in
-    let d = f .before .before .before .before in
-    let p = planOf (d .args .plan .now) in
-    c .before .before .run-step .ensures queue l
-    ∙ sym (found f queue
-    ∙ ap (λ r. leftBy (d .args .state) (d .args .cells .now) queue p (d .args .request) (wayOf r)) (e .enum-told .given .1))
+    c .before .before .run-step .ensures queue l ∙ found (e .before .before) queue _ (e .enum-told .given .1)
 
 returns-2 : tie.Need-returns-2
 returns-2 c = λ queue l.
     let e = c .before in
-    let f = e .before .before in
-    let d = f .before .before .before .before in
-    let p = planOf (d .args .plan .now) in
-    c .wait-step .ensures (d .args .cells .now) queue l
-    ∙ sym (found f queue
-    ∙ ap (λ r. leftBy (d .args .state) (d .args .cells .now) queue p (d .args .request) (wayOf r)) (e .enum-told2 .given .1))
+    c .wait-step .ensures _ queue l ∙ found (e .before .before) queue _ (e .enum-told2 .given .1)
 
 returns-3 : tie.Need-returns-3
 returns-3 c = λ queue l.
     let e = c .before in
     let f = e .before .before in
     let d = f .before .before .before .before in
-    let p = planOf (d .args .plan .now) in
     c .unchanged-step .ensures (d .args .cells .now) queue l
-    ∙ ap (λ (n : ℕ). unchanged (d .args .state) (d .args .cells .now) queue (redirected n)) (f .before .operation-desk .ensures)
-    ∙ sym (found f queue
-    ∙ ap (λ r. leftBy (d .args .state) (d .args .cells .now) queue p (d .args .request) (wayOf r)) (e .enum-told3 .given .1))
+    ∙ ap (λ (n : ℕ). unchanged (holding (d .args .state) (d .args .cells .now) queue) (redirected n)) (f .before .operation-desk .ensures)
+    ∙ found f queue _ (e .enum-told3 .given .1)
 
 pub routed-step-spec : {M : Type 1} → statement M
 routed-step-spec =

@@ -4,6 +4,7 @@ use mathlib.Core.Path.{_∙_, ap₂}
 use mathlib.Core.List.{List}
 use Prim.Native.Nat.{ℕ}
 use Rattle.operation.specs.Run.{Reply}
+use Rattle.desk.specs.Holding.{holding}
 use Rattle.requests.specs.Request.{replied, unchanged}
 use borrow.Author.Needs.{needs}
 use Rattle.requests.proofs.asking.run_step.Statement.{statement}
@@ -23,7 +24,7 @@ returns c = λ queue l.
     let e = c .before .before .before in
     let d = e .before .before .before .before in
     c .unchanged-step .ensures _ queue l
-    ∙ ap₂ (λ (reply : Reply) (cells : List ℕ). unchanged (d .args .state) cells queue (replied reply))
+    ∙ ap₂ (λ (reply : Reply) (cells : List ℕ). unchanged (holding (d .args .state) cells queue) (replied reply))
     (e .run-operation .ensures .0) (e .run-operation .ensures .1)
 
 pub run-step-spec : {M : Type 1} → statement M

@@ -9,6 +9,7 @@ use Rattle.lists.proofs.Laws.{take-remainder}
 use Rattle.plan.specs.Decode.{planOf}
 use Rattle.plan.proofs.Accepted.{accepted-gives, desk-count}
 use Rattle.token.specs.Forward.{foreignWords}
+use Rattle.desk.specs.Holding.{holding}
 use Rattle.desk.specs.Queueing.{waitingIn}
 use Rattle.visits.specs.Running.{allMade}
 use Rattle.visits.proofs.Questions.{Passable, questions-give}
@@ -35,8 +36,8 @@ cast-waiting c = search needs
 
 adm : (c : tie.Start)
     → let a = c .args in
-    Passable (a .plan .now) (a .state) (a .cells .now) (a .records) (a .frame .now) (a .out .now) (a .replies .now)
-adm c = questions-give _ _ _ _ _ _ _ (c .pre .0)
+    Passable (a .plan .now) (holding (a .state) (a .cells .now) (a .records)) (a .frame .now) (a .out .now) (a .replies .now)
+adm c = questions-give _ _ _ _ _ (c .pre .0)
 
 low : (c : tie.Start) → 4 ≤ length (c .args .frame .now)
 low c = frame-size _ _ (adm c .frame) .0
@@ -65,7 +66,7 @@ part-forward-foreign-end c = omega (arith, adm (c .before .before .before .befor
 forward-foreign-requires : tie.Need-forward-foreign-requires
 forward-foreign-requires c κs =
     let s = c .before .before .before .before .before .before .before .before .before .before in
-    (written _ _ _ _ _ _ _ (adm s) _ (part-is (s .args .frame .now)), body-room _ _ _ _ _ _ _ (adm s) _ (part-is (s .args .frame .now)))
+    (written _ _ _ _ _ (adm s) _ (part-is (s .args .frame .now)), body-room _ _ _ _ _ (adm s) _ (part-is (s .args .frame .now)))
 
 -- the others' words behind words 0 and 1
 copied : (c : tie.After-forward-foreign)
@@ -79,7 +80,7 @@ copied c =
     let s = start-of c in
     let o = s .args .out .now in
     record {
-      room = words-fit _ _ _ _ _ _ _ (adm s) _ (part-is (s .args .frame .now)) _ (c .forward-foreign .ensures .0);
+      room = words-fit _ _ _ _ _ (adm s) _ (part-is (s .args .frame .now)) _ (c .forward-foreign .ensures .0);
       count = ap (λ (k : ℕ). 2 + k) (c .forward-foreign .ensures .1 .0);
       words = ap (putMid 2 (length o - 2) o) (c .forward-foreign .ensures .1 .1);
     }
@@ -109,7 +110,7 @@ run-waiting-requires c κs =
     let n = 2 + k .forward-foreign .result in (
       adm s .waiting,
       s .pre .1,
-      all-run _ _ _ _ _ _ _ (adm s) _ (part-is (s .args .frame .now)) _ (k .forward-foreign .ensures .0) _
+      all-run _ _ _ _ _ (adm s) _ (part-is (s .args .frame .now)) _ (k .forward-foreign .ensures .0) _
           (omega (arith, copied-room (copied k), copied-length (copied k), ap length (take-remainder o1 n), length-drop n o1)),
     )
 
@@ -190,7 +191,7 @@ returns c =
     let w = runs (c .before .before .before .before .before .before) in
     let k = forwards w in
     let s = start-of k in
-    passed-is _ _ _ _ _ _ _ (adm s) _ (part-is (s .args .frame .now)) _ (k .forward-foreign .ensures .0) _ _ _ _ _
+    passed-is _ _ _ _ _ (adm s) _ (part-is (s .args .frame .now)) _ (k .forward-foreign .ensures .0) _ _ _ _ _
     (sym (desk-count (s .args .plan .now))) (end-is (joined w)) (w .run-waiting .ensures .store)
     (c .before .before .seal .ensures ∙ sealed-over (joined w) _ _) (w .run-waiting .ensures .answers)
 

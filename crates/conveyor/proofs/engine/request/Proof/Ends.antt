@@ -28,6 +28,7 @@ use Rattle.queue.specs.declared.record.Request.{Request}
 use Rattle.queue.specs.Queue.{recordsOf}
 use Rattle.queue.proofs.record.Request as T
 use Rattle.desk.specs.declared.state.Desk.{Desk}
+use Rattle.desk.specs.Holding.{holding}
 use Rattle.requests.specs.declared.asking.RequestResult.{RequestResult}
 use Rattle.requests.specs.declared.asking.RequestStep.{RequestStep}
 use Rattle.requests.specs.Request.{recordOf, requestResult}
@@ -111,7 +112,7 @@ module _ (x : Entry) where
   -- what the core says of its step and of the store that it left
   abbrev pub Says : RequestStep → List ℕ → Type 0
   Says s cells′ = (zs : List Request) → length zs ≡ length (x .queue .now) → recordsOf zs ≡ recordsOf (x .queue .now)
-      → steppedOf s cells′ zs ≡ requestResult (x .plan .now) (x .state) (x .cells .now) zs
+      → steppedOf s cells′ zs ≡ requestResult (x .plan .now) (holding (x .state) (x .cells .now) zs)
       (recordOf (x .client) (x .transaction) (x .params))
 
   module _ {M : Type 1} (𝓤 : URA M) (H : Heap 𝓤) (A : Atoms 𝓤) (mem : Memory → SProp 𝓤) (run : Routine → Fun 𝓤) where

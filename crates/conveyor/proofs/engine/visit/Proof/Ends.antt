@@ -28,6 +28,7 @@ use Rattle.queue.specs.Queue.{recordsOf}
 use Rattle.queue.proofs.record.Request as T
 use Rattle.queue.proofs.Records.{Shared}
 use Rattle.desk.specs.declared.state.Desk.{Desk}
+use Rattle.desk.specs.Holding.{holding}
 use Rattle.visits.specs.declared.visiting.VisitResult.{VisitResult}
 use Rattle.visits.specs.Visit.{visitResult}
 use Rattle.visits.specs.Answer.{visitedOf}
@@ -115,8 +116,8 @@ module _ (x : Entry) where
   abbrev pub Says : VisitResult → List ℕ → List ℕ → List ℕ → Type 0
   Says r cells′ out′ replies′ =
       (zs : List Request) → length zs ≡ length (x .queue .now) → recordsOf zs ≡ recordsOf (x .queue .now)
-      → visitedOf r cells′ out′ replies′ ≡ visitResult (x .plan .now) (x .state) (x .cells .now) zs (x .frame .now) (x .out .now)
-      (x .replies .now)
+      → visitedOf r cells′ out′ replies′ ≡ visitResult (x .plan .now) (holding (x .state) (x .cells .now) zs) (x .frame .now)
+      (x .out .now) (x .replies .now)
 
   module _ {M : Type 1} (𝓤 : URA M) (H : Heap 𝓤) (A : Atoms 𝓤) (mem : Memory → SProp 𝓤) (run : Routine → Fun 𝓤) where
     -- the tokens that the core hands back
