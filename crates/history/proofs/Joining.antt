@@ -22,6 +22,7 @@ use Rattle.desk.specs.Holding.{Holding}
 use Rattle.desk.specs.Queueing.{operationOf}
 use Rattle.desk.specs.Admission.{deskBuffersFit}
 use Rattle.requests.specs.Request.{Requested, served, routed, enqueued, unchanged, requestVerdict, requestResult}
+use Rattle.requests.proofs.Joining.{one-stored}
 use Rattle.visits.specs.Visit.{visitedBy, visitVerdict, visitResult}
 use Rattle.history.specs.History.{requested, visited, forwardingRefused, holdingAfter}
 use Rattle.history.specs.Answering.{WaitsAt}
@@ -55,9 +56,9 @@ module _ (plan : List ℕ) (h : Holding) where
           record {
             keeps = λ k t w. (
               omega (arith, w .0),
-              getD-set-other (h .queue) (h .state .waiting) k r noRequest (λ q. omega (arith, w .0)) ∙ w .1,
+              rw (← one-stored h r room) (getD-set-other (h .queue) (h .state .waiting) k r noRequest (λ q. omega (arith, w .0)) ∙ w .1),
             );
-            joins = λ f. (omega arith, getD-set-same (h .queue) (h .state .waiting) r noRequest room);
+            joins = λ f. (omega arith, rw (← one-stored h r room) (getD-set-same (h .queue) (h .state .waiting) r noRequest room));
           }
       by-room false e = other (h .cells) (asked.requestRefused 9) refl
 

@@ -6,7 +6,7 @@ use mathlib.Core.Bool.{Bool, true, false, _&&_, cond}
 use mathlib.Core.List.{List, [], _∷_, map, map-append}
 use native.Mathlib.Omega.{arith}
 use lib.Dec.{ltb, eqb}
-use lib.ListN.{length, getD, take, length-map, length-set}
+use lib.ListN.{length, getD, take, length-map}
 use lib.Seq.{length-take-le}
 use borrow.Author.Tests.{ltb-true, eqb-true, le-leb, eq-eqb}
 use Rattle.verdict.specs.Verdict.{Verdict, accepted, refused, isAccepted}
@@ -23,12 +23,12 @@ use Rattle.conflict.proofs.Classes.{class-free, class-local, class-global}
 use Rattle.queue.specs.declared.record.Request.{Request}
 use Rattle.desk.specs.declared.state.Desk.{Desk}
 use Rattle.desk.specs.Holding.{Holding, waitingAt}
-use Rattle.desk.specs.Queueing.{operationOf}
+use Rattle.desk.specs.Queueing.{operationOf, joinQueue}
 use Rattle.desk.specs.Admission.{deskBuffersFit, waitsHere, deskFits}
-use Rattle.requests.specs.Request.{Requested, recordOf, served, routed, ranNow, enqueued, unchanged, JoinsQueue, requestVerdict}
+use Rattle.requests.specs.Request.{Requested, recordOf, served, routed, ranNow, enqueued, unchanged, requestVerdict}
 use Rattle.requests.specs.Request.{requestResult}
 use Rattle.requests.specs.Request as asked
-use Rattle.requests.proofs.Joining.{joins-queue}
+use Rattle.requests.proofs.Joining.{enqueued-length, joins-queue}
 use Rattle.serial.specs.System.{System}
 use Rattle.serial.specs.Desk as desk
 use Rattle.serial.specs.Step as step
@@ -113,7 +113,7 @@ module _ (ws : List ℕ) (accept : planVerdict ws ≡ accepted) (class : Operati
   waiting-count = length-map (waitingAt h) requestSeen ∙ length-take-le (d .waiting) (h .queue) (ok .room)
 
   module _ (p : Passes) where
-    pub joined : d .waiting < 32 → JoinsQueue h r
+    pub joined : d .waiting < 32 → waitingAt (holdingAfter h (requested (enqueued h r))) ≡ joinQueue (waitingAt h) r
     joined l = joins-queue h r (omega (arith, p .whole))
 
     now-seen : seen (ranNow h (planOf ws) o) ≡ step.requestStep S step.immediate (view h) (requestSeen r)
@@ -171,6 +171,7 @@ module _ (ws : List ℕ) (accept : planVerdict ws ≡ accepted) (class : Operati
   unfolding deskFits waitsHere
   joins-sound p l c b =
       let s = six ws h (ok .fits) in
+      let long = enqueued-length h r (omega (arith, p .whole)) in
       let here : waitsHere (planOf ws) (d .desk) r ≡ true = rw (p .runs .passes, c, b) refl in
       record {
         desk = refl;
@@ -179,8 +180,8 @@ module _ (ws : List ℕ) (accept : planVerdict ws ≡ accepted) (class : Operati
             (and-true _ _ (eq-eqb (d .awaited % planOf ws .desks) (d .desk) (s .turn))
             (ap (every (waitsHere (planOf ws) (d .desk))) (joined p l)
             ∙ every-last (waitsHere (planOf ws) (d .desk)) (waitingAt h) r (s .each) here)));
-        size = length-set (h .queue) (d .waiting) r ∙ ok .size;
-        room = omega (arith, length-set (h .queue) (d .waiting) r, p .whole);
+        size = long ∙ ok .size;
+        room = omega (arith, long, p .whole);
         runs = subst (All (Runs (planOf ws))) (sym (joined p l))
             (All-append (Runs (planOf ws)) (waitingAt h) (r ∷ []) (ok .runs) (p .runs, tt));
       }

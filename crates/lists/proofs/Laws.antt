@@ -23,5 +23,5 @@ pub use Properties.{All-append, All-left, All-right, All-part, All-mem, mem-All,
 pub use Ends.{none-left, none-right, one-more, snoc-own, snoc-other, snoc-nil, cons-in-snoc, snoc-in-cons}
 pub use Remainders.{take-remainder, put-remainder}
 pub use Tabulate.{length-tabulate, getD-tabulate, whole-table}
-pub use Overwritten.{write-next, write-two, overwritten-length, overwritten-twice}
+pub use Overwritten.{stored-at, write-next, write-two, overwritten-length, overwritten-twice}
 pub use Filled.{Filling, fill-none, fill-size, fill-length, fill-same, fill-word, fill-part, fill-done}

@@ -8,7 +8,7 @@ use lib.Dec.{eqb}
 use lib.ListN.{length}
 use borrow.Author.Tests.{eqb-true, eq-eqb, ne-eqb}
 use Rattle.verdict.specs.Verdict.{Verdict, accepted, refused, ask, _then_}
-use Rattle.verdict.proofs.Verdicts.{then-accepted, then-associates, then-only-after-yes}
+use Rattle.verdict.proofs.Verdicts.{then-accepted, ask-accepted, then-associates, then-only-after-yes}
 use Rattle.lists.proofs.Laws.{and-snd}
 use Rattle.plan.specs.Decode.{planOf}
 use Rattle.plan.specs.Admission.{planVerdict}
@@ -44,9 +44,15 @@ module _ (ws : List ℕ) (cells : List ℕ) (size : ℕ) where
       unfolding openingVerdict
       buffers-fit g = rw (e, eq-eqb _ _ f, eq-eqb _ _ g)
 
-  pub plan-passes : openingVerdict ws cells size ≡ accepted → planVerdict ws ≡ accepted
-  unfolding openingVerdict
-  plan-passes e = then-accepted (planVerdict ws) _ e .0
+  module _ (e : openingVerdict ws cells size ≡ accepted) where
+    pub plan-passes : planVerdict ws ≡ accepted
+    unfolding openingVerdict
+    plan-passes = then-accepted (planVerdict ws) _ e .0
+
+    pub queue-long : size ≡ 32
+    unfolding openingVerdict
+    queue-long =
+        eqb-true size 32 (and-snd (eqb (length cells) 1024) _ (ask-accepted 5 _ (then-accepted (planVerdict ws) _ e .1)))
 
 -- ---- all of them, of a queue with this length and these first records
 

@@ -1,11 +1,11 @@
 -- A request at a desk: everything that the call leaves, for good and bad input alike.
 use Prim.Native.Nat.{ℕ, _+_}
-use mathlib.Core.Path.{_≡_}
 use mathlib.Core.Bool.{Bool, true, false, cond}
 use mathlib.Core.List.{List}
 use lib.Dec.{ltb, eqb}
-use lib.ListN.{getD, set}
+use lib.ListN.{getD}
 use Rattle.verdict.specs.Verdict.{Verdict, ask, _then_, ifAccepted}
+use Rattle.lists.specs.Lists.{overwritten}
 use Rattle.plan.specs.Plan.{Plan}
 use Rattle.plan.specs.Decode.{planOf}
 use Rattle.plan.specs.Admission.{planVerdict}
@@ -15,8 +15,8 @@ use Rattle.operation.specs.Run.{Reply, applyUpdate, run}
 use Rattle.conflict.specs.Class.{Class, free, local, global, classOf}
 use Rattle.queue.specs.declared.record.Request.{Request}
 use Rattle.desk.specs.declared.state.Desk.{Desk}
-use Rattle.desk.specs.Holding.{Holding}
-use Rattle.desk.specs.Queueing.{operationOf, waitingIn, joinQueue}
+use Rattle.desk.specs.Holding.{Holding, waitingAt}
+use Rattle.desk.specs.Queueing.{operationOf, joinQueue}
 use Rattle.desk.specs.Admission.{deskBuffersFit, deskFits}
 use Rattle.queue.specs.Queue.{queueSize}
 
@@ -48,18 +48,14 @@ module _ (h : Holding) where
     queue = h .queue;
   }
 
-  -- a global one waits: it joins the waiting records by `joinQueue`, for which one record is stored
+  -- a global one waits: it joins those that wait "in the order laid down for the row", and they are written over the front of the queue
   abbrev pub enqueued : Request → Requested
   enqueued r = record {
     answer = waits;
     state = record { desk = h .state .desk; waiting = h .state .waiting + 1; awaited = h .state .awaited };
     cells = h .cells;
-    queue = set (h .queue) (h .state .waiting) r;
+    queue = overwritten (joinQueue (waitingAt h) r) (h .queue);
   }
-
-  -- the waiting records are then those before it, joined by the rule of the queue
-  abbrev pub JoinsQueue : Request → Type 0
-  JoinsQueue r = waitingIn (enqueued r .state .waiting) (enqueued r .queue) ≡ joinQueue (waitingIn (h .state .waiting) (h .queue)) r
 
   -- where the operation goes, by its class and by whether this desk is its own
   abbrev pub routed : Class → Bool → Plan → Request → Requested

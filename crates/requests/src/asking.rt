@@ -86,8 +86,9 @@ fn run_step(
     unchanged_step(RequestAnswer::Replied(reply), state, size, request)
 }
 
-// Question 9; then the request waits, behind those that wait.
+// Question 9; then the request joins those that wait. They stand in the queue already, so that one record is stored, behind them.
 fn wait_step(state: Desk, size: usize, request: Request) -> RequestStep
+    requires { ⌜ size ≡ queueSize ⌝ }
     ensures { λ r. ⌜ ((cells : List ℕ) (queue : List Queued) → length queue ≡ size → steppedOf r cells queue
         ≡ cond (ltb (state .waiting) queueSize) (enqueued (holding state cells queue) request)
         (unchanged (holding state cells queue) (requestRefused 9))) ⌝ }
@@ -122,7 +123,7 @@ fn routed_step(
     at: usize,
     checked: DeskCheck,
 ) -> RequestStep
-    requires { ⌜ Placed (now plan) request at × TableHolds (now plan) checked ⌝ }
+    requires { ⌜ Placed (now plan) request at × TableHolds (now plan) checked × (size ≡ queueSize) ⌝ }
     ensures { λ r. ⌜ ((queue : List Queued) → length queue ≡ size → steppedOf r (now (cells .exit)) queue
         ≡ routed (holding state (now (cells .entry)) queue) (classOf (planOf (now (plan .entry))) (operationOf request))
         (eqb (deskOf (planOf (now (plan .entry))) (operationOf request)) (state .desk)) (planOf (now (plan .entry))) request) ⌝ }
@@ -146,7 +147,8 @@ fn admitted_step(
     request: Request,
     checked: DeskCheck,
 ) -> RequestStep
-    requires { ⌜ (planVerdict (now plan) ≡ accepted) × (now places ≡ transactionPlaces (now plan)) × TableHolds (now plan) checked ⌝ }
+    requires { ⌜ (planVerdict (now plan) ≡ accepted) × (now places ≡ transactionPlaces (now plan)) × TableHolds (now plan) checked
+        × (size ≡ queueSize) ⌝ }
     ensures { λ r. ⌜ ((queue : List Queued) → length queue ≡ size → steppedOf r (now (cells .exit)) queue
         ≡ served (holding state (now (cells .entry)) queue) (operationVerdict (planOf (now (plan .entry))) (operationOf request))
         (planOf (now (plan .entry))) request) ⌝ }

@@ -2,12 +2,18 @@
 -- Assumes nothing.
 use mathlib.Core.Path.{_≡_, refl, _∙_, sym, ap, ap₂}
 use mathlib.Core.List.{List, [], _∷_, _++_, append-assoc}
-use Prim.Native.Nat.{ℕ, suc, _+_, _-_, _≤_, _<_}
+use Prim.Native.Nat.{ℕ, zero, suc, _+_, _-_, _≤_, _<_}
 use native.Mathlib.Numerals.{add-one}
 use native.Mathlib.Omega.{arith}
-use lib.ListN.{length, getD, set, drop, length-append, length-drop}
+use lib.ListN.{length, getD, set, take, drop, length-append, length-drop}
 use lib.Seq.{drop-cons, set-at, append-snoc, drop-append-add, drop-drop}
 use Rattle.lists.specs.Lists.Overwritten.{overwritten}
+
+-- one that is stored at its place stands behind those before it, and these are written over themselves
+pub stored-at : {A : Type 0} (l : List A) (i : ℕ) (x : A) → i < length l → set l i x ≡ overwritten (take i l ++ (x ∷ [])) l
+stored-at [] i x h = absurd (omega arith)
+stored-at (y ∷ l) zero x h = refl
+stored-at {A} (y ∷ l) (suc i) x h = ap (λ (t : List A). y ∷ t) (stored-at l i x (omega arith))
 
 -- one word more
 pub write-next : (p o : List ℕ) (x : ℕ) → length p < length o → set (overwritten p o) (length p) x ≡ overwritten (p ++ (x ∷ [])) o
@@ -28,7 +34,7 @@ write-two p o k x y e h =
     ∙ write-next q o y (omega arith)
     ∙ ap (λ (t : List ℕ). overwritten t o) (append-assoc p (x ∷ []) (y ∷ []))
 
-pub overwritten-length : (p o : List ℕ) → length p ≤ length o → length (overwritten p o) ≡ length o
+pub overwritten-length : {A : Type 0} (p o : List A) → length p ≤ length o → length (overwritten p o) ≡ length o
 overwritten-length p o h = simp (length-append, length-drop) (omega arith)
 
 -- what is written over earlier words leaves none of them

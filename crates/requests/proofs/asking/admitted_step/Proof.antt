@@ -32,7 +32,8 @@ placed c =
 routed-step-requires : tie.Need-routed-step-requires
 routed-step-requires c κs =
     let e = c .before in
-    (placed e, e .before .before .before .before .before .before .before .pre .2)
+    let d = e .before .before .before .before .before .before .before in
+    (placed e, d .pre .2, d .pre .3)
 
 enum-known-question : tie.Need-enum-known-question
 enum-known-question c = search needs

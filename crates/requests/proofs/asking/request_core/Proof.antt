@@ -80,7 +80,12 @@ admitted-step-requires : tie.Need-admitted-step-requires
 admitted-step-requires c κs =
     let g = c .before .before .before .before in
     let f = g .before .before in
-    (plan-passes (f .before), f .transaction-places .ensures, g .check-desk .ensures .1)
+    let d = f .before .before .before .before .before .before .before in (
+      plan-passes (f .before),
+      f .transaction-places .ensures,
+      g .check-desk .ensures .1,
+      handed.queue-long (d .args .plan .now) (d .args .cells .now) (d .args .size) (opens (f .before)),
+    )
 
 same-length-3 : tie.Need-same-length-3
 same-length-3 c = search needs
