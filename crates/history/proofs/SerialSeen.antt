@@ -6,6 +6,7 @@ use mathlib.Core.Bool.{Bool, true, false}
 use mathlib.Core.List.{List, [], _∷_, _++_, map, map-append}
 use lib.Dec.{eqb}
 use lib.ListN.{length, length-map}
+use Rattle.lists.specs.Lists.{assign}
 use Rattle.plan.specs.Decode.{planOf}
 use Rattle.operation.specs.Operation.{Operation, deskOf}
 use Rattle.conflict.specs.Class.{Class, free, local, global}
@@ -19,7 +20,7 @@ use Rattle.serial.specs.Order as order
 use Rattle.serial.specs.SerialRun as run
 use Rattle.serial.specs.History as history
 use Rattle.serial.proofs.Assign.{assign-map}
-use Rattle.history.specs.History.{Call, request, visit, assign}
+use Rattle.history.specs.History.{Call, request, visit}
 use Rattle.history.specs.Order.{Slot, globalRun, immediateRun, Finished}
 use Rattle.history.specs.SerialRun.{Serial, noteRequest, noteRun, noteJoin, noteVisit, ranked, note, noteAll}
 use Rattle.history.proofs.Protocol.{classSeen, system}
@@ -68,7 +69,7 @@ module _ (ws : List ℕ) (class : Operation → Class) (records : ℕ → ℕ) w
       made qs (s .heard) (map requestSeen (s .globals)) (s .latest) (map finishedSeen (s .finished))
       (suc (s .calls)))
       (assign-map (map requestSeen) p (s .queues p ++ (r ∷ [])) (s .queues)
-      ∙ ap (λ (q : List (desk.Request Operation)). history.assign p q (λ (p : ℕ). map requestSeen (s .queues p)))
+      ∙ ap (λ (q : List (desk.Request Operation)). assign p q (λ (p : ℕ). map requestSeen (s .queues p)))
       (map-append requestSeen (s .queues p) (r ∷ [])))
 
   request-noted : (k : Class) (own : Bool) (s : Serial) (p : ℕ) (r : Request) → serialSeen (noteRequest k own s p r)
@@ -88,10 +89,10 @@ module _ (ws : List ℕ) (class : Operation → Class) (records : ℕ → ℕ) w
       sym (length-map (s .globals ++ s .queues p) requestSeen) ∙ ap length joined in
       ap₂ (λ (qs : ℕ → List (desk.Request Operation)) (hs : ℕ → ℕ). made qs hs (map requestSeen (s .globals ++ s .queues p)) p
       (map finishedSeen (s .finished ++ ranked (s .calls) (length (s .globals)) (s .queues p))) (suc (s .calls)))
-      (assign-map (map requestSeen) p [] (s .queues)) (ap (λ (k : ℕ). history.assign p k (s .heard)) count)
+      (assign-map (map requestSeen) p [] (s .queues)) (ap (λ (k : ℕ). assign p k (s .heard)) count)
       ∙ ap₂ (λ (g : List (desk.Request Operation)) (fs : List (order.Finished Operation)).
-      made (history.assign p [] (λ (p : ℕ). map requestSeen (s .queues p)))
-      (history.assign p (length (gs ++ map requestSeen (s .queues p))) (s .heard)) g p fs (suc (s .calls)))
+      made (assign p [] (λ (p : ℕ). map requestSeen (s .queues p)))
+      (assign p (length (gs ++ map requestSeen (s .queues p))) (s .heard)) g p fs (suc (s .calls)))
       joined
       (map-append finishedSeen (s .finished) (ranked (s .calls) (length (s .globals)) (s .queues p))
       ∙ ap (λ (l : List (order.Finished Operation)). map finishedSeen (s .finished) ++ l)

@@ -6,6 +6,7 @@ use mathlib.Core.Bool.{Bool, true, false, cond}
 use mathlib.Core.List.{List, [], _∷_, _++_, List·Memᴰ}
 use lib.Dec.{eqb}
 use lib.ListN.{getD, take}
+use Rattle.lists.specs.Lists.{assign}
 use Rattle.plan.specs.Decode.{planOf}
 use Rattle.token.specs.Frame.{startingFrame}
 use Rattle.queue.specs.declared.record.Request.{Request}
@@ -63,9 +64,7 @@ abbrev pub written : Outcome → List (List ℕ)
 written (requested r) = []
 written (visited v) = frameWritten (v .answer) (v .out)
 
--- ---- the course. The function f with x at p:
-abbrev pub assign : {A : Type 0} → ℕ → A → (ℕ → A) → ℕ → A
-assign p x f q = cond (eqb q p) x (f q)
+-- ---- the course
 
 module _ (plan : List ℕ) where
   -- the call at a desk with this holding

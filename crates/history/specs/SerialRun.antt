@@ -4,6 +4,7 @@ use mathlib.Core.Bool.{Bool, true, false, cond}
 use mathlib.Core.List.{List, [], _∷_, _++_}
 use lib.Dec.{eqb}
 use lib.ListN.{length}
+use Rattle.lists.specs.Lists.{assign}
 use Rattle.plan.specs.Plan.{Plan}
 use Rattle.operation.specs.Operation.{Operation, deskOf}
 use Rattle.operation.specs.Admission.{IsOperation}
@@ -13,7 +14,7 @@ use Rattle.queue.specs.declared.record.Request.{Request}
 use Rattle.desk.specs.Queueing.{operationOf, joinQueue}
 use Rattle.requests.specs.Request.{recordOf}
 use Rattle.visits.specs.Waiting.{Answered}
-use Rattle.history.specs.History.{Call, request, visit, assign}
+use Rattle.history.specs.History.{Call, request, visit}
 use Rattle.history.specs.Order.{Finished, globalRun, immediateRun, sortOnto}
 
 -- ---- "its operation, classed as above": the classes are the ones defined over all operations

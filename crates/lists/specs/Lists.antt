@@ -4,8 +4,10 @@ pub mod Some
 pub mod Properties
 pub mod Tabulate
 pub mod Overwritten
+pub mod Assign
 unfoldable pub use Every.{every}
 unfoldable pub use Some.{some}
 pub use Properties.{All, Pairs}
 unfoldable pub use Tabulate.{tabulate}
 pub use Overwritten.{overwritten}
+pub use Assign.{assign}

@@ -5,7 +5,7 @@ use mathlib.Core.Path.{_≡_, refl, fun-ext}
 use mathlib.Core.Bool.{Bool, true, false, cond}
 use lib.Dec.{eqb}
 use Rattle.lists.proofs.Laws.{by-same, eqb-yes, eqb-no, eqb-self}
-use Rattle.serial.specs.History.{assign}
+use Rattle.lists.specs.Lists.{assign}
 
 cond-map : {A B : Type 0} (f : A → B) (b : Bool) (x y : A) → f (cond b x y) ≡ cond b (f x) (f y)
 cond-map f true x y = refl

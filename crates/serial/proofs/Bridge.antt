@@ -5,14 +5,14 @@ use Prim.Native.Nat.{ℕ, _<_}
 use mathlib.Core.Path.{_≡_, refl, sym, _∙_, ap}
 use mathlib.Core.List.{List, [], _∷_, _++_, map, map-append, List·Memᴰ, Memᴰ·map}
 use Rattle.lists.proofs.Laws.{by-same, eqb-yes, eqb-no}
-use Rattle.lists.specs.Lists.{All}
+use Rattle.lists.specs.Lists.{All, assign}
 use Rattle.serial.proofs.Assign.{assign-map}
 use Rattle.serial.specs.Store.{Store}
 use Rattle.serial.specs.Frame.{Frame, startFrame}
 use Rattle.serial.specs.Desk.{Desk, Call, request, visit, Answer, isRefused, sent}
 use Rattle.serial.specs.System.{System, Laws}
 use Rattle.serial.specs.Step.{serve}
-use Rattle.serial.specs.History.{assign, answers, desksAfter, newDesks, Framed, Proper}
+use Rattle.serial.specs.History.{answers, desksAfter, newDesks, Framed, Proper}
 use Rattle.serial.specs.SerialRun.{serial}
 use Rattle.serial.specs.Claim.{Serializable, Claim}
 use Rattle.serial.specs.Machine.{Machine, Words, atDesk, machineStep, machineAfter, seen, answerSeen, answersSeen, IfVisit}

@@ -6,14 +6,13 @@ use mathlib.Core.List.{List, [], _∷_, _++_, append-nil, List·Memᴰ}
 use native.Mathlib.Omega.{arith}
 use lib.ListN.{length, length-append}
 use Rattle.lists.proofs.Laws.{by-same, eqb-yes, eqb-no, All-mem, mem-All, one-more, snoc-nil}
-use Rattle.lists.specs.Lists.{All}
+use Rattle.lists.specs.Lists.{All, assign}
 use Rattle.serial.proofs.Assign.{assign-map, assign-same, assign-self}
 use Rattle.serial.specs.Store.{Store}
 use Rattle.serial.specs.Frame.{Frame}
 use Rattle.serial.specs.Desk.{Request, Desk, given, sent}
 use Rattle.serial.specs.System.{System, Laws}
 use Rattle.serial.specs.Step.{Route, immediate, enqueue, redirect, requestStep, outgoing, visitStep}
-use Rattle.serial.specs.History.{assign}
 use Rattle.serial.specs.Order.{immediateRun, place, insert}
 use Rattle.serial.specs.SerialRun.{Serial, noteNothing, noteRequest, noteVisit, ranked, order}
 use Rattle.serial.proofs.Sorting.{sortOnto-append}

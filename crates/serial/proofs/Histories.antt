@@ -7,12 +7,13 @@ use mathlib.Core.List.{List, [], _∷_, _++_, map, append-assoc, append-nil}
 use native.Mathlib.Omega.{arith}
 use native.Mathlib.Nat.{le-refl, mod-eq-of-lt}
 use Rattle.lists.proofs.Laws.{true-T}
+use Rattle.lists.specs.Lists.{assign}
 use Rattle.serial.specs.Store.{Store}
 use Rattle.serial.specs.Frame.{Frame, startFrame}
 use Rattle.serial.specs.Desk.{Request, Desk, Call, request, visit, deskCalled, Answer, refused, isRefused, given, sent}
 use Rattle.serial.specs.System.{System, Laws}
 use Rattle.serial.specs.Step.{Route, immediate, enqueue, redirect, route, requestStep, acceptedStep, serve}
-use Rattle.serial.specs.History.{assign, answerAt, stepAt, answers, desksAfter, newDesks, Framed, Proper}
+use Rattle.serial.specs.History.{answerAt, stepAt, answers, desksAfter, newDesks, Framed, Proper}
 use Rattle.serial.specs.SerialRun.{Serial, note, noteAll, newSerial}
 use Rattle.serial.specs.Visits.{frameAfter, latestFrame, framesAfter}
 use Rattle.serial.specs.AtEnd.{ProperFrom, answersOf, desksOf, serialOf, framesOf, latestOf}

@@ -8,12 +8,12 @@ use native.Mathlib.Omega.{arith}
 use native.Mathlib.Nat.{le-refl}
 use lib.ListN.{length, getD, List·getD-eq-default}
 use Rattle.lists.proofs.Laws.{by-same, by-less, eqb-no, eqb-self, All-part, snoc-own, snoc-other}
+use Rattle.lists.specs.Lists.{assign}
 use Rattle.serial.specs.Store.{Store, Update, applyUpdate, applyAll, Same, Within}
 use Rattle.serial.specs.Frame.{Frame}
 use Rattle.serial.specs.Desk.{Request, Desk, given}
 use Rattle.serial.specs.System.{System, Laws}
 use Rattle.serial.specs.Step.{immediate, requestStep}
-use Rattle.serial.specs.History.{assign}
 use Rattle.serial.specs.Order.{Finished, immediateRun, placeAt, place, upto, beyond, insert}
 use Rattle.serial.specs.SerialRun.{storeAfter, due}
 use Rattle.serial.specs.Hearing.{OwnCell, Hears, owed}

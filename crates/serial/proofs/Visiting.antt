@@ -8,13 +8,12 @@ use native.Mathlib.Omega.{arith}
 use native.Mathlib.Nat.{add-mod-right, le-refl}
 use lib.ListN.{length, getD, List·getD-eq-default}
 use Rattle.lists.proofs.Laws.{by-same, by-less, eqb-yes, eqb-no, eqb-self, All-append, All-part, snoc-own, snoc-other}
-use Rattle.lists.specs.Lists.{All}
+use Rattle.lists.specs.Lists.{All, assign}
 use Rattle.serial.specs.Store.{Store, Update, applyAll, Same, Within}
 use Rattle.serial.specs.Frame.{Frame, foreign, tag}
 use Rattle.serial.specs.Desk.{Request, Desk, given, sent}
 use Rattle.serial.specs.System.{System, Laws}
 use Rattle.serial.specs.Step.{runAll, repliesOf, updatesOf, caughtUp, outgoing, visitStep}
-use Rattle.serial.specs.History.{assign}
 use Rattle.serial.specs.Order.{Finished, placeAt, place, upto, beyond}
 use Rattle.serial.specs.SerialRun.{ranked, storeAfter, due}
 use Rattle.serial.specs.Hearing.{Hears, owed}

@@ -4,15 +4,12 @@ use mathlib.Core.Path.{_≡_}
 use mathlib.Core.Bool.{false, cond}
 use mathlib.Core.List.{List, [], _∷_, _++_, List·Memᴰ}
 use lib.Dec.{eqb}
+use Rattle.lists.specs.Lists.{assign}
 use Rattle.serial.specs.Store.{Store}
 use Rattle.serial.specs.Frame.{Frame}
 use Rattle.serial.specs.Desk.{Desk, Call, request, visit, deskCalled, Answer, isRefused, sent}
 use Rattle.serial.specs.System.{System}
 use Rattle.serial.specs.Step.{serve}
-
--- the function f with x at p
-abbrev pub assign : {A : Type 0} → ℕ → A → (ℕ → A) → ℕ → A
-assign p x f q = cond (eqb q p) x (f q)
 
 module _ (S : System) where
   open System S using (n, Op, Extra, Reply)

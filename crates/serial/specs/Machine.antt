@@ -4,11 +4,11 @@ use Prim.Native.Nat.{ℕ, _<_}
 use mathlib.Core.Path.{_≡_}
 use mathlib.Core.Bool.{false}
 use mathlib.Core.List.{List, [], _∷_, _++_, map, List·Memᴰ}
+use Rattle.lists.specs.Lists.{assign}
 use Rattle.serial.specs.Frame.{Frame, startFrame}
 use Rattle.serial.specs.Desk.{Desk, Call, request, visit, deskCalled, Answer, isRefused, sent}
 use Rattle.serial.specs.System.{System}
 use Rattle.serial.specs.Step.{serve}
-use Rattle.serial.specs.History.{assign}
 
 -- State is what a desk keeps from call to call, C a call with all that it brings, A all that a call leaves and answers; an answer is
 -- read with its call, which has the client's word. Ok is what a history keeps of the state at desk q, and Fine what is given of every

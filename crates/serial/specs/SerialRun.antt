@@ -4,11 +4,11 @@ use mathlib.Core.Bool.{Bool, true, false, cond}
 use mathlib.Core.List.{List, [], _∷_, _++_}
 use lib.ListN.{length}
 use lib.Dec.{eqb}
+use Rattle.lists.specs.Lists.{assign}
 use Rattle.serial.specs.Store.{Store}
 use Rattle.serial.specs.Desk.{Request, Call, request, visit}
 use Rattle.serial.specs.System.{System}
 use Rattle.serial.specs.Step.{Route, immediate, enqueue, redirect, route, runOne}
-use Rattle.serial.specs.History.{assign}
 use Rattle.serial.specs.Order.{Finished, globalRun, immediateRun, place, sortOnto}
 
 -- "a line of requests and a count g for each desk, a list of globals": queues, heard and globals. Besides: the desk of the latest
