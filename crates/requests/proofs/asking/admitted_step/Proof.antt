@@ -1,13 +1,10 @@
 -- Questions 7 and 8, and the route: each arm is the branch of the definition for its answer.
 -- Assumes nothing.
 use mathlib.Core.Path.{_∙_, sym, ap}
-use Rattle.verdict.specs.Verdict.{Verdict}
 use Rattle.plan.specs.Decode.{planOf}
 use Rattle.plan.specs.Place.{transactionPlace}
 use Rattle.operation.specs.Admission.{operationVerdict}
-use Rattle.desk.specs.Holding.{holding}
 use Rattle.desk.specs.Queueing.{operationOf}
-use Rattle.requests.specs.Request.{served}
 use Rattle.desk.specs.Place.{placeOf, Placed}
 use Rattle.desk.proofs.Asked.{placed-at, found-lacking}
 use borrow.Author.Needs.{needs}
@@ -47,22 +44,17 @@ same-length c = search needs
 returns : tie.Need-returns
 returns c = λ queue l.
     let e = c .before .before .before .before in
-    let d = e .before .before .before .before .before .before .before in
-    let h = holding (d .args .state) (d .args .cells .now) queue in
-    c .before .before .routed-step .ensures queue l
-    ∙ sym (ap (λ (v : Verdict). served h v (planOf (d .args .plan .now)) (d .args .request)) (placed e .admitted .passed))
+    rw (placed e .admitted .passed) (c .before .before .routed-step .ensures queue l)
 
 returns-2 : tie.Need-returns-2
 returns-2 c = λ queue l.
     let e = c .before .before in
     let f = e .before .before in
     let d = f .before .before .before .before in
-    let h = holding (d .args .state) (d .args .cells .now) queue in
-    c .unchanged-step .ensures (d .args .cells .now) queue l
-    ∙ sym (ap (λ (v : Verdict). served h v (planOf (d .args .plan .now)) (d .args .request))
-    (found-lacking (operationVerdict (planOf (d .args .plan .now)) (operationOf (d .args .request)))
+    let lacks = found-lacking (operationVerdict (planOf (d .args .plan .now)) (operationOf (d .args .request)))
     (transactionPlace (d .args .plan .now) (d .args .request .transaction)) _
-    (sym (ap placeOf (e .question .given .1)) ∙ f .locate .ensures)))
+    (sym (ap placeOf (e .question .given .1)) ∙ f .locate .ensures) in
+    rw lacks (c .unchanged-step .ensures _ queue l)
 
 pub admitted-step-spec : {M : Type 1} → statement M
 admitted-step-spec =

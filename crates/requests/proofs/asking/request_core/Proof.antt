@@ -3,10 +3,8 @@
 use mathlib.Core.Path.{_≡_, _∙_, sym, ap}
 use borrow.Author.Tests.{not-true, not-false}
 use Rattle.verdict.specs.Verdict.{accepted, verdictOf}
-use Rattle.plan.specs.Admission.{planVerdict}
 use Rattle.requests.specs.Step.{openingVerdict}
-use Rattle.requests.proofs.Handed.{opening-refused, desk-unfit, by-operation}
-use Rattle.requests.proofs.Handed as handed
+use Rattle.requests.proofs.Handed.{plan-passes, queue-long, opening-refused, desk-unfit, by-operation}
 use Rattle.requests.proofs.Routes.{left-by-verdict}
 use borrow.Author.Needs.{needs}
 use Rattle.requests.proofs.asking.request_core.Statement.{statement}
@@ -27,12 +25,8 @@ same-length c = search needs
 returns : tie.Need-returns
 returns c = λ queue l q.
     let e = c .before .before in
-    let f = e .before .before in
-    let d = f .before .before .before .before in
-    c .unchanged-step .ensures (d .args .cells .now) queue l
-    ∙ sym (left-by-verdict (d .args .plan .now) _ (d .args .request) _
-    (opening-refused (d .args .plan .now) (d .args .state) (d .args .cells .now) (d .args .size) (d .args .records) (d .args .request)
-    queue l q _ (sym (f .opening-verdict .ensures) ∙ ap verdictOf (e .question .given .1))))
+    c .unchanged-step .ensures _ queue l ∙ sym (left-by-verdict _ _ _ _ (opening-refused _ _ _ _ _ _ queue l q _
+    (sym (e .before .before .opening-verdict .ensures) ∙ ap verdictOf (e .question .given .1))))
 
 enum-told : tie.Need-enum-told
 enum-told c = search needs
@@ -43,19 +37,14 @@ opens : (c : tie.After-enum-told) →
     openingVerdict (d .args .plan .now) (d .args .cells .now) (d .args .size) ≡ accepted
 opens c = sym (c .before .before .opening-verdict .ensures) ∙ ap verdictOf (c .enum-told .given .1)
 
-plan-passes : (c : tie.After-enum-told) → planVerdict (c .before .before .before .before .before .before .args .plan .now) ≡ accepted
-plan-passes c =
-    let d = c .before .before .before .before .before .before in
-    handed.plan-passes (d .args .plan .now) (d .args .cells .now) (d .args .size) (opens c)
-
 transaction-places-requires : tie.Need-transaction-places-requires
-transaction-places-requires c κs = plan-passes c
+transaction-places-requires c κs = plan-passes _ _ _ (opens c)
 
 slice-aggregate-check-desk : tie.Need-slice-aggregate-check-desk
 slice-aggregate-check-desk c = search needs
 
 check-desk-requires : tie.Need-check-desk-requires
-check-desk-requires c κs = (plan-passes (c .before .before), c .before .transaction-places .ensures)
+check-desk-requires c κs = (plan-passes _ _ _ (opens (c .before .before)), c .before .transaction-places .ensures)
 
 unchanged-step-requires-2 : tie.Need-unchanged-step-requires-2
 unchanged-step-requires-2 c κs = search needs
@@ -66,12 +55,10 @@ same-length-2 c = search needs
 returns-2 : tie.Need-returns-2
 returns-2 c = λ queue l q.
     let g = c .before in
-    let e = g .before .before .before .before .before in
-    let d = e .before .before .before .before .before .before in
-    c .unchanged-step2 .ensures (d .args .cells .now) queue l
-    ∙ sym (left-by-verdict (d .args .plan .now) _ (d .args .request) _
-    (desk-unfit (d .args .plan .now) (d .args .state) (d .args .cells .now) (d .args .size) (d .args .records) (d .args .request)
-    queue l q (opens e) (sym (g .before .before .check-desk .ensures .0) ∙ not-true _ (g .if1 .taken))))
+    let k = g .before .before in
+    c .unchanged-step2 .ensures _ queue l
+    ∙ sym (left-by-verdict _ _ _ _ (desk-unfit _ _ _ _ _ _ queue l q (opens (k .before .before .before))
+    (sym (k .check-desk .ensures .0) ∙ not-true _ (g .if1 .taken))))
 
 slice-aggregate-admitted-step : tie.Need-slice-aggregate-admitted-step
 slice-aggregate-admitted-step c = search needs
@@ -80,12 +67,7 @@ admitted-step-requires : tie.Need-admitted-step-requires
 admitted-step-requires c κs =
     let g = c .before .before .before .before in
     let f = g .before .before in
-    let d = f .before .before .before .before .before .before .before in (
-      plan-passes (f .before),
-      f .transaction-places .ensures,
-      g .check-desk .ensures .1,
-      handed.queue-long (d .args .plan .now) (d .args .cells .now) (d .args .size) (opens (f .before)),
-    )
+    (plan-passes _ _ _ (opens (f .before)), f .transaction-places .ensures, g .check-desk .ensures .1, queue-long _ _ _ (opens (f .before)))
 
 same-length-3 : tie.Need-same-length-3
 same-length-3 c = search needs
@@ -93,12 +75,10 @@ same-length-3 c = search needs
 returns-3 : tie.Need-returns-3
 returns-3 c = λ queue l q.
     let g = c .before .before .before .before .before in
-    let e = g .before .before .before .before .before in
-    let d = e .before .before .before .before .before .before in
+    let k = g .before .before in
     c .before .before .admitted-step .ensures queue l
-    ∙ sym (left-by-verdict (d .args .plan .now) _ (d .args .request) _
-    (by-operation (d .args .plan .now) (d .args .state) (d .args .cells .now) (d .args .size) (d .args .records) (d .args .request)
-    queue l q (opens e) (sym (g .before .before .check-desk .ensures .0) ∙ not-false _ (g .if1 .left))))
+    ∙ sym (left-by-verdict _ _ _ _ (by-operation _ _ _ _ _ _ queue l q (opens (k .before .before .before))
+    (sym (k .check-desk .ensures .0) ∙ not-false _ (g .if1 .left))))
 
 pub request-core-spec : {M : Type 1} → statement M
 request-core-spec =

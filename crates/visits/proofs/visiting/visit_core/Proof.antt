@@ -3,7 +3,6 @@
 use mathlib.Core.Path.{_≡_, _∙_, sym, ap}
 use lib.ListN.{length}
 use Rattle.verdict.specs.Verdict.{accepted, verdictOf}
-use Rattle.plan.specs.Admission.{planVerdict}
 use Rattle.visits.specs.Core.{openingVerdict, tokenVerdict}
 use Rattle.visits.proofs.Visited.{plan-passes, opening-refused, passage-refused, left-passed, of-records}
 use borrow.Author.Needs.{needs}
@@ -27,9 +26,7 @@ same-length-3 c = search needs
 
 returns : tie.Need-returns
 returns c = λ queue l q.
-    let d = c .before .before .before .before .before .before .before .before .before .before .before .before in
-    opening-refused (d .args .plan .now) (d .args .state) (d .args .cells .now) (d .args .size) (d .args .records) (d .args .frame .now)
-    (d .args .out .now) (d .args .replies .now) queue l q _
+    opening-refused _ _ _ _ _ _ _ _ queue l q _
     (sym (c .before .before .before .opening-verdict .ensures) ∙ ap verdictOf (c .before .question .given .1))
 
 enum-told : tie.Need-enum-told
@@ -41,20 +38,14 @@ opens : (c : tie.After-enum-told)
     openingVerdict (a .plan .now) (a .cells .now) (a .size) (a .out .now) (a .replies .now) ≡ accepted
 opens c = sym (c .before .before .opening-verdict .ensures) ∙ ap verdictOf (c .enum-told .given .1)
 
-planned : (c : tie.After-enum-told)
-    → planVerdict (c .before .before .before .before .before .before .before .before .before .before .before .args .plan .now) ≡ accepted
-planned c =
-    let a = c .before .before .before .before .before .before .before .before .before .before .before .args in
-    plan-passes (a .plan .now) (a .cells .now) (a .size) (a .out .now) (a .replies .now) (opens c)
-
 transaction-places-requires : tie.Need-transaction-places-requires
-transaction-places-requires c κs = planned c
+transaction-places-requires c κs = plan-passes _ _ _ _ _ (opens c)
 
 slice-aggregate-token-verdict : tie.Need-slice-aggregate-token-verdict
 slice-aggregate-token-verdict c = search needs
 
 token-verdict-requires : tie.Need-token-verdict-requires
-token-verdict-requires c κs = (planned (c .before .before), c .before .transaction-places .ensures)
+token-verdict-requires c κs = (plan-passes _ _ _ _ _ (opens (c .before .before)), c .before .transaction-places .ensures)
 
 enum-known-question-2 : tie.Need-enum-known-question-2
 enum-known-question-2 c = search needs
@@ -70,10 +61,7 @@ same-length-6 c = search needs
 
 returns-2 : tie.Need-returns-2
 returns-2 c = λ queue l q.
-    let e = c .before .before .before .before .before .before in
-    let d = e .before .before .before .before .before .before .before .before .before .before .before in
-    passage-refused (d .args .plan .now) (d .args .state) (d .args .cells .now) (d .args .size) (d .args .records) (d .args .frame .now)
-    (d .args .out .now) (d .args .replies .now) queue l q (opens e) _
+    passage-refused _ _ _ _ _ _ _ _ queue l q (opens (c .before .before .before .before .before .before)) _
     (sym (c .before .before .before .token-verdict .ensures) ∙ ap verdictOf (c .before .question2 .given .1))
 
 enum-told-2 : tie.Need-enum-told-2
@@ -96,11 +84,8 @@ accepted-visit-requires : tie.Need-accepted-visit-requires
 accepted-visit-requires c κs =
     let f = c .before .before .before .before in
     let e = f .before .before .before .before .before in
-    let d = e .before .before .before .before .before .before .before .before .before .before .before in (
-      of-records (d .args .plan .now) (d .args .state) (d .args .cells .now) (d .args .size) (d .args .records) (d .args .frame .now)
-          (d .args .out .now) (d .args .replies .now) (long d) (opens e) (passes f),
-      f .before .before .before .before .transaction-places .ensures,
-    )
+    let d = e .before .before .before .before .before .before .before .before .before .before .before in
+    (of-records _ _ _ _ _ _ _ _ (long d) (opens e) (passes f), f .before .before .before .before .transaction-places .ensures)
 
 same-length-7 : tie.Need-same-length-7
 same-length-7 c = search needs
@@ -114,11 +99,8 @@ same-length-9 c = search needs
 returns-3 : tie.Need-returns-3
 returns-3 c = λ queue l q.
     let f = c .before .before .before .before .before .before .before .before .before .before .before in
-    let e = f .before .before .before .before .before in
-    let d = e .before .before .before .before .before .before .before .before .before .before .before in
     c .before .before .before .before .before .before .accepted-visit .ensures
-    ∙ left-passed (d .args .plan .now) (d .args .state) (d .args .cells .now) (d .args .size) (d .args .records) (d .args .frame .now)
-    (d .args .out .now) (d .args .replies .now) queue l q (opens e) (passes f)
+    ∙ left-passed _ _ _ _ _ _ _ _ queue l q (opens (f .before .before .before .before .before)) (passes f)
 
 pub visit-core-spec : {M : Type 1} → statement M
 visit-core-spec =
