@@ -21,7 +21,7 @@ use Rattle.operation.proofs.Cells.{names-of, of-names}
 use Rattle.conflict.specs.Touch.{deskMask}
 use Rattle.conflict.specs.Written.{written}
 use Rattle.conflict.specs.Class.{OtherDesk, Free, Local, Global, Class, free, local, global, isWrite, oneDeskEach, classBy, classOf}
-use Rattle.conflict.specs.Classification.{FreeMeans, LocalMeans, GlobalMeans, LocalByConflicts}
+use Rattle.conflict.specs.Classification.{FreeMeans, LocalMeans, GlobalMeans, LocalByConflicts, OneDeskNoGlobal}
 use Rattle.conflict.proofs.MaskMeaning.{desk-low, one-desk}
 use Rattle.conflict.proofs.WrittenMeaning.{written-gives, gives-written}
 use Rattle.conflict.proofs.Touching.{some-desk}
@@ -144,7 +144,7 @@ local-by-conflicts p o = (
 )
 
 -- "With one desk nothing is global."
-pub one-desk-no-global : (ws : List ℕ) → planVerdict ws ≡ accepted → planOf ws .desks ≡ 1 → (o : Operation) → Global (planOf ws) o → ⊥
+pub one-desk-no-global : OneDeskNoGlobal
 one-desk-no-global ws e n o g =
     g .1 (
       g .0,

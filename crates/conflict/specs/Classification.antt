@@ -32,3 +32,7 @@ LocalByConflicts =
     (p : Plan) (o : Operation)
     → Local p o ↔ ((Free p o → ⊥) × ((o′ : Operation) → IsOperation p o′ → OtherDesk p o o′ → (WriteConflict p o o′ → ⊥)
     × (ReadsFrom p o′ o → ⊥)))
+
+-- "With one desk nothing is global."
+abbrev pub OneDeskNoGlobal : Type 0
+OneDeskNoGlobal = (ws : List ℕ) → planVerdict ws ≡ accepted → planOf ws .desks ≡ 1 → (o : Operation) → Global (planOf ws) o → ⊥

@@ -13,12 +13,13 @@ use Rattle.operation.specs.Run.{Store, Reply, Outcome, run}
 use Rattle.conflict.specs.Class.{Class}
 use Rattle.desk.specs.Queueing.{operationOf}
 use Rattle.visits.specs.Waiting.{Answered}
+use Rattle.visits.specs.Running.{replyTo}
 use Rattle.serial.specs.System.{System}
 use Rattle.serial.specs.Order as order
 use Rattle.serial.specs.SerialRun as run
 use Rattle.serial.proofs.SerialOrder.{Ranged}
 use Rattle.history.specs.Order.{Finished, before, insert, sortOnto}
-use Rattle.history.specs.SerialRun.{ranOne, replyTo, storeAfter, due}
+use Rattle.history.specs.SerialRun.{ranOne, storeAfter, due}
 use Rattle.history.proofs.Operations.{Runs}
 use Rattle.history.proofs.Protocol.{system}
 use Rattle.history.proofs.Seen.{answeredSeen, ran-is, one-seen}

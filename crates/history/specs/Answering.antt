@@ -13,7 +13,7 @@ use Rattle.desk.specs.Holding.{Holding}
 use Rattle.requests.specs.Request.{recordOf, requestResult}
 use Rattle.requests.specs.Request as asked
 use Rattle.visits.specs.Visit.{forwarded, Visited, caughtUp, visitResult}
-use Rattle.visits.specs.Waiting.{runAll, replyWords}
+use Rattle.visits.specs.Waiting.{replySize, runAll, replyWords}
 use Rattle.visits.specs.Running.{replyTo}
 use Rattle.history.specs.History.{Call, request, visit, isRefused, outcomeAt, stepAt, holdingsAfter}
 
@@ -23,13 +23,9 @@ use Rattle.history.specs.History.{Call, request, visit, isRefused, outco
 abbrev pub WaitsAt : ℕ → Request → Holding → Type 0
 WaitsAt k r h = (k < h .state .waiting) × (getD (h .queue) k noRequest ≡ r)
 
--- "Replies go out as three words each"
-abbrev pub wordsOfReply : ℕ
-wordsOfReply = 3
-
 -- the words of reply k
 abbrev pub replyPart : ℕ → List ℕ → List ℕ
-replyPart k words = take wordsOfReply (drop (wordsOfReply * k) words)
+replyPart k words = take replySize (drop (replySize * k) words)
 
 -- ---- a visit, at a desk that holds h
 
@@ -45,7 +41,7 @@ module _ (plan : List ℕ) (h : Holding) (frame : List ℕ) where
     -- record k's reply is reply k: "kind 12 with bit 0 set if done, the client's word, the number", of its own run
     pub each : (k : ℕ) (r : Request) → WaitsAt k r h → replyPart k (left .replies) ≡ replyWords (replyTo (planOf plan) r (storeBefore k))
     -- "Words past what is written are untouched."
-    pub untouched : drop (wordsOfReply * count) (left .replies) ≡ drop (wordsOfReply * count) replies
+    pub untouched : drop (replySize * count) (left .replies) ≡ drop (replySize * count) replies
     -- "Then none waits"
     pub none-waits : left .state .waiting ≡ 0
 

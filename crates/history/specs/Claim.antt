@@ -10,7 +10,7 @@ use Rattle.plan.specs.Decode.{planOf}
 use Rattle.plan.specs.Admission.{planVerdict}
 use Rattle.operation.specs.Operation.{Operation}
 use Rattle.operation.specs.Run.{Store}
-use Rattle.conflict.specs.Class.{Class, JustOne}
+use Rattle.conflict.specs.Class.{Class, classOf, JustOne}
 use Rattle.queue.specs.declared.record.Request.{Request}
 use Rattle.desk.specs.Holding.{Holding}
 use Rattle.requests.specs.Request as asked
@@ -68,3 +68,11 @@ Claim =
     → (cells : List ℕ) (rows : ℕ → List Request) (cs : List Call) → ProperFromStart plan cells rows cs
     → Serializable (planOf plan) cells cs (outcomes plan (start cells rows) cs) (holdingsAfter plan (start cells rows) cs)
     (serial (planOf plan) class cs (map isRefused (outcomes plan (start cells rows) cs)))
+
+-- the claim with the class that the engine computes
+abbrev pub ComputedClaim : Type 0
+ComputedClaim =
+    (plan : List ℕ) → planVerdict plan ≡ accepted → (cells : List ℕ) (rows : ℕ → List Request) (cs : List Call)
+    → ProperFromStart plan cells rows cs
+    → Serializable (planOf plan) cells cs (outcomes plan (start cells rows) cs) (holdingsAfter plan (start cells rows) cs)
+    (serial (planOf plan) (classOf (planOf plan)) cs (map isRefused (outcomes plan (start cells rows) cs)))

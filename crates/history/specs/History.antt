@@ -2,15 +2,16 @@
 -- cite; how it starts; and the premise on accepted frames.
 use Prim.Native.Nat.{ℕ, _^_, _<_}
 use mathlib.Core.Path.{_≡_}
-use mathlib.Core.Bool.{Bool, true, false, cond}
+use mathlib.Core.Bool.{Bool, true, false}
 use mathlib.Core.List.{List, [], _∷_, _++_, List·Memᴰ}
-use lib.Dec.{eqb}
 use lib.ListN.{getD, take}
+use Rattle.verdict.specs.Verdict.{accepted}
 use Rattle.lists.specs.Lists.{assign}
 use Rattle.plan.specs.Decode.{planOf}
+use Rattle.plan.specs.Admission.{planVerdict}
 use Rattle.token.specs.Frame.{startingFrame}
 use Rattle.queue.specs.declared.record.Request.{Request}
-use Rattle.desk.specs.declared.state.Desk.{Desk}
+use Rattle.desk.specs.Answer.{opened, newDesk, newDeskResult}
 use Rattle.desk.specs.Holding.{Holding, holding}
 use Rattle.requests.specs.Request.{Requested, recordOf, requestResult}
 use Rattle.requests.specs.Request as asked
@@ -89,13 +90,12 @@ module _ (plan : List ℕ) where
 
 -- ---- the start
 
--- "A new desk p awaits p with none waiting"
-abbrev pub newState : ℕ → Desk
-newState p = record { desk = p; waiting = 0; awaited = p }
-
 -- "At its start each desk is as the new desk call gives it, the books are equal, the rows hold anything."
 abbrev pub start : List ℕ → (ℕ → List Request) → ℕ → Holding
-start cells rows p = holding (newState p) cells (rows p)
+start cells rows p = holding (newDesk p) cells (rows p)
+
+abbrev pub NewDeskStarts : Type 0
+NewDeskStarts = (plan : List ℕ) → planVerdict plan ≡ accepted → (p : ℕ) → p < planOf plan .desks → newDeskResult plan p ≡ opened (newDesk p)
 
 -- ---- the premise
 

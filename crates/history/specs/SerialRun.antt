@@ -1,19 +1,24 @@
 -- "The serial run is reckoned from the plan, the starting books and the list and, of the answers, only from whether each was a refusal."
 use Prim.Native.Nat.{ℕ, suc}
+use mathlib.Core.Path.{_≡_}
 use mathlib.Core.Bool.{Bool, true, false, cond}
 use mathlib.Core.List.{List, [], _∷_, _++_}
 use lib.Dec.{eqb}
 use lib.ListN.{length}
+use Rattle.verdict.specs.Verdict.{accepted}
 use Rattle.lists.specs.Lists.{assign}
 use Rattle.plan.specs.Plan.{Plan}
+use Rattle.plan.specs.Decode.{planOf}
+use Rattle.plan.specs.Admission.{planVerdict}
 use Rattle.operation.specs.Operation.{Operation, deskOf}
 use Rattle.operation.specs.Admission.{IsOperation}
 use Rattle.operation.specs.Run.{Store, applyUpdate, run}
-use Rattle.conflict.specs.Class.{Class, free, local, global, Free, Local, Global}
+use Rattle.conflict.specs.Class.{Class, free, local, global, Free, Local, Global, classOf}
 use Rattle.queue.specs.declared.record.Request.{Request}
 use Rattle.desk.specs.Queueing.{operationOf, joinQueue}
 use Rattle.requests.specs.Request.{recordOf}
 use Rattle.visits.specs.Waiting.{Answered}
+use Rattle.visits.specs.Running.{replyTo}
 use Rattle.history.specs.History.{Call, request, visit}
 use Rattle.history.specs.Order.{Finished, globalRun, immediateRun, sortOnto}
 
@@ -27,6 +32,10 @@ Is p o global = Global p o
 -- each operation of the plan has the class that is named for it
 abbrev pub Classifies : Plan → (Operation → Class) → Type 0
 Classifies p class = (o : Operation) → IsOperation p o → Is p o (class o)
+
+-- the class that the engine computes is such a one
+abbrev pub ComputedClassifies : Type 0
+ComputedClassifies = (plan : List ℕ) → planVerdict plan ≡ accepted → Classifies (planOf plan) (classOf (planOf plan))
 
 -- ---- the serial run
 
@@ -138,11 +147,8 @@ module _ (p : Plan) where
   storeAfter [] s = s
   storeAfter (e ∷ es) s = storeAfter es (ranOne (e .request) s)
 
-  abbrev pub replyTo : Request → Store → Answered
-  replyTo r s = record { client = r .client; reply = run p (operationOf r) s .reply }
-
   -- the replies to what call i finished, in serial order and with their clients' words
   abbrev pub due : ℕ → List Finished → Store → List Answered
   due i [] s = []
   due i (e ∷ es) s =
-      cond (eqb (e .by) i) (replyTo (e .request) s ∷ due i es (ranOne (e .request) s)) (due i es (ranOne (e .request) s))
+      cond (eqb (e .by) i) (replyTo p (e .request) s ∷ due i es (ranOne (e .request) s)) (due i es (ranOne (e .request) s))

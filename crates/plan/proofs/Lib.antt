@@ -4,3 +4,4 @@ pub mod Accepted
 pub mod Places
 pub mod Placing
 pub mod Steps
+pub mod Lengths

@@ -1,5 +1,6 @@
 -- Questions 1 to 4 ("questions at the door"), and the plan reader's verdict.
-use Prim.Native.Nat.{ℕ, zero, suc}
+use Prim.Native.Nat.{ℕ, zero, suc, _+_, _≤_}
+use mathlib.Core.Path.{_≡_}
 use mathlib.Core.Bool.{Bool, true, false, _&&_, _||_}
 use mathlib.Core.List.{List, [], _∷_}
 use lib.ListN.{length, take, drop}
@@ -72,3 +73,7 @@ planVerdict ws =
     ask 1 (hasHead ws)
     then ask 2 (countsInRange (headOf ws))
     then transactionsVerdict (headTransactions (headOf ws)) (drop 1 ws)
+
+-- "words in the plan (at most 417)": 32 transactions of 12 steps each, behind the head
+abbrev pub WellFormedFits : Type 0
+WellFormedFits = (n : ℕ) (ws : List ℕ) → n ≤ 32 → wellFormed n ws ≡ true → 1 + length ws ≤ longestPlan

@@ -1,7 +1,6 @@
 -- The definitions give every row of the table: antt computes them.
 -- Assumes nothing.
-use mathlib.Core.Path.{_≡_, refl}
-use mathlib.Core.List.{map}
+use mathlib.Core.Path.{refl}
 use lib.Count.{ones}
 use Rattle.lists.specs.Lists.{every, some}
 use Rattle.word.specs.Reserved.{sourceField, reservedZero}
@@ -26,9 +25,9 @@ use Rattle.visits.specs.Admission.{visitBuffersFit, turnVerdict}
 use Rattle.visits.specs.Waiting.{runAll, updatesOf, repliesOf, repliesWords}
 use Rattle.token.specs.Forward.{foreign, applyAll}
 use Rattle.visits.specs.Visit.{visitVerdict, visitResult}
-use Rattle.starred.specs.Table.{Row, resultOf, table}
+use Rattle.starred.specs.Table.{Starred}
 
-pub starred : map (λ (r : Row). resultOf (r .input)) table ≡ map (λ (r : Row). r .result) table
+pub starred : Starred
 unfolding ones sourceField reservedZero accessBy actionBy stepOf partBy transactionsOf planOf every hasHead countsInRange
     transactionFormed stepFormed wellFormed sourceExists stepExists partExists parametersExist transactionsVerdict planVerdict
     cellsNamed transactionExists unusedZero rowInRange parametersPass operationVerdict maskOf some rowTouched cellTouched

@@ -1,7 +1,8 @@
 -- "The starred lines form one small table of inputs and results, and one proof shows that the definitions give every row of it".
 -- Each layer adds its rows here; the proof is proofs/Starred.antt.
 use Prim.Native.Nat.{ℕ, _-_}
-use mathlib.Core.List.{List, [], _∷_, _++_}
+use mathlib.Core.Path.{_≡_}
+use mathlib.Core.List.{List, [], _∷_, _++_, map}
 use lib.ListN.{length, take, replicate}
 use Rattle.verdict.specs.Verdict.{Verdict, accepted, refused}
 use Rattle.plan.specs.Decode.{planOf}
@@ -137,3 +138,7 @@ table =
     ∷ left (visiting.forwarded 7 0) (desk 1 0 3) passedOn (replicate 3 0)
     ∷ left (visiting.visitRefused 14) (desk 1 0 3) (replicate 7 0) (replicate 3 0) ∷ []))
     ∷ []
+
+-- "one proof shows that the definitions give every row of it"
+abbrev pub Starred : Type 0
+Starred = map (λ (r : Row). resultOf (r .input)) table ≡ map (λ (r : Row). r .result) table

@@ -4,7 +4,7 @@ use mathlib.Core.Logic.{_↔_}
 use mathlib.Core.List.{List}
 use Prim.Native.Nat.{ℕ, _≤_}
 use lib.ListN.{length}
-use Rattle.token.specs.Frame.{SentUpdate, frameWords}
+use Rattle.token.specs.Frame.{SentUpdate, longestFrame, frameWords}
 use Rattle.token.specs.Admission.{ReadsAs}
 use Rattle.token.specs.WellFormed.{WellFormed}
 
@@ -15,7 +15,7 @@ ReadsExactly =
 
 -- "words in the frame (4–6,404)"
 abbrev pub WrittenLength : Type 0
-WrittenLength = (n v : ℕ) (us : List SentUpdate) → 1 ≤ n → n ≤ 8 → WellFormed n us → length (frameWords n v us) ≤ 6404
+WrittenLength = (n v : ℕ) (us : List SentUpdate) → 1 ≤ n → n ≤ 8 → WellFormed n us → length (frameWords n v us) ≤ longestFrame
 
 -- the words determine the visit and the updates, whatever the number of desks
 abbrev pub WritingInjective : Type 0

@@ -4,3 +4,4 @@ pub mod Assembled
 pub mod Questions
 pub mod Outgoing
 pub mod Visited
+pub mod ReplyWord

@@ -1,9 +1,13 @@
 -- Waiting requests run one after another, each on the store as the one before left it.
-use Prim.Native.Nat.{ℕ, _+_, _*_, _^_}
-use mathlib.Core.Bool.{Bool, cond}
+use Prim.Native.Nat.{ℕ, _*_}
+use mathlib.Core.Path.{_≡_}
+use mathlib.Core.Bool.{Bool, true, cond}
 use mathlib.Core.List.{List, [], _∷_, _++_}
+use Rattle.word.specs.Field.{field, kindOf}
+use Rattle.word.specs.Reserved.{reservedZero}
 use Rattle.plan.specs.Plan.{Plan}
 use Rattle.operation.specs.Run.{Store, Update, Reply, applyUpdate, run}
+use Rattle.token.specs.Frame.{placed, ofKind}
 use Rattle.queue.specs.Queue.{queueSize}
 use Rattle.queue.specs.declared.record.Request.{Request}
 use Rattle.desk.specs.Queueing.{operationOf}
@@ -42,7 +46,12 @@ repliesSize = replySize * queueSize
 
 -- "three words each: kind 12 with bit 0 set if done, the client's word, the number"
 abbrev pub replyHead : Bool → ℕ
-replyHead done = 12 * 2 ^ 28 + cond done 1 0
+replyHead done = ofKind 12 (placed 0 1 (cond done 1 0))
+
+-- "Bits not named are zero", in a word of kind 12 too
+abbrev pub ReplyHeadFormed : Type 0
+ReplyHeadFormed = (done : Bool) → (kindOf (replyHead done) ≡ 12) × (reservedZero (replyHead done) ≡ true)
+    × (field 0 1 (replyHead done) ≡ cond done 1 0)
 
 abbrev pub replyWords : Answered → List ℕ
 replyWords a = replyHead (a .reply .done) ∷ a .client ∷ a .reply .number ∷ []
