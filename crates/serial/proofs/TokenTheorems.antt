@@ -1,4 +1,4 @@
--- For later (02): accepted visits are numbered 0, 1, 2, .. in the order of the list, and the latest frame carries the updates of the
+-- Accepted visits are numbered 0, 1, 2, .. in the order of the list, and the latest frame carries the updates of the
 -- last n of them, in order.
 -- Assumes nothing.
 use Prim.Native.Nat.{ℕ, suc, _+_, _-_, _%_, _<_}
