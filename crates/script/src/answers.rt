@@ -5,17 +5,17 @@ use crate::layout::CALLS;
 use crate::layout::QUESTION;
 use crate::layout::REFUSALS;
 use crate::layout::VALUE;
+use crate::memory::Memory;
+use crate::memory::add;
+use crate::memory::count_above;
+use crate::memory::get;
+use crate::memory::high;
+use crate::memory::low;
+use crate::memory::on;
+use crate::memory::put;
+use crate::memory::wide;
+use crate::output::say;
 use crate::texts;
-use terminal::Memory;
-use terminal::memory::add;
-use terminal::memory::count_above;
-use terminal::memory::get;
-use terminal::memory::high;
-use terminal::memory::low;
-use terminal::memory::on;
-use terminal::memory::put;
-use terminal::memory::wide;
-use terminal::output::say;
 
 // The answer of a call that a question refused, 0 for none.
 pub fn refused(question: u32) -> u64 {

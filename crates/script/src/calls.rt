@@ -21,21 +21,21 @@ use crate::layout::REPLIES;
 use crate::layout::REPLIES_SIZE;
 use crate::layout::STATE;
 use crate::layout::TRANSACTION;
+use crate::memory::Memory;
+use crate::memory::copy;
+use crate::memory::counted;
+use crate::memory::get;
+use crate::memory::narrow;
+use crate::memory::on;
+use crate::memory::part;
+use crate::memory::put;
+use crate::memory::wide;
 use crate::texts;
 use conveyor::RequestAnswer;
 use conveyor::RequestResult;
 use conveyor::Verdict;
 use conveyor::VisitAnswer;
 use conveyor::VisitResult;
-use terminal::Memory;
-use terminal::memory::copy;
-use terminal::memory::counted;
-use terminal::memory::get;
-use terminal::memory::narrow;
-use terminal::memory::on;
-use terminal::memory::part;
-use terminal::memory::put;
-use terminal::memory::wide;
 
 // Word i, 0 past the end.
 fn word_at(words: &[u32], i: usize) -> u32 {

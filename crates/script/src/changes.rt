@@ -16,16 +16,16 @@ use crate::layout::REPLIES;
 use crate::layout::REPLIES_SIZE;
 use crate::layout::STATE;
 use crate::layout::VALUE;
+use crate::memory;
+use crate::memory::Memory;
+use crate::memory::differences;
+use crate::memory::get;
+use crate::memory::on;
+use crate::memory::put;
+use crate::output::say;
+use crate::output::say_changes;
 use crate::sums;
 use crate::texts;
-use terminal::Memory;
-use terminal::memory;
-use terminal::memory::differences;
-use terminal::memory::get;
-use terminal::memory::on;
-use terminal::memory::put;
-use terminal::output::say;
-use terminal::output::say_changes;
 
 // The cells that changed, or how many they are and the sums over the whole book.
 fn say_cells(m: &mut Memory) -> &mut Memory {

@@ -25,19 +25,19 @@ use crate::layout::VISITS;
 use crate::layout::is_made;
 use crate::layout::keep_desk;
 use crate::layout::take_desk;
+use crate::memory;
+use crate::memory::Memory;
+use crate::memory::QUIET;
+use crate::memory::add;
+use crate::memory::count_above;
+use crate::memory::get;
+use crate::memory::put;
+use crate::memory::raise;
+use crate::output::say;
+use crate::output::say_each;
+use crate::scanner;
 use crate::texts;
 use crate::texts::LAST_QUESTION;
-use terminal::Memory;
-use terminal::memory;
-use terminal::memory::QUIET;
-use terminal::memory::add;
-use terminal::memory::count_above;
-use terminal::memory::get;
-use terminal::memory::put;
-use terminal::memory::raise;
-use terminal::output::say;
-use terminal::output::say_each;
-use terminal::scanner;
 
 // `request 1 client 9 T0 5 9`.
 pub fn request(m: &mut Memory) -> &mut Memory {

@@ -14,21 +14,21 @@ use crate::layout::WORDS;
 use crate::layout::frame_place;
 use crate::layout::is_kept;
 use crate::layout::parts;
+use crate::memory;
+use crate::memory::ITEM;
+use crate::memory::Memory;
+use crate::memory::copy;
+use crate::memory::count_above;
+use crate::memory::counted;
+use crate::memory::get;
+use crate::memory::on;
+use crate::memory::wide;
+use crate::output::say;
+use crate::output::say_each;
+use crate::scanner;
 use crate::texts;
 use crate::words;
 use conveyor::FrameAnswer;
-use terminal::Memory;
-use terminal::memory;
-use terminal::memory::ITEM;
-use terminal::memory::copy;
-use terminal::memory::count_above;
-use terminal::memory::counted;
-use terminal::memory::get;
-use terminal::memory::on;
-use terminal::memory::wide;
-use terminal::output::say;
-use terminal::output::say_each;
-use terminal::scanner;
 
 // Keeps the outgoing words as the next frame, which is then said by a text.
 pub fn send(m: &mut Memory, text: u32) -> &mut Memory {

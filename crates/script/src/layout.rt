@@ -1,10 +1,10 @@
-// Where everything stands in memory behind the terminal's words, and the registers that texts name.
-use terminal::Memory;
-use terminal::memory;
-use terminal::memory::get;
-use terminal::memory::narrow;
-use terminal::memory::on;
-use terminal::memory::put;
+// Where everything stands in memory behind the words of the modules below this one, and the registers that texts name.
+use crate::memory;
+use crate::memory::Memory;
+use crate::memory::get;
+use crate::memory::narrow;
+use crate::memory::on;
+use crate::memory::put;
 
 // Registers for what is counted. A: calls. B: refusals. C: refusals that changed something. D: requests that were not refused, and
 // of these E done, F declined, G waiting, H elsewhere. I: visits that were not refused, J their replies, K those with several, L those of

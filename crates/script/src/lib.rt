@@ -1,5 +1,10 @@
 // The interpreter of scripts over the engine's public calls. docs/SCRIPT.md is its language. It is safe and ends for any bytes at all.
+// The first four modules know nothing of plans, desks or frames. No function asks anything of its arguments.
 //
+//     memory        the words of the interpreter, by place
+//     output        text, written in blocks
+//     line          the bytes of a line, from the input or at hand
+//     scanner       the words of a line: numbers, names, and the first fault
 //     layout        where everything stands in memory
 //     texts         all that is said, by number
 //     sums          the two sums of words
@@ -24,9 +29,13 @@ mod forms;
 mod frames;
 mod interpreter;
 mod layout;
+mod line;
 mod loans;
+mod memory;
 mod operations;
+mod output;
 mod plans;
+mod scanner;
 mod sums;
 mod texts;
 mod words;

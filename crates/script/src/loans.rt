@@ -1,11 +1,11 @@
 // How much is lent to a call.
 use crate::layout::LENT_NEXT;
+use crate::memory::Memory;
+use crate::memory::on;
+use crate::memory::put;
+use crate::scanner;
+use crate::scanner::number_to;
 use crate::texts;
-use terminal::Memory;
-use terminal::memory::on;
-use terminal::memory::put;
-use terminal::scanner;
-use terminal::scanner::number_to;
 
 // Sizes as the paper asks for them, from a place on.
 pub fn put_all(m: &mut Memory, place: usize) -> &mut Memory {

@@ -3,12 +3,12 @@ use crate::layout::CLIENT;
 use crate::layout::GIVEN;
 use crate::layout::PARAMETERS;
 use crate::layout::TRANSACTION;
+use crate::memory::Memory;
+use crate::memory::fill;
+use crate::memory::on;
+use crate::memory::put;
+use crate::scanner;
 use crate::texts;
-use terminal::Memory;
-use terminal::memory::fill;
-use terminal::memory::on;
-use terminal::memory::put;
-use terminal::scanner;
 
 // Parameter i, if the line has it.
 fn read_parameter(m: &mut Memory, i: usize) -> &mut Memory {

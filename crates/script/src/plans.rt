@@ -7,21 +7,21 @@ use crate::layout::QUESTION;
 use crate::layout::TRANSACTION;
 use crate::layout::WORDS;
 use crate::layout::parts;
+use crate::memory;
+use crate::memory::INDEX;
+use crate::memory::ITEM;
+use crate::memory::Memory;
+use crate::memory::copy;
+use crate::memory::counted;
+use crate::memory::get;
+use crate::memory::on;
+use crate::memory::put;
+use crate::memory::wide;
+use crate::output::say;
+use crate::output::say_each;
 use crate::texts;
 use conveyor::ClassAnswer;
 use conveyor::Verdict;
-use terminal::Memory;
-use terminal::memory;
-use terminal::memory::INDEX;
-use terminal::memory::ITEM;
-use terminal::memory::copy;
-use terminal::memory::counted;
-use terminal::memory::get;
-use terminal::memory::on;
-use terminal::memory::put;
-use terminal::memory::wide;
-use terminal::output::say;
-use terminal::output::say_each;
 
 // The plan reader's answer.
 fn verdict(m: &Memory) -> u64 {

@@ -1,10 +1,10 @@
 // The two sums of words.
 use crate::layout::SUMS;
-use terminal::Memory;
-use terminal::memory::get;
-use terminal::memory::on;
-use terminal::memory::put_wide;
-use terminal::memory::wide;
+use crate::memory::Memory;
+use crate::memory::get;
+use crate::memory::on;
+use crate::memory::put_wide;
+use crate::memory::wide;
 
 // The sums over so many words from a place on: the first as the low word, the second as the high one.
 fn over(m: &Memory, place: usize, words: usize) -> u64 {

@@ -1,8 +1,8 @@
-// All that the interpreter says, by number. `terminal::output` tells how a text names registers, and layout which those are. The texts of
-// faults come first, as terminal::scanner numbers them. A question's text stands as many places behind QUESTIONS as its number, and what
+// All that the interpreter says, by number. `output` tells how a text names registers, and layout which those are. The texts of
+// faults come first, as scanner numbers them. A question's text stands as many places behind QUESTIONS as its number, and what
 // became of a request behind DONE.
-use terminal::Memory;
-use terminal::output;
+use crate::memory::Memory;
+use crate::output;
 
 pub const NO_CLIENT: u32 = 6;
 

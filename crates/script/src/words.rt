@@ -1,14 +1,14 @@
 // Words of frames in answers.
 use crate::layout::LAST_WORDS;
 use crate::layout::WORDS;
+use crate::memory::Memory;
+use crate::memory::copy;
+use crate::memory::get;
+use crate::memory::on;
+use crate::output::say;
+use crate::output::say_each;
 use crate::sums;
 use crate::texts;
-use terminal::Memory;
-use terminal::memory::copy;
-use terminal::memory::get;
-use terminal::memory::on;
-use terminal::output::say;
-use terminal::output::say_each;
 
 // The two sums of all words but the last two, and these.
 fn say_sums(m: &mut Memory, place: usize, words: usize) -> &mut Memory {

@@ -1,9 +1,9 @@
--- `terminal::output::say_changes` is safe and ends.
+-- `script::output::say_changes` is safe and ends.
 -- Assumes nothing.
 use Prim.Native.Nat.{_-_, _≤_}
 use borrow.Author.Needs.{needs}
-use Rattle.terminal.proofs.output.say_changes.Statement.{statement}
-use Rattle.terminal.proofs.output.say_changes.Tie as tie
+use Rattle.script.proofs.output.say_changes.Statement.{statement}
+use Rattle.script.proofs.output.say_changes.Tie as tie
 
 abbrev Inv-loop : tie.InvT-loop
 Inv-loop m₀ text place before size count at₀ old₀ i₀ m at old i = i ≤ count

@@ -1,9 +1,9 @@
--- `terminal::output::decimal` is safe and ends.
+-- `script::output::decimal` is safe and ends.
 -- Assumes nothing.
 use Prim.Native.Nat.{_-_, _≤_}
 use borrow.Author.Needs.{needs}
-use Rattle.terminal.proofs.output.decimal.Statement.{statement}
-use Rattle.terminal.proofs.output.decimal.Tie as tie
+use Rattle.script.proofs.output.decimal.Statement.{statement}
+use Rattle.script.proofs.output.decimal.Tie as tie
 
 abbrev Inv-loop : tie.InvT-loop
 Inv-loop m₀ n digits count i₀ m i = (i ≤ count) × (count ≤ 20)

@@ -1,9 +1,9 @@
--- `terminal::output::install` is safe and ends.
+-- `script::output::install` is safe and ends.
 -- Assumes nothing.
 use Prim.Native.Nat.{_-_, _≤_}
 use borrow.Author.Needs.{needs}
-use Rattle.terminal.proofs.output.install.Statement.{statement}
-use Rattle.terminal.proofs.output.install.Tie as tie
+use Rattle.script.proofs.output.install.Statement.{statement}
+use Rattle.script.proofs.output.install.Tie as tie
 
 abbrev Inv-loop : tie.InvT-loop
 Inv-loop m₀ texts i₀ i-end m i = i ≤ i-end

@@ -1,9 +1,9 @@
--- `terminal::output::closing` is safe and ends.
+-- `script::output::closing` is safe and ends.
 -- Assumes nothing.
 use Prim.Native.Nat.{_-_, _≤_}
 use borrow.Author.Needs.{needs}
-use Rattle.terminal.proofs.output.closing.Statement.{statement}
-use Rattle.terminal.proofs.output.closing.Tie as tie
+use Rattle.script.proofs.output.closing.Statement.{statement}
+use Rattle.script.proofs.output.closing.Tie as tie
 
 abbrev Inv-loop : tie.InvT-loop
 Inv-loop m from i₀ i-end i = 0 ≤ i

@@ -1,9 +1,9 @@
--- `terminal::output::say` is safe and ends.
+-- `script::output::say` is safe and ends.
 -- Assumes nothing.
 use Prim.Native.Nat.{_-_, _≤_}
 use borrow.Author.Needs.{needs}
-use Rattle.terminal.proofs.output.say.Statement.{statement}
-use Rattle.terminal.proofs.output.say.Tie as tie
+use Rattle.script.proofs.output.say.Statement.{statement}
+use Rattle.script.proofs.output.say.Tie as tie
 
 abbrev Inv-loop : tie.InvT-loop
 Inv-loop m₀ text place₀ -turn₀ m place -turn = -turn ≤ 4096

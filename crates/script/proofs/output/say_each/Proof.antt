@@ -1,30 +1,24 @@
--- `terminal::memory::copy` is safe and ends.
+-- `script::output::say_each` is safe and ends.
 -- Assumes nothing.
 use Prim.Native.Nat.{_-_, _≤_}
 use borrow.Author.Needs.{needs}
-use Rattle.terminal.proofs.memory.copy.Statement.{statement}
-use Rattle.terminal.proofs.memory.copy.Tie as tie
+use Rattle.script.proofs.output.say_each.Statement.{statement}
+use Rattle.script.proofs.output.say_each.Tie as tie
 
 abbrev Inv-loop : tie.InvT-loop
-Inv-loop m₀ from to words i₀ m i = i ≤ words
+Inv-loop m₀ text place size count at₀ i₀ m at i = i ≤ count
 
 abbrev μ-loop : tie.MeasureT-loop
-μ-loop m₀ from to words i₀ m i = words - i
+μ-loop m₀ text place size count at₀ i₀ m at i = count - i
 
 loop-holds : tie.Need-loop-holds Inv-loop μ-loop
 loop-holds c = search needs
 
+say-item-requires : tie.Need-say-item-requires Inv-loop μ-loop
+say-item-requires c κs = search needs
+
 on-requires : tie.Need-on-requires Inv-loop μ-loop
 on-requires c κs = search needs
-
-on-requires-2 : tie.Need-on-requires-2 Inv-loop μ-loop
-on-requires-2 c κs = search needs
-
-get-requires : tie.Need-get-requires Inv-loop μ-loop
-get-requires c κs = search needs
-
-put-requires : tie.Need-put-requires Inv-loop μ-loop
-put-requires c κs = search needs
 
 add-i : tie.Need-add-i Inv-loop μ-loop
 add-i c = search needs
@@ -38,17 +32,15 @@ loop-again c = search needs
 returns : tie.Need-returns Inv-loop μ-loop
 returns c = search needs
 
-pub copy-spec : {M : Type 1} → statement M
-copy-spec =
+pub say-each-spec : {M : Type 1} → statement M
+say-each-spec =
     tie.close
     (tie.spec
     Inv-loop
     μ-loop
     loop-holds
+    say-item-requires
     on-requires
-    on-requires-2
-    get-requires
-    put-requires
     add-i
     loop-less
     loop-again

@@ -1,9 +1,9 @@
--- `terminal::scanner::find` is safe and ends.
+-- `script::scanner::find` is safe and ends.
 -- Assumes nothing.
 use Prim.Native.Nat.{_-_, _≤_}
 use borrow.Author.Needs.{needs}
-use Rattle.terminal.proofs.scanner.find.Statement.{statement}
-use Rattle.terminal.proofs.scanner.find.Tie as tie
+use Rattle.script.proofs.scanner.find.Statement.{statement}
+use Rattle.script.proofs.scanner.find.Tie as tie
 
 abbrev Inv-loop : tie.InvT-loop
 Inv-loop m from is-in-word i₀ i-end i = 0 ≤ i

@@ -1,9 +1,9 @@
--- `terminal::output::hexadecimal` is safe and ends.
+-- `script::output::hexadecimal` is safe and ends.
 -- Assumes nothing.
 use Prim.Native.Nat.{_-_, _≤_}
 use borrow.Author.Needs.{needs}
-use Rattle.terminal.proofs.output.hexadecimal.Statement.{statement}
-use Rattle.terminal.proofs.output.hexadecimal.Tie as tie
+use Rattle.script.proofs.output.hexadecimal.Statement.{statement}
+use Rattle.script.proofs.output.hexadecimal.Tie as tie
 
 abbrev Inv-loop : tie.InvT-loop
 Inv-loop m₀ word i₀ m i = i ≤ 8

@@ -1,9 +1,9 @@
--- `terminal::scanner::scan` is safe and ends.
+-- `script::scanner::scan` is safe and ends.
 -- Assumes nothing.
 use Prim.Native.Nat.{_-_, _≤_}
 use borrow.Author.Needs.{needs}
-use Rattle.terminal.proofs.scanner.scan.Statement.{statement}
-use Rattle.terminal.proofs.scanner.scan.Tie as tie
+use Rattle.script.proofs.scanner.scan.Statement.{statement}
+use Rattle.script.proofs.scanner.scan.Tie as tie
 
 abbrev Inv-loop : tie.InvT-loop
 Inv-loop m base most value₀ i₀ i-end value i = 0 ≤ i

@@ -1,4 +1,4 @@
--- `terminal::output::write_kept` is safe and ends.
+-- `script::output::write_kept` is safe and ends.
 -- Assumes nothing.
 use Prim.Native.Nat.{_-_, _≤_}
 use native.Mathlib.Omega.{arith}
@@ -6,8 +6,8 @@ use lib.Seq.{length-take-le}
 use mathlib.Core.Path.{_≡_, sym}
 use lib.ListN.{length}
 use borrow.Author.Needs.{needs}
-use Rattle.terminal.proofs.output.write_kept.Statement.{statement}
-use Rattle.terminal.proofs.output.write_kept.Tie as tie
+use Rattle.script.proofs.output.write_kept.Statement.{statement}
+use Rattle.script.proofs.output.write_kept.Tie as tie
 
 abbrev Inv-loop : tie.InvT-loop
 Inv-loop m block₀ i₀ block i = (i ≤ 16384) × (length block ≡ 16384)
