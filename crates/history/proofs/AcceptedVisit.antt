@@ -115,10 +115,10 @@ module _ (plan : List ℕ) (h : Holding) (frame out replies : List ℕ) where
 
     -- ---- the replies
 
-    passed-is : (forwarded words count ≡ forwarded (length sends) (length given))
+    accepted-is : (forwarded words count ≡ forwarded (length sends) (length given))
         × (left .replies ≡ overwritten (repliesWords given) replies) × (left .out ≡ overwritten sends out) × (left .state .waiting ≡ 0)
     unfolding visitResult
-    passed-is = (sym answered ∙ rw verdict-of refl, rw verdict-of refl, rw verdict-of refl, rw verdict-of refl)
+    accepted-is = (sym answered ∙ rw verdict-of refl, rw verdict-of refl, rw verdict-of refl, rw verdict-of refl)
 
     waiting-length : length waiting ≡ d .waiting
     waiting-length = length-take-le (d .waiting) (h .queue) room-of
@@ -132,7 +132,7 @@ module _ (plan : List ℕ) (h : Holding) (frame out replies : List ℕ) where
     answers-each k r w =
         let l : k < d .waiting = w .0 in
         rw (
-          passed-is .1,
+          accepted-is .1,
           replies-at (planOf plan) waiting caught k (drop (length (repliesWords given)) replies) (omega (arith, waiting-length)),
           getD-take (d .waiting) (h .queue) k noRequest l,
           w .1,
@@ -142,12 +142,12 @@ module _ (plan : List ℕ) (h : Holding) (frame out replies : List ℕ) where
     answers-waiting : AnswersWaiting plan h frame replies count left
     answers-waiting =
         let counted : count ≡ d .waiting =
-        same-count (passed-is .0) ∙ replies-count (planOf plan) waiting caught ∙ waiting-length in
+        same-count (accepted-is .0) ∙ replies-count (planOf plan) waiting caught ∙ waiting-length in
         record {
           count-is = counted;
           each = answers-each;
-          untouched = rw (counted, passed-is .1, ← replies-size) (drop-append-seam (repliesWords given) _);
-          none-waits = passed-is .3;
+          untouched = rw (counted, accepted-is .1, ← replies-size) (drop-append-seam (repliesWords given) _);
+          none-waits = accepted-is .3;
         }
       where
         same-count : {a b : ℕ} → forwarded words count ≡ forwarded a b → count ≡ b
@@ -179,7 +179,7 @@ module _ (plan : List ℕ) (h : Holding) (frame out replies : List ℕ) where
         } in
         let r = sends-reads plan plan-of (λ q. length (h .queue)) h ok frame out replies (turn-of plan h frame out replies verdict-of) in
         let whole : take words (left .out) ≡ sends =
-        rw (passed-is .2, same-words (passed-is .0)) (take-append-seam sends (drop (length sends) out)) in
+        rw (accepted-is .2, same-words (accepted-is .0)) (take-append-seam sends (drop (length sends) out)) in
         rw whole
         (record {
           verdict = sym (read-after plan sends accepted plan-of (sym (r .verdict)));

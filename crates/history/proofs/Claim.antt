@@ -62,8 +62,8 @@ module _ (ws : List ℕ) (accept : planVerdict ws ≡ accepted) (class : Operati
   abbrev w : ℕ → Holding
   w = start cells rows
 
-  standing : AllOk M w
-  standing q l = start-sound ws cells rows q l
+  all-sound : AllOk M w
+  all-sound q l = start-sound ws cells rows q l
 
   proper : MachineProper M N w (startingFrame ∷ []) cs
   proper = proper-is ws accept class right records cs w (startingFrame ∷ []) pr
@@ -80,11 +80,11 @@ module _ (ws : List ℕ) (accept : planVerdict ws ≡ accepted) (class : Operati
   -- ---- the protocol's history is this one
 
   pub proper-seen : ProperFrom S cells (map callSeen cs)
-  proper-seen = machine-proper M N cells w standing refl cs proper
+  proper-seen = machine-proper M N cells w all-sound refl cs proper
 
   pub refusals-seen : map desk.isRefused (answersOf S cells (map callSeen cs)) ≡ refusals
   refusals-seen =
-      ap (map desk.isRefused) (sym (machine-answers M N cells w standing refl cs proper))
+      ap (map desk.isRefused) (sym (machine-answers M N cells w all-sound refl cs proper))
       ∙ refusals-are ws accept class right records cs w
 
   -- ---- the protocol's serial run is this one
@@ -99,7 +99,7 @@ module _ (ws : List ℕ) (accept : planVerdict ws ≡ accepted) (class : Operati
       subst Whole
       (ap (run.serial S (map callSeen cs)) (refusals-are ws accept class right records cs w)
       ∙ sym (notes-seen ws class records cs refusals newSerial))
-      (machine-serializable M N cells w standing refl cs proper (laws ws accept class right records))
+      (machine-serializable M N cells w all-sound refl cs proper (laws ws accept class right records))
 
   ended : RunsAll p (s .finished)
   ended = notes-noted ws class cs w (startingFrame ∷ []) newSerial pr (record { lines = λ d. tt; ended = tt }) .ended

@@ -24,7 +24,7 @@ use Rattle.desk.specs.Admission.{deskBuffersFit}
 use Rattle.requests.specs.Request.{Requested, served, routed, enqueued, unchanged, requestVerdict, requestResult}
 use Rattle.requests.proofs.Joining.{one-stored}
 use Rattle.visits.specs.Visit.{visitedBy, visitVerdict, visitResult}
-use Rattle.history.specs.History.{requested, visited, forwardingRefused, holdingAfter}
+use Rattle.history.specs.History.{requested, visited, isRefusedForwarding, holdingAfter}
 use Rattle.history.specs.Answering.{WaitsAt}
 use Rattle.requests.specs.Request as asked
 
@@ -88,12 +88,12 @@ module _ (plan : List ℕ) (h : Holding) where
   -- ---- a refused visit
 
   module _ (frame out replies : List ℕ) (k : ℕ) (t : Request) (w : WaitsAt k t h) where
-    by-keeps : (v : Verdict) → forwardingRefused (visitedBy (planOf plan) h frame out replies v .answer) ≡ true →
+    by-keeps : (v : Verdict) → isRefusedForwarding (visitedBy (planOf plan) h frame out replies v .answer) ≡ true →
         WaitsAt k t (holdingAfter h (visited (visitedBy (planOf plan) h frame out replies v)))
     by-keeps accepted e = absurd (false≢true e)
     by-keeps (refused q) e = w
 
-    pub visit-keeps : forwardingRefused (visitResult plan h frame out replies .answer) ≡ true →
+    pub visit-keeps : isRefusedForwarding (visitResult plan h frame out replies .answer) ≡ true →
         WaitsAt k t (holdingAfter h (visited (visitResult plan h frame out replies)))
     unfolding visitResult
     visit-keeps = by-keeps (visitVerdict plan h frame out replies)

@@ -25,7 +25,7 @@ use Rattle.serial.specs.Desk as desk
 use Rattle.serial.specs.Step as step
 use Rattle.serial.specs.Machine.{Machine, Words, machineAfter, answersSeen, MachineProper}
 use Rattle.history.specs.History.{Call, request, visit, deskCalled, Outcome, requested, visited, isRefused, holdingAfter}
-use Rattle.history.specs.History.{responseRefused, forwardingRefused, frameWritten, written, outcome, stepAt, outcomeAt, outcomes}
+use Rattle.history.specs.History.{isRefusedResponse, isRefusedForwarding, frameWritten, written, outcome, stepAt, outcomeAt, outcomes}
 use Rattle.history.specs.History.{holdingsAfter, WordsFit, Proper}
 use Rattle.history.specs.SerialRun.{Classifies}
 use Rattle.history.proofs.Protocol.{Brought, system}
@@ -42,7 +42,7 @@ frameBrought (visit p ft out replies) = ft
 
 -- ---- answers as the protocol sees them
 
-response-refused : (client : ℕ) (a : asked.Response) → desk.isRefused (responseSeen client a) ≡ responseRefused a
+response-refused : (client : ℕ) (a : asked.Response) → desk.isRefused (responseSeen client a) ≡ isRefusedResponse a
 response-refused client (asked.replied r) = refl
 response-refused client asked.waits = refl
 response-refused client (asked.redirected d) = refl
@@ -54,26 +54,26 @@ response-sends client asked.waits = refl
 response-sends client (asked.redirected d) = refl
 response-sends client (asked.requestRefused question) = refl
 
-passage-refused : (a : visiting.Forwarding) (out : List ℕ) (rs : List Answered)
-    → desk.isRefused (forwardingSeen a out rs) ≡ forwardingRefused a
-passage-refused (visiting.forwarded words count) out rs = refl
-passage-refused (visiting.visitRefused question) out rs = refl
+forwarding-refused : (a : visiting.Forwarding) (out : List ℕ) (rs : List Answered)
+    → desk.isRefused (forwardingSeen a out rs) ≡ isRefusedForwarding a
+forwarding-refused (visiting.forwarded words count) out rs = refl
+forwarding-refused (visiting.visitRefused question) out rs = refl
 
-passage-sends : (a : visiting.Forwarding) (out : List ℕ) (rs : List Answered)
+forwarding-sends : (a : visiting.Forwarding) (out : List ℕ) (rs : List Answered)
     → desk.sent (forwardingSeen a out rs) ≡ map frameSeen (frameWritten a out)
-passage-sends (visiting.forwarded words count) out rs = refl
-passage-sends (visiting.visitRefused question) out rs = refl
+forwarding-sends (visiting.forwarded words count) out rs = refl
+forwarding-sends (visiting.visitRefused question) out rs = refl
 
 module _ (ws : List ℕ) (h : Holding) (rs : List Answered) where
   pub refused-seen : (c : Call) → desk.isRefused (outcomeSeen c (outcome ws h c) rs) ≡ isRefused (outcome ws h c)
   refused-seen (request p client k ps) = response-refused client (requestResult ws h (recordOf client k ps) .answer)
   refused-seen (visit p ft out replies) =
-      let v = visitResult ws h ft out replies in passage-refused (v .answer) (v .out) rs
+      let v = visitResult ws h ft out replies in forwarding-refused (v .answer) (v .out) rs
 
   pub sent-is : (c : Call) → desk.sent (outcomeSeen c (outcome ws h c) rs) ≡ map frameSeen (written (outcome ws h c))
   sent-is (request p client k ps) = response-sends client (requestResult ws h (recordOf client k ps) .answer)
   sent-is (visit p ft out replies) =
-      let v = visitResult ws h ft out replies in passage-sends (v .answer) (v .out) rs
+      let v = visitResult ws h ft out replies in forwarding-sends (v .answer) (v .out) rs
 
 -- the words that a visit brings are those of its frame
 pub shows : (c : Call) (p : ℕ) (f : frame.Frame) (x : Brought) → callSeen c ≡ desk.visit p f x → f ≡ frameSeen (frameBrought c)

@@ -20,7 +20,7 @@ use Rattle.desk.specs.Holding.{Holding}
 use Rattle.desk.specs.Queueing.{operationOf}
 use Rattle.desk.specs.Admission.{deskBuffersFit, deskFits}
 use Rattle.requests.specs.Request.{recordOf, served, requestVerdict, requestResult}
-use Rattle.history.specs.History.{Call, request, visit, deskCalled, responseRefused, isRefused, outcomeAt, stepAt, outcomes}
+use Rattle.history.specs.History.{Call, request, visit, deskCalled, isRefusedResponse, isRefused, outcomeAt, stepAt, outcomes}
 use Rattle.history.specs.History.{written, WordsFit, Proper}
 use Rattle.history.specs.SerialRun.{Serial, noteNothing, noteRun, noteJoin, noteRequest, ranked, noteVisit, note, noteAll}
 use Rattle.history.proofs.Operations.{Runs}
@@ -74,12 +74,12 @@ module _ (p : Plan) where
 
 module _ (ws : List ℕ) where
   -- an accepted request holds an operation
-  not-refused : (h : Holding) (r : Request) (v : Verdict) → responseRefused (served h v (planOf ws) r .answer) ≡ false → v ≡ accepted
+  not-refused : (h : Holding) (r : Request) (v : Verdict) → isRefusedResponse (served h v (planOf ws) r .answer) ≡ false → v ≡ accepted
   not-refused h r accepted e = refl
   not-refused h r (refused q) e = absurd (true≢false e)
 
   pub accepted-runs : (h : Holding) (client k : ℕ) (ps : List ℕ) → ((i : ℕ) → getD ps i 0 < 2 ^ 32) →
-      responseRefused (requestResult ws h (recordOf client k ps) .answer) ≡ false →
+      isRefusedResponse (requestResult ws h (recordOf client k ps) .answer) ≡ false →
       Runs (planOf ws) (recordOf client k ps)
   unfolding requestResult requestVerdict
   accepted-runs h client k ps words e =

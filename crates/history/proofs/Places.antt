@@ -15,11 +15,11 @@ use Rattle.history.specs.Order.{Slot, globalRun, immediateRun, before}
 use Rattle.history.proofs.SerialSeen.{slotSeen}
 
 -- a finished request of which only the slot counts
-abbrev standing : order.Slot → order.Finished ℕ
-standing a = record { slot = a; by = 0; request = record { client = 0; op = 0 } }
+abbrev finishedAt : order.Slot → order.Finished ℕ
+finishedAt a = record { slot = a; by = 0; request = record { client = 0; op = 0 } }
 
 once : (a b : order.Slot) → order.Before a b → order.Before b a → ⊥
-once a b h k = precedes-once (standing a) (standing b) (inl h) (inl k)
+once a b h k = precedes-once (finishedAt a) (finishedAt b) (inl h) (inl k)
 
 by-order : (g h p q : ℕ) (t : Bool) → eqb g h ≡ t → cond t (ltb p q) (ltb g h) ≡ true → (g < h) ⊎ ((g ≡ h) × (p < q))
 by-order g h p q true e k = inr (eqb-true g h e, ltb-true p q k)

@@ -45,7 +45,7 @@ six ws h e =
       each = and-snd (eqb (h .state .awaited % planOf ws .desks) (h .state .desk)) _ b;
     }
 
--- a new desk stands
+-- what a new desk holds is sound
 pub start-sound : (ws cells : List ℕ) (rows : ℕ → List Request) (p : ℕ) → p < planOf ws .desks →
     Sound ws (λ q. length (rows q)) p (start cells rows p)
 unfolding deskFits every

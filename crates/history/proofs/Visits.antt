@@ -124,9 +124,9 @@ module _ (ws : List ℕ) (accept : planVerdict ws ≡ accepted) (records : ℕ �
   abbrev After : Visited → Type 0
   After m = Sound ws records (d .desk) (holdingAfter h (visited m))
 
-  passed-sound : Turn ws d ft → After left
+  accepted-sound : Turn ws d ft → After left
   unfolding deskFits every
-  passed-sound t =
+  accepted-sound t =
       let s = six ws h (ok .fits) in
       record {
         desk = refl;
@@ -140,7 +140,7 @@ module _ (ws : List ℕ) (accept : planVerdict ws ≡ accepted) (records : ℕ �
       }
 
   visited-sound : (v : Verdict) → (v ≡ accepted → Turn ws d ft) → After (visitedBy (planOf ws) h ft out replies v)
-  visited-sound accepted f = passed-sound (f refl)
+  visited-sound accepted f = accepted-sound (f refl)
   visited-sound (refused k) f =
       record { desk = refl; fits = ok .fits; size = ok .size; room = ok .room; runs = ok .runs }
 
@@ -198,15 +198,15 @@ module _ (ws : List ℕ) (accept : planVerdict ws ≡ accepted) (records : ℕ �
     given-seen =
         sym (ap (step.repliesOf S (map requestSeen q)) caught-seen ∙ replies-seen ws class records q c (ok .runs))
 
-    passed-seen : Turn ws d ft → seen left ≡ step.visitStep S (d .desk) (view h) (frameSeen ft)
-    passed-seen t =
+    accepted-seen : Turn ws d ft → seen left ≡ step.visitStep S (d .desk) (view h) (frameSeen ft)
+    accepted-seen t =
         ap₂ (λ (s : Store) (a : desk.Answer Reply). (record { store = s; queue = []; awaited = frameVisit ft + n }, a)) store-seen
         (ap₂ desk.forwarded (ap frameSeen (take-append-seam sends (drop (length sends) out)) ∙ outgoing-seen t) given-seen)
 
     visited-seen : (v : Verdict) → (v ≡ accepted → Turn ws d ft) → seen (visitedBy (planOf ws) h ft out replies v)
         ≡ cond (eqb (frameVisit ft) (d .awaited) && isAccepted v)
         (step.visitStep S (d .desk) (view h) (frameSeen ft)) (view h, desk.refused)
-    visited-seen accepted f = rw (eq-eqb (frameVisit ft) (d .awaited) (f refl .number)) (passed-seen (f refl))
+    visited-seen accepted f = rw (eq-eqb (frameVisit ft) (d .awaited) (f refl .number)) (accepted-seen (f refl))
     visited-seen (refused k) f = rw (and-false (eqb (frameVisit ft) (d .awaited))) refl
 
     -- the state and the answer are the protocol's

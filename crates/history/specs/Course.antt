@@ -32,14 +32,15 @@ zeros = replicate 1024 0
 abbrev pub blank : ℕ → List Request
 blank p = replicate 32 noRequest
 
-abbrev passes : ℕ → List ℕ → Call
-passes p frame = visit p frame (replicate 6404 0) (replicate 96 0)
+-- the buffers have the paper's own numbers of words, "6,404" and "96", as the cells and records above have theirs
+abbrev visitWith : ℕ → List ℕ → Call
+visitWith p frame = visit p frame (replicate 6404 0) (replicate 96 0)
 
 -- T2(1) at desk 1, T1(0, 3) at desk 0, visit 0, T2(1) again, visit 1, a replay, and T2(1) once more; of clients 5, 7, 6 and 8
 abbrev pub calls : List Call
 calls =
-    request 1 5 2 (1 ∷ 0 ∷ 0 ∷ 0 ∷ []) ∷ request 0 7 1 (0 ∷ 3 ∷ 0 ∷ 0 ∷ []) ∷ passes 0 starting ∷ request 1 6 2 (1 ∷ 0 ∷ 0 ∷ 0 ∷ [])
-    ∷ passes 1 sending ∷ passes 1 sending ∷ request 1 8 2 (1 ∷ 0 ∷ 0 ∷ 0 ∷ []) ∷ []
+    request 1 5 2 (1 ∷ 0 ∷ 0 ∷ 0 ∷ []) ∷ request 0 7 1 (0 ∷ 3 ∷ 0 ∷ 0 ∷ []) ∷ visitWith 0 starting ∷ request 1 6 2 (1 ∷ 0 ∷ 0 ∷ 0 ∷ [])
+    ∷ visitWith 1 sending ∷ visitWith 1 sending ∷ request 1 8 2 (1 ∷ 0 ∷ 0 ∷ 0 ∷ []) ∷ []
 
 abbrev says : Outcome → asked.Response ⊎ visiting.Forwarding
 says (requested r) = inl (r .answer)

@@ -37,19 +37,19 @@ pub data Outcome : Type 0 where
   visited : Visited → Outcome
 
 -- "Accepted means not refused."
-abbrev pub responseRefused : asked.Response → Bool
-responseRefused (asked.replied r) = false
-responseRefused asked.waits = false
-responseRefused (asked.redirected d) = false
-responseRefused (asked.requestRefused question) = true
+abbrev pub isRefusedResponse : asked.Response → Bool
+isRefusedResponse (asked.replied r) = false
+isRefusedResponse asked.waits = false
+isRefusedResponse (asked.redirected d) = false
+isRefusedResponse (asked.requestRefused question) = true
 
-abbrev pub forwardingRefused : visiting.Forwarding → Bool
-forwardingRefused (visiting.forwarded words replies) = false
-forwardingRefused (visiting.visitRefused question) = true
+abbrev pub isRefusedForwarding : visiting.Forwarding → Bool
+isRefusedForwarding (visiting.forwarded words replies) = false
+isRefusedForwarding (visiting.visitRefused question) = true
 
 abbrev pub isRefused : Outcome → Bool
-isRefused (requested r) = responseRefused (r .answer)
-isRefused (visited v) = forwardingRefused (v .answer)
+isRefused (requested r) = isRefusedResponse (r .answer)
+isRefused (visited v) = isRefusedForwarding (v .answer)
 
 -- what the desk holds behind the call. "the row of records is untouched" by a visit
 abbrev pub holdingAfter : Holding → Outcome → Holding

@@ -36,8 +36,8 @@ sentFrame word2 = 0x91000007 ∷ 0x00000001 ∷ word2 ∷ 0xB0000080 ∷ 0x00000
 
 -- what desk 1 sends on by visit 1, with none waiting: visit 2 to desk 0 with the same update; its sums were reckoned apart from
 -- these definitions, by a few lines that add as the paper says
-abbrev pub passedOn : List ℕ
-passedOn = 0x90000007 ∷ 0x00000002 ∷ 0xA0100000 ∷ 0xB0000080 ∷ 0x00000003 ∷ 0xE010008C ∷ 0x1030012E ∷ []
+abbrev pub sentOn : List ℕ
+sentOn = 0x90000007 ∷ 0x00000002 ∷ 0xA0100000 ∷ 0xB0000080 ∷ 0x00000003 ∷ 0xE010008C ∷ 0x1030012E ∷ []
 
 -- a desk's state: its number, how many wait, the awaited visit
 abbrev desk : ℕ → ℕ → ℕ → Desk
@@ -135,7 +135,7 @@ table =
     -- "Word 2 as A1100000: 11. The frame twice at desk 1: 14"
     ∷ row (visits (desk 1 0 1) [] (sentFrame 0xA1100000 ∷ sentFrame 0xA0100000 ∷ sentFrame 0xA0100000 ∷ []))
     (visited (left (visiting.visitRefused 11) (desk 1 0 1) (replicate 7 0) (replicate 3 0)
-    ∷ left (visiting.forwarded 7 0) (desk 1 0 3) passedOn (replicate 3 0)
+    ∷ left (visiting.forwarded 7 0) (desk 1 0 3) sentOn (replicate 3 0)
     ∷ left (visiting.visitRefused 14) (desk 1 0 3) (replicate 7 0) (replicate 3 0) ∷ []))
     ∷ []
 
