@@ -88,7 +88,7 @@ module _ (ws : List ℕ) (h : Holding) (f out replies : List ℕ) (a : Passable 
           replyRoom = omega (arith, a .replyRoom, a .waiting, length-take (h .state .waiting) (h .queue));
         }
 
-    pub passed-is : (n end : ℕ) (s′ o q : List ℕ) → n ≡ planOf ws .desks
+    pub accepted-is : (n end : ℕ) (s′ o q : List ℕ) → n ≡ planOf ws .desks
         → end ≡ 2 + length (foreignWords (h .state .desk) body ++ allMade (planOf ws) (h .state .desk) (waitingAt h) s)
         → s′ ≡ runAll (planOf ws) (waitingAt h) s
         → o ≡ overwritten (frameAround ((frameVisit f + 1) % n) (frameVisit f + 1)
@@ -102,7 +102,7 @@ module _ (ws : List ℕ) (h : Holding) (f out replies : List ℕ) (a : Passable 
           replies = q;
         }) (acceptedVisit (planOf ws) h f out replies)
     unfolding allReplies
-    passed-is n end s′ o q en ee es eo eq =
+    accepted-is n end s′ o q en ee es eo eq =
         let caught : s ≡ applyAll (foreign (h .state .desk) (frameUpdates f)) (h .cells) =
         e ∙ ap (λ (t : List ℕ). applyAll (foreign (h .state .desk) (updatesFrom 0 t)) (h .cells)) b in
         let rs = waitingAt h in

@@ -96,14 +96,14 @@ module _ (ws : List ℕ) (d : Desk) (cells : List ℕ) (size : ℕ) (records : L
       opened : visitVerdict ws (holding d cells queue) frame out replies ≡ tokenVerdict ws d records frame
       opened = handed queue l q ∙ ap (λ (v : Verdict). v then tokenVerdict ws d records frame) e
 
-      pub passage-refused : (question : ℕ) → tokenVerdict ws d records frame ≡ refused question
+      pub token-refused : (question : ℕ) → tokenVerdict ws d records frame ≡ refused question
           → unchanged (holding d cells queue) out replies question ≡ visitResult ws (holding d cells queue) frame out replies
-      passage-refused question h = left-refused question (opened ∙ h)
+      token-refused question h = left-refused question (opened ∙ h)
 
-      pub left-passed : tokenVerdict ws d records frame ≡ accepted
+      pub left-accepted : tokenVerdict ws d records frame ≡ accepted
           → acceptedVisit (planOf ws) (holding d cells records) frame out replies ≡ visitResult ws (holding d cells queue) frame out replies
       unfolding visitResult
-      left-passed h =
+      left-accepted h =
           rw (opened ∙ h) (ap (λ (rs : List Request). acceptedVisit (planOf ws) (holding d cells rs) frame out replies)
           (sym (sym (records-whole queue (l ∙ queue-long ws cells size out replies e)) ∙ q)))
 

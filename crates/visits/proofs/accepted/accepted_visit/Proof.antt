@@ -14,7 +14,7 @@ use Rattle.desk.specs.Queueing.{waitingIn}
 use Rattle.visits.specs.Running.{allMade}
 use Rattle.visits.proofs.Questions.{Passable, questions-give}
 use Rattle.visits.proofs.Assembled.{Copied, Joined, copied-length, copied-room, end-is, all-length, sealed-over}
-use Rattle.visits.proofs.Outgoing.{frame-size, part-is, written, body-room, words-fit, all-run, passed-is}
+use Rattle.visits.proofs.Outgoing.{frame-size, part-is, written, body-room, words-fit, all-run, accepted-is}
 use borrow.Author.Needs.{needs}
 use Rattle.visits.proofs.accepted.accepted_visit.Statement.{statement}
 use Rattle.visits.proofs.accepted.accepted_visit.Tie as tie
@@ -191,7 +191,7 @@ returns c =
     let w = runs (c .before .before .before .before .before .before) in
     let k = forwards w in
     let s = start-of k in
-    passed-is _ _ _ _ _ (adm s) _ (part-is (s .args .frame .now)) _ (k .forward-foreign .ensures .0) _ _ _ _ _
+    accepted-is _ _ _ _ _ (adm s) _ (part-is (s .args .frame .now)) _ (k .forward-foreign .ensures .0) _ _ _ _ _
     (sym (desk-count (s .args .plan .now))) (end-is (joined w)) (w .run-waiting .ensures .store)
     (c .before .before .seal .ensures ∙ sealed-over (joined w) _ _) (w .run-waiting .ensures .answers)
 

@@ -4,7 +4,7 @@ use mathlib.Core.Path.{_≡_, _∙_, sym, ap}
 use lib.ListN.{length}
 use Rattle.verdict.specs.Verdict.{accepted, verdictOf}
 use Rattle.visits.specs.Core.{openingVerdict, tokenVerdict}
-use Rattle.visits.proofs.Visited.{plan-passes, opening-refused, passage-refused, left-passed, of-records}
+use Rattle.visits.proofs.Visited.{plan-passes, opening-refused, token-refused, left-accepted, of-records}
 use borrow.Author.Needs.{needs}
 use Rattle.visits.proofs.visiting.visit_core.Statement.{statement}
 use Rattle.visits.proofs.visiting.visit_core.Tie as tie
@@ -61,7 +61,7 @@ same-length-6 c = search needs
 
 returns-2 : tie.Need-returns-2
 returns-2 c = λ queue l q.
-    passage-refused _ _ _ _ _ _ _ _ queue l q (opens (c .before .before .before .before .before .before)) _
+    token-refused _ _ _ _ _ _ _ _ queue l q (opens (c .before .before .before .before .before .before)) _
     (sym (c .before .before .before .token-verdict .ensures) ∙ ap verdictOf (c .before .question2 .given .1))
 
 enum-told-2 : tie.Need-enum-told-2
@@ -100,7 +100,7 @@ returns-3 : tie.Need-returns-3
 returns-3 c = λ queue l q.
     let f = c .before .before .before .before .before .before .before .before .before .before .before in
     c .before .before .before .before .before .before .accepted-visit .ensures
-    ∙ left-passed _ _ _ _ _ _ _ _ queue l q (opens (f .before .before .before .before .before)) (passes f)
+    ∙ left-accepted _ _ _ _ _ _ _ _ queue l q (opens (f .before .before .before .before .before)) (passes f)
 
 pub visit-core-spec : {M : Type 1} → statement M
 visit-core-spec =
