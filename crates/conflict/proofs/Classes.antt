@@ -101,8 +101,10 @@ module _ (ws : List ℕ) (e : planVerdict ws ≡ accepted) (o : Operation) (i : 
           → oneDeskEach (deskMask (planOf ws)) (writeSet (planOf ws) o) ≡ a
           → some (written (planOf ws)) (readSet (planOf ws) o) ≡ q → Means (cond w (cond a local global) (cond q local free))
       go true true q ew ea eq = (λ f. f .0 (writes-some (planOf ws) o ew .0) (writes-some (planOf ws) o ew .1), one-desk-no-other ea)
-      go true false q ew ea eq =
-          (λ f. f .0 (writes-some (planOf ws) o ew .0) (writes-some (planOf ws) o ew .1), λ l. false≢true (sym ea ∙ no-other-one-desk (l .1)))
+      go true false q ew ea eq = (
+        λ f. f .0 (writes-some (planOf ws) o ew .0) (writes-some (planOf ws) o ew .1),
+        λ l. false≢true (sym ea ∙ no-other-one-desk (l .1)),
+      )
       go false a false ew ea eq = (writes-none (planOf ws) o ew, unwritten eq)
       go false a true ew ea eq = (λ f. of-unwritten (f .1) eq, λ c m. absurd (writes-none (planOf ws) o ew c m))
 

@@ -14,10 +14,10 @@ use Rattle.plan.specs.Plan.{Access, reads, writes, Partitioning, byParam, unpar
 use Rattle.plan.specs.Decode.{planOf}
 use Rattle.plan.specs.Admission.{planVerdict}
 use Rattle.operation.specs.Operation.{Operation, transactionOf, deskBy, deskOf, cellsNamed, MayRead, MayWrite, MayTouch}
-use Rattle.operation.specs.Admission.{IsOperation}
 use Rattle.conflict.specs.Mask.{bit}
 use Rattle.conflict.specs.Touch.{deskMask}
 use Rattle.conflict.specs.Class.{JustOne}
+use Rattle.conflict.specs.Meaning.{Toucher, MaskHasToucher, OneDeskMask}
 use Rattle.conflict.proofs.Masks.{mask-bit}
 use Rattle.conflict.proofs.Ones.{ones-mask, one-of-count, count-of-one}
 use Rattle.conflict.proofs.Touching.{Accesses, touched, touched-gives, gives-touched, some-desk}
@@ -29,18 +29,14 @@ bit-true false e = absurd (omega arith)
 -- ---- an operation that touches
 
 module _ (p : Plan) (d c : ℕ) where
-  -- some operation of desk d may touch the cell
-  abbrev pub Toucher : Type 0
-  Toucher = (o : Operation) × IsOperation p o × (deskOf p o ≡ d) × MayTouch p o c
-
   touch-by : (o : Operation) (a : Access) → List·Memᴰ c (cellsNamed a (o .params) (transactionOf p o .steps)) → MayTouch p o c
   touch-by o reads m = inl m
   touch-by o writes m = inr m
 
-  toucher-of : (a : Access) → Accesses a p d c → Toucher
+  toucher-of : (a : Access) → Accesses a p d c → Toucher p d c
   toucher-of k a = (a .op, a .is, a .desk, touch-by (a .op) k (a .names))
 
-  of-toucher : Toucher → (a : Access) × Accesses a p d c
+  of-toucher : Toucher p d c → (a : Access) × Accesses a p d c
   of-toucher t =
       ⊎-elim (λ (m : MayRead p (t .0) c). (reads, record { op = t .0; is = t .1; desk = t .2; names = m }))
       (λ (m : MayWrite p (t .0) c). (writes, record { op = t .0; is = t .1; desk = t .2; names = m })) (t .3)
@@ -61,9 +57,9 @@ module _ (ws : List ℕ) (e : planVerdict ws ≡ accepted) (c : ℕ) where
   toucher-found d t = let a = of-toucher (planOf ws) d c t in gives-touched ws e d c (a .0) (a .1)
 
   -- the mask has desk d exactly if some operation of desk d may touch the cell
-  pub mask-has-toucher : (d : ℕ) → d < planOf ws .desks → (deskMask (planOf ws) c / 2 ^ d % 2 ≡ 1) ↔ Toucher (planOf ws) d c
+  has-toucher : (d : ℕ) → d < planOf ws .desks → (deskMask (planOf ws) c / 2 ^ d % 2 ≡ 1) ↔ Toucher (planOf ws) d c
   unfolding deskMask
-  mask-has-toucher d h =
+  has-toucher d h =
       let b = mask-bit (planOf ws .desks) (touched (planOf ws) c) d h in
       (λ m. found-toucher d (bit-true _ (sym b ∙ m)), λ t. b ∙ ap bit (toucher-found d t))
 
@@ -89,3 +85,9 @@ module _ (ws : List ℕ) (e : planVerdict ws ≡ accepted) (c : ℕ) where
               λ d l h. let u = found-toucher d h in sym (u .2) ∙ j .1 .1 (u .0) (u .1) (u .3),
             ),
       )
+
+pub mask-has-toucher : MaskHasToucher
+mask-has-toucher = has-toucher
+
+pub one-desk-mask : OneDeskMask
+one-desk-mask = one-desk

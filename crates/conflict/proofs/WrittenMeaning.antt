@@ -19,6 +19,7 @@ use Rattle.operation.proofs.Admitted.{transaction-below, rows-passed}
 use Rattle.operation.proofs.Cells.{names-of}
 use Rattle.conflict.specs.Touch.{rowTouched}
 use Rattle.conflict.specs.Written.{rowGiven, cellGiven, stepWrites, written}
+use Rattle.conflict.specs.Meaning.{Writer, WrittenMeans}
 use Rattle.conflict.proofs.Touching.{CellStep, sound-at, made, cell-parts, value-low, some-desk, few-desks}
 
 -- ---- a row that is given is given at some desk
@@ -72,11 +73,7 @@ cell-found t k r ps c b s =
 -- ---- the theorem
 
 module _ (ws : List ℕ) (e : planVerdict ws ≡ accepted) (c : ℕ) where
-  -- some operation may write the cell
-  abbrev pub Writer : Type 0
-  Writer = (o : Operation) × IsOperation (planOf ws) o × MayWrite (planOf ws) o c
-
-  pub written-gives : written (planOf ws) c ≡ true → Writer
+  pub written-gives : written (planOf ws) c ≡ true → Writer (planOf ws) c
   unfolding written
   written-gives h =
       let i = some-index (λ t. some (λ s. stepWrites s c) (t .steps)) (planOf ws .transactions) noTransaction h in
@@ -86,7 +83,7 @@ module _ (ws : List ℕ) (e : planVerdict ws ≡ accepted) (c : ℕ) where
       let a = made (planOf ws) (i .0) (m .0) c (some-desk ws e) (few-desks ws e) (i .1) writes (sound-at ws e (i .0) (i .1)) (m .1) in
       (a .op, a .is, a .names)
 
-  pub gives-written : Writer → written (planOf ws) c ≡ true
+  pub gives-written : Writer (planOf ws) c → written (planOf ws) c ≡ true
   unfolding written
   gives-written w =
       let p = planOf ws in
@@ -99,3 +96,6 @@ module _ (ws : List ℕ) (e : planVerdict ws ≡ accepted) (c : ℕ) where
       index-some (λ t. some (λ s. stepWrites s c) (t .steps)) (p .transactions) (o .transaction) noTransaction l
       (member-some (λ s. stepWrites s c) (cell writes (n .table) (n .column) (n .row)) (t .steps) (n .step)
       (cell-found (n .table) (n .column) (n .row) (o .params) c v (n .is)))
+
+pub written-means : WrittenMeans
+written-means ws e c = (written-gives ws e c, gives-written ws e c)

@@ -4,3 +4,4 @@ pub mod Written
 pub mod Class
 pub mod Classification
 pub mod Answer
+pub mod Meaning

@@ -9,7 +9,7 @@ use lib.Dec.{ltb, eqb}
 use Rattle.lists.specs.Lists.{tabulate, some}
 use Rattle.plan.specs.Plan.{Source, param, fixed, Step, cell, operand, Partitioning, byParam, unpartitioned, Transaction, Plan}
 use Rattle.conflict.specs.Mask.{maskOf}
-use Rattle.operation.specs.Run.{storeSize}
+use Rattle.operation.specs.Store.{storeSize}
 
 -- with n desks, some operation of desk d gives this row to the source: with no partitioning desk 0 alone has operations; where the
 -- row is the partitioning parameter, row r is at desk r mod n; else every desk has one

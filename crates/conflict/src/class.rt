@@ -14,9 +14,10 @@ ghost use Rattle.operation.specs.Admission.{parametersPass};
 ghost use Rattle.conflict.specs.Touch.{maskTable};
 ghost use Rattle.conflict.specs.Class.{classBy, isWrite, oneDeskEach, isFree, isGlobal};
 ghost use Rattle.conflict.specs.Answer.{classOfCode, classifiedOf, classifyResult};
-ghost use Rattle.operation.specs.Run.{storeSize};
+ghost use Rattle.operation.specs.Store.{storeSize};
 use crate::mask;
 use crate::written;
+use operation::STORE_SIZE;
 use verdict::Verdict;
 use word::fields;
 
@@ -87,7 +88,8 @@ fn class_of(plan: &[u32], at: usize, params: [u32; 4]) -> Class
     ensures { λ r. ⌜ classOfCode r ≡ classBy (planOf (now (plan .entry))) (transactionFrom (now (plan .entry)) at) params ⌝ }
 {
     if has_write(plan, at) {
-        let masks = mask::desk_masks(plan);
+        let mut masks = [0u8; STORE_SIZE];
+        mask::fill_masks(plan, &mut masks);
         if one_desk_each(plan, at, params, &masks) {
             return Class::Local;
         }

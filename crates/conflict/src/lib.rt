@@ -9,4 +9,4 @@ pub use class::classify;
 pub use class::has_write;
 pub use class::is_free;
 pub use class::is_global;
-pub use mask::desk_masks;
+pub use mask::fill_masks;

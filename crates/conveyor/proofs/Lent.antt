@@ -4,10 +4,10 @@
 --     refAt, refVal            the reference's value, and its machine value.        token       the share of the lifetime's token
 --     Reads, Writes            what a slice of words owns, by `&` and by `&mut`
 --     Params                   the type `[u32; 4]`.        deskVal     the machine value of a desk's state
---     desk-typed, params-typed     the machine value has the MIR type
+--     desk-typed, params-typed     the machine value has the MIR type.        waiting-fits     so has how many requests wait
 --     desk-makes, params-makes, word-makes, size-makes     plain data: what is owned is had for nothing, from the relation
 -- The laws take `Given`. The rest assumes nothing.
-use Prim.Native.Nat.{ℕ}
+use Prim.Native.Nat.{ℕ, _<_, _^_}
 use mathlib.Core.List.{List, [], _∷_}
 use lib.Dec.{T as Holds}
 use lib.ListN.{length}
@@ -61,6 +61,9 @@ Params = Array u32 4
 
 abbrev pub deskVal : Desk → Val
 deskVal d = LL.val D.the-type D′.the-laws d
+
+pub waiting-fits : (d : Desk) → Is D.the-row d (deskVal d ∷ []) → d .waiting < 2 ^ 32
+waiting-fits d is = LL.owed D.the-type D′.the-laws d (deskVal d ∷ []) is .1 .0 .1
 
 module _ {M : Type 1} (𝓤 : URA M) (H : Heap 𝓤) (A : Atoms 𝓤) (W : Given 𝓤 H A) where
   pub desk-typed : (d : Desk) (w : Val) → Is D.the-row d (w ∷ []) → Holds (hasTy D′.mir w) × WT w

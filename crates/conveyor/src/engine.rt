@@ -1,4 +1,4 @@
-// The two calls that take the lent queue. Its length and its first 32 records are read; all else is reckoned on those, and a request then
+// The two calls that take the lent queue. Its length is read and the records that wait; all else is reckoned on those, and a request then
 // stores at most one record.
 ghost use mathlib.Core.Path.{_≡_};
 ghost use Rattle.desk.specs.Holding.{holding};
@@ -25,14 +25,13 @@ pub fn request(
         ≡ requestResult (now (plan .entry)) (holding state (now (cells .entry)) (now (queue .entry)))
         (recordOf client transaction params) ⌝ }
 {
-    let size = queue.len();
-    let records = queue::copied(queue);
-    let step = requests::request_step(
+    let row = queue::copied(queue, state.waiting);
+    let step = requests::request_by_value(
         plan,
         state,
         cells,
-        size,
-        records,
+        queue.len(),
+        row,
         client,
         transaction,
         params,
@@ -55,7 +54,6 @@ pub fn visit(
         ≡ visitResult (now (plan .entry)) (holding state (now (cells .entry)) (now (queue .entry)))
         (now (frame .entry)) (now (out .entry)) (now (replies .entry)) ⌝ }
 {
-    let size = queue.len();
-    let records = queue::copied(queue);
-    visits::visit_core(plan, state, cells, size, records, frame, out, replies)
+    let row = queue::copied(queue, state.waiting);
+    visits::visit_by_value(plan, state, cells, queue.len(), row, frame, out, replies)
 }

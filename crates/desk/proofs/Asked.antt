@@ -19,7 +19,8 @@ use Rattle.plan.proofs.Places.{stands-at, transaction-is}
 use Rattle.plan.proofs.Placing.{place-found}
 use Rattle.operation.specs.Operation.{transactionOf, deskBy, deskOf}
 use Rattle.operation.specs.Admission.{transactionExists, parametersPass, operationVerdict}
-use Rattle.operation.specs.Run.{Store, runTransaction, run}
+use Rattle.operation.specs.Store.{Store}
+use Rattle.execution.specs.Run.{runTransaction, run}
 use Rattle.conflict.specs.Class.{classBy, classOf}
 use Rattle.queue.specs.Queue.{paramsOf}
 use Rattle.queue.specs.declared.record.Request.{Request}

@@ -1,7 +1,7 @@
 -- Question 6, by the tests that answer it: of one record, of the waiting records, and of the state.
 -- Assumes nothing.
-use mathlib.Core.Path.{_≡_, _∙_, sym}
-use mathlib.Core.Bool.{true, false, false≢true}
+use mathlib.Core.Path.{_≡_}
+use mathlib.Core.Bool.{true, false}
 use mathlib.Core.List.{List}
 use Prim.Native.Nat.{ℕ, _%_, _≤_, _<_}
 use lib.Dec.{eqb}
@@ -17,10 +17,8 @@ use Rattle.operation.specs.Admission.{operationVerdict}
 use Rattle.conflict.specs.Class.{isGlobal, classOf}
 use Rattle.queue.specs.declared.record.Request.{Request}
 use Rattle.desk.specs.declared.state.Desk.{Desk}
-use Rattle.desk.specs.declared.check.DeskCheck.{DeskCheck}
 use Rattle.desk.specs.Queueing.{operationOf, waitingIn}
 use Rattle.desk.specs.Admission.{waitsHere, deskFits}
-use Rattle.desk.specs.Place.{TableHolds}
 
 -- ---- one record
 
@@ -59,7 +57,3 @@ module _ (ws : List ℕ) (d : Desk) (records : List Request) where
           → deskFits (planOf ws) d records ≡ every (waitsHere (planOf ws) (d .desk)) (waitingIn (d .waiting) records)
       unfolding deskFits
       by-records a = rw (desk-count ws, lt-ltb _ _ h, le-leb _ _ w, eq-eqb _ _ a)
-
--- an answer for which no table was filled says nothing of one
-pub untabled-holds : (ws : List ℕ) (s : DeskCheck) → s .known ≡ false → TableHolds ws s
-untabled-holds ws s e = λ known. absurd (false≢true (sym e ∙ known))

@@ -12,7 +12,7 @@ use Rattle.plan.specs.Decode.{planOf}
 use Rattle.plan.specs.Admission.{planVerdict}
 use Rattle.operation.specs.Operation.{deskOf}
 use Rattle.operation.specs.Admission.{operationVerdict}
-use Rattle.operation.specs.Run.{storeSize}
+use Rattle.operation.specs.Store.{storeSize}
 use Rattle.conflict.specs.Class.{isGlobal, classOf}
 use Rattle.queue.specs.Queue.{queueSize}
 use Rattle.queue.specs.declared.record.Request.{Request}

@@ -1,16 +1,17 @@
--- What the questions hand on: 7 and 8 the place of the operation's transaction, 6 the table of masks.
+-- What the questions hand on: 7 and 8 the place of the operation's transaction; and the table of masks that is lent to question 6.
 use Prim.Native.Nat.{ℕ}
 use mathlib.Core.Path.{_≡_}
-use mathlib.Core.Bool.{true}
+use mathlib.Core.Bool.{Bool, cond}
 use mathlib.Core.List.{List}
+use lib.ListN.{replicate}
 use Rattle.verdict.specs.Verdict.{Verdict, ifAccepted}
-use Rattle.plan.specs.Decode.{planOf}
+use Rattle.plan.specs.Plan.{Plan}
 use Rattle.plan.specs.Place.{transactionPlace}
+use Rattle.operation.specs.Store.{storeSize}
 use Rattle.conflict.specs.Touch.{maskTable}
 use Rattle.queue.specs.declared.record.Request.{Request}
 use Rattle.desk.specs.declared.admitted.Located.{Located}
 use Rattle.desk.specs.declared.admitted.Located.the-variants as located
-use Rattle.desk.specs.declared.check.DeskCheck.{DeskCheck}
 use Rattle.desk.specs.Admission.{Admitted}
 
 -- ---- questions 7 and 8, with the transaction's place where both are answered with yes
@@ -31,7 +32,7 @@ pub record Placed (ws : List ℕ) (r : Request) (at : ℕ) : Type 0 where
   pub admitted : Admitted ws r
   pub place : at ≡ transactionPlace ws (r .transaction)
 
--- ---- question 6 hands on the table of masks where it has filled it
+-- ---- the table of masks that is lent to question 6 and to a request's route: filled or all zero
 
-abbrev pub TableHolds : List ℕ → DeskCheck → Type 0
-TableHolds ws s = s .known ≡ true → s .masks ≡ maskTable (planOf ws)
+abbrev pub masksIf : Bool → Plan → List ℕ
+masksIf filled p = cond filled (maskTable p) (replicate storeSize 0)

@@ -6,10 +6,11 @@ ghost use Rattle.plan.specs.Admission.{planVerdict};
 ghost use Rattle.plan.specs.Place.{transactionPlace, transactionPlaces};
 ghost use Rattle.operation.specs.Operation.{deskOf};
 ghost use Rattle.operation.specs.Admission.{operationVerdict};
-ghost use Rattle.operation.specs.Run.{applyUpdate, run as runOf};
+ghost use Rattle.operation.specs.Store.{applyUpdate};
+ghost use Rattle.execution.specs.Run.{run as runOf};
 ghost use Rattle.desk.specs.Queueing.{operationOf};
 ghost use Rattle.desk.specs.Place.{placeOf, placeBy, Placed};
-use operation::Reply;
+use execution::Reply;
 use queue::Request;
 use word::fields;
 
@@ -55,8 +56,8 @@ pub fn run_operation(plan: &[u32], at: usize, request: Request, cells: &mut [u32
     ensures applied { λ r. ⌜ now (cells .exit)
         ≡ applyUpdate (runOf (planOf (now (plan .entry))) (operationOf request) (now (cells .entry)) .update) (now (cells .entry)) ⌝ }
 {
-    let outcome = operation::run(plan, at, queue::params(request), cells);
+    let outcome = execution::run(plan, at, queue::params(request), cells);
     let update = outcome.update;
-    operation::apply(cells, update);
+    execution::apply(cells, update);
     outcome.reply
 }

@@ -19,10 +19,11 @@ use Rattle.plan.specs.Plan.{Plan}
 use Rattle.plan.specs.Decode.{planOf}
 use Rattle.plan.specs.Admission.{planVerdict}
 use Rattle.operation.specs.Admission.{operationVerdict}
-use Rattle.operation.specs.Run.{Store, applyUpdate, run}
-use Rattle.token.specs.Admission.{frameVerdict}
-use Rattle.token.proofs.OneWord.{one-word}
-use Rattle.token.proofs.Verdicts.{read-after}
+use Rattle.operation.specs.Store.{Store, applyUpdate}
+use Rattle.execution.specs.Run.{run}
+use Rattle.frame.specs.Admission.{frameVerdict}
+use Rattle.frame.proofs.OneWord.{one-word}
+use Rattle.frame.proofs.Verdicts.{read-after}
 use Rattle.queue.specs.Queue.{noRequest}
 use Rattle.queue.specs.declared.record.Request.{Request}
 use Rattle.desk.specs.declared.state.Desk.{Desk}

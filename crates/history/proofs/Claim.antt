@@ -12,11 +12,11 @@ use Rattle.plan.specs.Plan.{Plan}
 use Rattle.plan.specs.Decode.{planOf}
 use Rattle.plan.specs.Admission.{planVerdict}
 use Rattle.operation.specs.Operation.{Operation}
-use Rattle.operation.specs.Run.{Store}
+use Rattle.operation.specs.Store.{Store}
 use Rattle.conflict.specs.Class.{Class, JustOne}
 use Rattle.conflict.proofs.MaskMeaning.{desk-low}
 use Rattle.conflict.proofs.Touching.{some-desk}
-use Rattle.token.specs.Frame.{startingFrame}
+use Rattle.frame.specs.Frame.{startingFrame}
 use Rattle.queue.specs.declared.record.Request.{Request}
 use Rattle.desk.specs.Holding.{Holding}
 use Rattle.serial.specs.System.{System}

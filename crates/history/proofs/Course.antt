@@ -13,14 +13,15 @@ use Rattle.plan.specs.Admission.{hasHead, countsInRange, transactionFormed, ste
 use Rattle.plan.specs.Admission.{parametersExist, transactionsVerdict, planVerdict}
 use Rattle.operation.specs.Operation.{cellsNamed}
 use Rattle.operation.specs.Admission.{transactionExists, unusedZero, rowInRange, parametersPass, operationVerdict}
-use Rattle.operation.specs.Run.{applyUpdate, act, runFrom}
+use Rattle.operation.specs.Store.{applyUpdate}
+use Rattle.execution.specs.Run.{act, runFrom}
 use Rattle.conflict.specs.Mask.{maskOf}
 use Rattle.conflict.specs.Touch.{rowTouched, cellTouched, stepTouches, deskMask}
 use Rattle.conflict.specs.Written.{cellGiven, stepWrites, written}
 use Rattle.conflict.specs.Class.{classBy}
-use Rattle.token.specs.Frame.{writeWords, updateWords, updatesWords, sumsFrom, frameAround}
-use Rattle.token.specs.Admission.{writesFrom, updatesFrom, deskCount, frameHeaded, sumsRight, updateFormed, cellFormed, wellFormed}
-use Rattle.token.specs.Admission.{fewPerDesk, updatesRight, frameVerdict}
+use Rattle.frame.specs.Frame.{writeWords, updateWords, updatesWords, sumsFrom, frameAround}
+use Rattle.frame.specs.Admission.{writesFrom, updatesFrom, deskCount, frameHeaded, sumsRight, updateFormed, cellFormed, wellFormed}
+use Rattle.frame.specs.Admission.{fewPerDesk, updatesRight, frameVerdict}
 use Rattle.desk.specs.Admission.{deskBuffersFit, waitsHere, deskFits}
 use Rattle.visits.specs.Admission.{visitBuffersFit, turnVerdict}
 use Rattle.requests.specs.Request.{requestVerdict, requestResult}

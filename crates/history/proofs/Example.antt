@@ -12,7 +12,7 @@ use Rattle.lists.specs.Lists.{every}
 use Rattle.lists.proofs.Laws.{cons-in-snoc, snoc-in-cons}
 use Rattle.plan.specs.Plan.{param, fixed, reads, writes, sets, cell, operand, Partitioning, byParam, unpartitioned, Transaction, Plan}
 use Rattle.operation.specs.Operation.{Operation, operation, deskOf, cellsNamed, readSet, writeSet, MayRead, MayWrite}
-use Rattle.operation.specs.Run.{Reply, run}
+use Rattle.execution.specs.Run.{Reply, run}
 use Rattle.conflict.proofs.Ones.{countOf}
 use Rattle.serial.specs.Desk.{Desk, Call, request, visit}
 use Rattle.serial.specs.System.{free, local, global, System, Laws}

@@ -7,7 +7,7 @@ use mathlib.Core.List.{List, [], _∷_, map, List·Memᴰ·head, List·Memᴰ·t
 use native.Mathlib.Omega.{arith}
 use Rattle.lists.specs.Lists.{every}
 use Rattle.operation.specs.Operation.{cellsNamed}
-use Rattle.operation.specs.Run.{Reply, act, runFrom}
+use Rattle.execution.specs.Run.{Reply, act, runFrom}
 use Rattle.conflict.proofs.Ones.{countOf}
 use Rattle.serial.specs.Store.{Store}
 use Rattle.serial.specs.Frame.{Frame, startFrame}

@@ -11,7 +11,7 @@ use Rattle.lists.specs.Lists.{overwritten}
 use Rattle.plan.specs.Decode.{planOf}
 use Rattle.plan.specs.Admission.{planVerdict}
 use Rattle.operation.specs.Operation.{Operation}
-use Rattle.operation.specs.Run.{Reply}
+use Rattle.execution.specs.Run.{Reply}
 use Rattle.conflict.specs.Class.{Class}
 use Rattle.desk.specs.Holding.{Holding}
 use Rattle.requests.specs.Request.{recordOf, requestResult}

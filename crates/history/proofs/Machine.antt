@@ -10,9 +10,10 @@ use Rattle.plan.specs.Decode.{planOf}
 use Rattle.plan.specs.Admission.{planVerdict}
 use Rattle.plan.proofs.Accepted.{accepted-gives, desk-count}
 use Rattle.operation.specs.Operation.{Operation}
-use Rattle.operation.specs.Run.{Update, Reply}
+use Rattle.operation.specs.Store.{Update}
+use Rattle.execution.specs.Run.{Reply}
 use Rattle.conflict.specs.Class.{Class}
-use Rattle.token.specs.Frame.{startingFrame}
+use Rattle.frame.specs.Frame.{startingFrame}
 use Rattle.token.proofs.Readers.{starting-reads}
 use Rattle.desk.specs.Holding.{Holding}
 use Rattle.requests.specs.Request.{recordOf, requestResult}

@@ -9,7 +9,8 @@ use Rattle.lists.specs.Lists.{All}
 use Rattle.plan.specs.Plan.{Plan}
 use Rattle.plan.specs.Decode.{planOf}
 use Rattle.operation.specs.Operation.{Operation}
-use Rattle.operation.specs.Run.{Store, Reply, Outcome, run}
+use Rattle.operation.specs.Store.{Store}
+use Rattle.execution.specs.Run.{Reply, Outcome, run}
 use Rattle.conflict.specs.Class.{Class}
 use Rattle.desk.specs.Queueing.{operationOf}
 use Rattle.visits.specs.Waiting.{Answered}

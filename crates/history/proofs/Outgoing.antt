@@ -12,8 +12,8 @@ use Rattle.lists.proofs.Laws.{and-true}
 use Rattle.plan.specs.Plan.{Plan}
 use Rattle.plan.specs.Decode.{planOf}
 use Rattle.plan.specs.Admission.{planVerdict}
-use Rattle.operation.specs.Run.{Store}
-use Rattle.token.specs.Frame.{SentUpdate, sent}
+use Rattle.operation.specs.Store.{Store}
+use Rattle.frame.specs.Frame.{SentUpdate, sent}
 use Rattle.token.specs.WellFormed.{WellFormed}
 use Rattle.token.specs.Forward.{foreign}
 use Rattle.token.proofs.Foreign.{forwarded-fits}

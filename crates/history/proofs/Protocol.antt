@@ -10,9 +10,10 @@ use Rattle.plan.specs.Plan.{Plan}
 use Rattle.plan.specs.Decode.{planOf}
 use Rattle.operation.specs.Operation.{Operation, deskOf, MayRead, MayWrite}
 use Rattle.operation.specs.Admission.{IsOperation, operationVerdict}
-use Rattle.operation.specs.Run.{Store, Reply, Outcome, declined, run}
+use Rattle.operation.specs.Store.{Store}
+use Rattle.execution.specs.Run.{Reply, Outcome, declined, run}
 use Rattle.conflict.specs.Class.{Class, free, local, global}
-use Rattle.token.specs.Admission.{frameVerdict}
+use Rattle.frame.specs.Admission.{frameVerdict}
 use Rattle.desk.specs.Queueing.{joinQueue}
 use Rattle.visits.specs.Admission.{visitBuffersFit, turnVerdict}
 use Rattle.serial.specs.Desk.{Desk, Call, request, visit}

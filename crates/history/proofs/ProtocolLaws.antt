@@ -12,8 +12,9 @@ use Rattle.plan.specs.Decode.{planOf}
 use Rattle.plan.specs.Admission.{planVerdict}
 use Rattle.operation.specs.Operation.{Operation, transactionOf, deskOf, MayRead, MayWrite, MayTouch}
 use Rattle.operation.specs.Admission.{IsOperation}
-use Rattle.operation.specs.Run.{Store, Outcome, declined, run}
-use Rattle.operation.proofs.Runs.{reads-decide}
+use Rattle.operation.specs.Store.{Store}
+use Rattle.execution.specs.Run.{Outcome, declined, run}
+use Rattle.execution.proofs.Runs.{reads-decide}
 use Rattle.conflict.specs.Class.{Class, free, local, global}
 use Rattle.conflict.proofs.MaskMeaning.{desk-low}
 use Rattle.conflict.proofs.Touching.{some-desk}

@@ -17,7 +17,8 @@ use Rattle.plan.specs.Decode.{planOf}
 use Rattle.plan.specs.Admission.{planVerdict}
 use Rattle.operation.specs.Operation.{Operation, deskOf}
 use Rattle.operation.specs.Admission.{IsOperation, operationVerdict}
-use Rattle.operation.specs.Run.{Store, Outcome, Reply}
+use Rattle.operation.specs.Store.{Store}
+use Rattle.execution.specs.Run.{Outcome, Reply}
 use Rattle.conflict.specs.Class.{Class, free, local, global, classOf}
 use Rattle.conflict.proofs.Classes.{class-free, class-local, class-global}
 use Rattle.queue.specs.declared.record.Request.{Request}

@@ -9,10 +9,11 @@ use Rattle.lists.specs.Lists.{All}
 use Rattle.plan.specs.Decode.{planOf}
 use Rattle.operation.specs.Operation.{Operation}
 use Rattle.operation.specs.Admission.{IsOperation}
-use Rattle.operation.specs.Run.{Store, Update, Reply, Outcome, applyUpdate, run}
+use Rattle.operation.specs.Store.{Store, Update, applyUpdate}
+use Rattle.execution.specs.Run.{Reply, Outcome, run}
 use Rattle.conflict.specs.Class.{Class}
-use Rattle.token.specs.Frame.{SentUpdate, sent}
-use Rattle.token.specs.Admission.{frameVisit, frameUpdates}
+use Rattle.frame.specs.Frame.{SentUpdate, sent}
+use Rattle.frame.specs.Admission.{frameVisit, frameUpdates}
 use Rattle.queue.specs.declared.record.Request.{Request}
 use Rattle.desk.specs.Queueing.{operationOf}
 use Rattle.token.specs.Forward.{foreign, applyAll}

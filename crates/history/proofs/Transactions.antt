@@ -6,9 +6,9 @@ use mathlib.Core.List.{[], _∷_, List·Memᴰ, List·Memᴰ·head, List·Memᴰ
 use lib.ListN.{set}
 use Rattle.plan.specs.Plan.{Plan}
 use Rattle.operation.specs.Operation.{Operation, transactionOf, MayRead, MayWrite}
-use Rattle.operation.specs.Run.{Outcome, run}
-use Rattle.operation.specs.Run as steps
-use Rattle.operation.proofs.Runs.{reads-decide, writes-within}
+use Rattle.execution.specs.Run.{Outcome, run}
+use Rattle.operation.specs.Store as store
+use Rattle.execution.proofs.Runs.{reads-decide, writes-within}
 use Rattle.serial.specs.Store.{Store, Update, applyUpdate, Same, Within}
 
 -- an update writes cells of P only, if each of its pairs does
@@ -17,8 +17,8 @@ within P [] f = tt
 within P (w ∷ u) f = (f w (List·Memᴰ·head refl), within P u (λ v m. f v (List·Memᴰ·tail m)))
 
 -- applying an update is the same in both layers
-pub apply-agrees : (u : Update) (s : Store) → steps.applyUpdate u s ≡ applyUpdate u s
-unfolding steps.applyUpdate
+pub apply-agrees : (u : Update) (s : Store) → store.applyUpdate u s ≡ applyUpdate u s
+unfolding store.applyUpdate
 apply-agrees [] s = refl
 apply-agrees (w ∷ u) s = apply-agrees u (set s (w .0) (w .1))
 

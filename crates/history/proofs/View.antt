@@ -5,7 +5,7 @@ use mathlib.Core.List.{List, [], map}
 use lib.ListN.{take}
 use Rattle.plan.specs.Decode.{planOf}
 use Rattle.operation.specs.Operation.{Operation}
-use Rattle.operation.specs.Run.{Reply}
+use Rattle.execution.specs.Run.{Reply}
 use Rattle.desk.specs.Holding.{Holding, waitingAt}
 use Rattle.requests.specs.Request.{recordOf}
 use Rattle.requests.specs.Request as asked

@@ -10,7 +10,7 @@ use Rattle.plan.specs.Decode.{planOf}
 use Rattle.plan.specs.Admission.{planVerdict}
 use Rattle.operation.specs.Operation.{Operation}
 use Rattle.conflict.specs.Class.{Class, classOf}
-use Rattle.token.specs.Admission.{frameVisit}
+use Rattle.frame.specs.Admission.{frameVisit}
 use Rattle.queue.specs.declared.record.Request.{Request}
 use Rattle.serial.specs.System.{System}
 use Rattle.serial.specs.History.{newDesks, answerAt, stepAt, answers}

@@ -20,10 +20,11 @@ use Rattle.plan.specs.Decode.{headOf, planOf}
 use Rattle.plan.specs.Admission.{planVerdict}
 use Rattle.plan.proofs.Accepted.{accepted-gives, desk-count}
 use Rattle.operation.specs.Operation.{Operation}
-use Rattle.operation.specs.Run.{Store, Update, Reply}
+use Rattle.operation.specs.Store.{Store, Update}
+use Rattle.execution.specs.Run.{Reply}
 use Rattle.conflict.specs.Class.{Class}
-use Rattle.token.specs.Frame.{SentUpdate, sent}
-use Rattle.token.specs.Admission.{frameVerdict, frameVisit, frameUpdates, ReadsAs}
+use Rattle.frame.specs.Frame.{SentUpdate, sent}
+use Rattle.frame.specs.Admission.{frameVerdict, frameVisit, frameUpdates, ReadsAs}
 use Rattle.token.proofs.RoundTrip.{reads-written, written-reads}
 use Rattle.queue.specs.declared.record.Request.{Request}
 use Rattle.desk.specs.declared.state.Desk.{Desk}

@@ -8,8 +8,8 @@ use lib.ListN.{length, getD, set, take}
 use Rattle.verdict.specs.Verdict.{accepted}
 use Rattle.plan.specs.Decode.{planOf}
 use Rattle.plan.specs.Admission.{planVerdict}
-use Rattle.operation.specs.Words.{AllWords}
-use Rattle.token.specs.Admission.{frameVerdict, frameVisit, frameUpdates, readVerdict}
+use Rattle.word.specs.Words.{AllWords}
+use Rattle.frame.specs.Admission.{frameVerdict, frameVisit, frameUpdates, readVerdict}
 use Rattle.queue.specs.Queue.{paramsOf}
 use Rattle.queue.specs.declared.record.Request.{Request}
 use Rattle.desk.specs.Holding.{Holding}

@@ -9,7 +9,7 @@ use Rattle.plan.specs.Plan.{Plan}
 use Rattle.plan.specs.Decode.{planOf}
 use Rattle.plan.specs.Admission.{planVerdict}
 use Rattle.operation.specs.Operation.{Operation}
-use Rattle.operation.specs.Run.{Store}
+use Rattle.operation.specs.Store.{Store}
 use Rattle.conflict.specs.Class.{Class, classOf, JustOne}
 use Rattle.queue.specs.declared.record.Request.{Request}
 use Rattle.desk.specs.Holding.{Holding}

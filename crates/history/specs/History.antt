@@ -9,7 +9,7 @@ use Rattle.verdict.specs.Verdict.{accepted}
 use Rattle.lists.specs.Lists.{assign}
 use Rattle.plan.specs.Decode.{planOf}
 use Rattle.plan.specs.Admission.{planVerdict}
-use Rattle.token.specs.Frame.{startingFrame}
+use Rattle.frame.specs.Frame.{startingFrame}
 use Rattle.queue.specs.declared.record.Request.{Request}
 use Rattle.desk.specs.Answer.{opened, newDesk, newDeskResult}
 use Rattle.desk.specs.Holding.{Holding, holding}

@@ -12,7 +12,8 @@ use Rattle.plan.specs.Decode.{planOf}
 use Rattle.plan.specs.Admission.{planVerdict}
 use Rattle.operation.specs.Operation.{Operation, deskOf}
 use Rattle.operation.specs.Admission.{IsOperation}
-use Rattle.operation.specs.Run.{Store, applyUpdate, run}
+use Rattle.operation.specs.Store.{Store, applyUpdate}
+use Rattle.execution.specs.Run.{run}
 use Rattle.conflict.specs.Class.{Class, free, local, global, Free, Local, Global, classOf}
 use Rattle.queue.specs.declared.record.Request.{Request}
 use Rattle.desk.specs.Queueing.{operationOf, joinQueue}

@@ -7,7 +7,7 @@ use lib.ListN.{length, getD}
 use Rattle.verdict.specs.Verdict.{accepted}
 use Rattle.plan.specs.Decode.{planOf}
 use Rattle.plan.specs.Admission.{planVerdict}
-use Rattle.token.specs.Admission.{frameVisit}
+use Rattle.frame.specs.Admission.{frameVisit}
 use Rattle.queue.specs.declared.record.Request.{Request}
 use Rattle.history.specs.History.{Call, request, visit, isRefused, outcomes, start, ProperFromStart}
 

@@ -3,8 +3,4 @@ pub mod Rows
 pub mod Admitted
 pub mod Cells
 pub mod StepKinds
-pub mod Updates
-pub mod Running
 pub mod Bounds
-pub mod Runs
-pub mod Words

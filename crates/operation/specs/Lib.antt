@@ -1,5 +1,3 @@
-pub mod Words
 pub mod Operation
 pub mod Admission
-pub mod Run
-pub mod Answer
+pub mod Store

@@ -1,4 +1,4 @@
-// The desk of an operation, and the cell or number that a step of it names.
+// The desk of an operation, the cell or number that a step of it names, and how many cells a store has.
 ghost use mathlib.Core.Path.{_≡_};
 ghost use Prim.Native.Nat.{_≤_};
 ghost use lib.ListN.{getD};
@@ -6,6 +6,9 @@ ghost use Rattle.word.specs.Field.{partitioningField, tableField, columnField};
 ghost use Rattle.plan.specs.Decode.{sourceBy, rowOf, partBy};
 ghost use Rattle.operation.specs.Operation.{valueOf, deskBy, cellNumber};
 use word::fields;
+
+// The cells of a store.
+pub const STORE_SIZE: usize = 1024;
 
 // Parameter i, 0 past the fourth.
 pub fn parameter(params: [u32; 4], i: u32) -> u32

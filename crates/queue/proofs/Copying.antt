@@ -1,59 +1,76 @@
--- The first 32 records of a queue, copied one by one over blank ones.
---     records-length, records-at, records-whole    `recordsOf` has 32 records, each the queue's at its place, and of a queue of 32 it
---     is the queue
---     upto i ys        32 records, of which the first i are copied.        upto-length     there are 32
---     upto-start, upto-step, upto-end      where the copy begins, one record more, and where it ends
+-- The first records of a queue, stored one by one among words that are zero.
+--     storedFirst-length       there are 192 words
+--     storedFirst-start, storedFirst-next      no record, and one record more
+--     storedFirst-bounded      no record past the 32nd is stored
+--     waiting-records          the records that wait in a queue of 32 are read from its words as from the queue
 -- Assumes nothing.
-use mathlib.Core.Path.{_≡_, sym, _∙_, ap}
-use Prim.Native.Nat.{ℕ, _+_, _-_, _<_, _≤_}
-use native.Mathlib.Nat.{zero-add}
+use mathlib.Core.Path.{_≡_, refl, sym, _∙_, ap}
+use Prim.Native.Nat.{ℕ, zero, suc, _+_, _-_, _<_, _≤_, min}
+use native.Mathlib.Nat.{not-suc-le-zero, min-eq-left, min-eq-right}
 use native.Mathlib.Numerals.{add-one}
 use native.Mathlib.Omega.{arith}
-use mathlib.Core.List.{List, _++_, append-nil}
-use lib.ListN.{length, getD, set, take, replicate, length-replicate, length-append, List·getD-append, List·getD-eq-default}
-use lib.ListN.{getD-replicate}
-use lib.Seq.{paste, paste-zero, paste-suc, length-paste, getD-append-add, take-append-le, take-all}
-use Rattle.lists.proofs.Laws.{by-less}
+use mathlib.Core.List.{List}
+use lib.ListN.{length, getD, set, take, replicate, length-replicate}
+use lib.Seq.{ext-getD, getD-take, getD-set-same, getD-set-other, length-take-le}
+use Rattle.lists.proofs.Laws.{by-same, by-less, length-tabulate}
 use Rattle.queue.specs.declared.record.Request.{Request}
-use Rattle.queue.specs.Queue.{noRequest, recordAt, recordsOf}
+use Rattle.queue.specs.Queue.{noRequest, recordAt}
+use Rattle.queue.specs.Words.{recordIn, recordsIn, storedIn, storedFirst}
+use Rattle.queue.proofs.Rows.{queueIn-row, queueIn-storedIn, storedIn-length, storedIn-past}
 
--- the queue, with 32 blank records after it
-abbrev padded : List Request → List Request
-padded ys = ys ++ replicate 32 noRequest
+module _ (queue : List Request) where
+  pub storedFirst-length : (n : ℕ) → length (storedFirst n queue) ≡ 192
+  unfolding storedFirst
+  storedFirst-length zero = length-replicate {A = ℕ} 192 0
+  storedFirst-length (suc n) = storedIn-length (storedFirst n queue) n (recordAt queue n) ∙ storedFirst-length n
 
-padded-length : (ys : List Request) → 32 ≤ length (padded ys)
-padded-length ys = omega (arith, length-append ys (replicate 32 noRequest), length-replicate 32 noRequest)
+  pub storedFirst-start : replicate 192 0 ≡ storedFirst 0 queue
+  unfolding storedFirst
+  storedFirst-start = refl
 
-padded-at : (ys : List Request) (i : ℕ) → i < 32 → getD (padded ys) i noRequest ≡ recordAt ys i
-padded-at ys i l =
-    by-less i (length ys) (λ h. List·getD-append ys (replicate 32 noRequest) noRequest i h)
-    (λ h. let k : ℕ = i - length ys in
-    let split : i ≡ length ys + k = omega arith in
-    ap (λ (j : ℕ). getD (padded ys) j noRequest) split ∙ getD-append-add ys (replicate 32 noRequest) k noRequest
-    ∙ getD-replicate 32 k noRequest noRequest (omega arith) ∙ sym (List·getD-eq-default ys noRequest h))
+  pub storedFirst-next : (n : ℕ) → storedIn (storedFirst n queue) n (recordAt queue n) ≡ storedFirst (n + 1) queue
+  unfolding storedFirst
+  storedFirst-next n = ap (λ (m : ℕ). storedFirst m queue) (sym (add-one n))
 
-pub records-whole : (ys : List Request) → length ys ≡ 32 → recordsOf ys ≡ ys
-records-whole ys e = take-append-le 32 ys (replicate 32 noRequest) (omega arith) ∙ take-all 32 ys (omega arith)
+  -- past the 32nd record the words stay
+  past : (k : ℕ) → storedFirst 32 queue ≡ storedFirst (32 + k) queue
+  past zero = refl
+  past (suc k) =
+      past k ∙ storedIn-past (storedFirst (32 + k) queue) (32 + k) (recordAt queue (32 + k)) (storedFirst-length (32 + k)) (omega arith)
+      ∙ storedFirst-next (32 + k) ∙ ap (λ (m : ℕ). storedFirst m queue) (omega arith)
 
-abbrev pub upto : ℕ → List Request → List Request
-upto i ys = paste (replicate 32 noRequest) 0 (padded ys) i
+  pub storedFirst-bounded : (n : ℕ) → storedFirst (min n 32) queue ≡ storedFirst n queue
+  storedFirst-bounded n =
+      by-less n 32 (λ l. ap (λ (m : ℕ). storedFirst m queue) (min-eq-left (omega arith)))
+      (λ l. ap (λ (m : ℕ). storedFirst m queue) (min-eq-right l) ∙ past (n - 32) ∙ ap (λ (m : ℕ). storedFirst m queue) (omega arith))
 
-pub upto-length : (ys : List Request) (i : ℕ) → i ≤ 32 → length (upto i ys) ≡ 32
-upto-length ys i l =
-    let room : 0 + i ≤ length (replicate 32 noRequest) = omega (arith, length-replicate 32 noRequest) in
-    let enough : i ≤ length (padded ys) = omega (arith, padded-length ys) in
-    length-paste (replicate 32 noRequest) 0 (padded ys) i room enough ∙ length-replicate 32 noRequest
+-- a record that is stored among the words of a queue is stored among its records
+recordsIn-storedIn : (ws : List ℕ) (at : ℕ) (r : Request) → length ws ≡ 192 → recordsIn (storedIn ws at r) ≡ set (recordsIn ws) at r
+recordsIn-storedIn ws at r e =
+    sym (queueIn-row (storedIn ws at r) (storedIn-length ws at r ∙ e)) ∙ queueIn-storedIn ws at r
+    ∙ ap (λ (q : List Request). set q at r) (queueIn-row ws e)
 
-pub upto-start : (ys : List Request) → replicate 32 noRequest ≡ upto 0 ys
-upto-start ys = paste-zero (replicate 32 noRequest) 0 (padded ys)
+module _ (queue : List Request) where
+  -- a record that is stored is read as it is
+  recordsIn-storedFirst : (n i : ℕ) → i < n → i < 32 → getD (recordsIn (storedFirst n queue)) i noRequest ≡ recordAt queue i
+  unfolding storedFirst
+  recordsIn-storedFirst zero i l h = absurd (not-suc-le-zero l)
+  recordsIn-storedFirst (suc n) i l h =
+      let ws : List ℕ = storedFirst n queue in
+      let r : Request = recordAt queue n in
+      let size : length (recordsIn ws) ≡ 32 = length-tabulate 32 (recordIn ws) in
+      ap (λ (rs : List Request). getD rs i noRequest) (recordsIn-storedIn ws n r (storedFirst-length queue n))
+      ∙ by-same i n
+      (λ s. ap (λ (k : ℕ). getD (set (recordsIn ws) n r) k noRequest) s
+      ∙ getD-set-same (recordsIn ws) n r noRequest (omega (arith, size)) ∙ ap (recordAt queue) (sym s))
+      (λ s. getD-set-other (recordsIn ws) n i r noRequest s ∙ recordsIn-storedFirst n i (omega (arith, s)) h)
 
-pub upto-step : (ys : List Request) (i : ℕ) → i < 32 → set (upto i ys) i (recordAt ys i) ≡ upto (i + 1) ys
-upto-step ys i l =
-    let room : 0 + i < length (replicate 32 noRequest) = omega (arith, length-replicate 32 noRequest) in
-    let enough : i < length (padded ys) = omega (arith, padded-length ys) in
-    ap (λ (r : Request). set (upto i ys) i r) (sym (padded-at ys i l))
-    ∙ ap (λ (j : ℕ). set (upto i ys) j (getD (padded ys) i noRequest)) (sym (zero-add i))
-    ∙ paste-suc (replicate 32 noRequest) 0 (padded ys) i noRequest room enough ∙ ap (λ (j : ℕ). upto j ys) (sym (add-one i))
-
-pub upto-end : (ys : List Request) → upto 32 ys ≡ recordsOf ys
-upto-end ys = append-nil (take 32 (padded ys))
+  pub waiting-records : (waiting : ℕ) → length queue ≡ 32 → waiting ≤ 32
+      → take waiting (recordsIn (storedFirst waiting queue)) ≡ take waiting queue
+  waiting-records n e h =
+      let rs : List Request = recordsIn (storedFirst n queue) in
+      let size : length rs ≡ 32 = length-tabulate 32 (recordIn (storedFirst n queue)) in
+      let front : length (take n rs) ≡ n = length-take-le n rs (omega arith) in
+      ext-getD noRequest (take n rs) (take n queue) (front ∙ sym (length-take-le n queue (omega arith)))
+      (λ i l. let k : i < n = omega arith in getD-take n rs i noRequest k ∙ recordsIn-storedFirst n i k (omega arith)
+      ∙ sym (getD-take n queue i noRequest k))

@@ -1,7 +1,7 @@
 -- The parts of a piece of MIR that the generated `Code.Mir` has under no name, so that a proof need not write them out: it says `arm₁
 -- mir.s-3`, and a change of the source that the walk survives does not touch it. It says nothing of the crate.
 --     rest b           what stands after the first statement of a sequence b
---     arm₁ b, arm₂ b   the two arms of a branch b
+--     arm₁ b           the first arm of a branch b
 -- Of any other code each is that code. Assumes nothing.
 use package.mir.Syntax.{Body, skip, seq, assign, block, loop, cond, switch, exit, return, call}
 
@@ -28,15 +28,3 @@ arm₁ (switch c arms) = switch c arms
 arm₁ (exit n) = exit n
 arm₁ return = return
 arm₁ (call f xs d) = call f xs d
-
-abbrev pub arm₂ : Body → Body
-arm₂ (cond c a b) = b
-arm₂ skip = skip
-arm₂ (seq a b) = seq a b
-arm₂ (assign p rv) = assign p rv
-arm₂ (block b) = block b
-arm₂ (loop b) = loop b
-arm₂ (switch c arms) = switch c arms
-arm₂ (exit n) = exit n
-arm₂ return = return
-arm₂ (call f xs d) = call f xs d

@@ -1,8 +1,10 @@
 -- Laws of a queue as plain words.
 --     queueIn-row, queueIn-none            192 words are a row of 32 records; others are none
---     length-queueIn                       so a row has 32 records
+--     length-queueIn, queueIn-short        so a row has 32 records, and no words have more
+--     queueOf-row, queueOf-blank, length-queueOf    the queue of words handed over with its length, which is its length
+--     wordsOf-short, lent-row, lent-none   at most 192 of the words are its own; these stand for the same queue, or for none
 --     queueIn-storedIn                     a record stored among the words is stored in the queue
---     storedIn-kept                        what is no row is as before
+--     storedIn-length                      no word is added or lost
 -- Assumes nothing.
 use mathlib.Core.Path.{_≡_, refl, sym, _∙_, ap}
 use mathlib.Core.Logic.{_≢_, _⊎_, inl, inr}
@@ -11,13 +13,13 @@ use native.Mathlib.Omega.{arith}
 use mathlib.Core.Bool.{Bool, true, false, false≢true, cond, _&&_}
 use mathlib.Core.List.{List, []}
 use lib.Dec.{eqb, ltb}
-use lib.ListN.{length, getD, set, length-set}
-use lib.Seq.{ext-getD, getD-set-same, getD-set-other, set-out}
+use lib.ListN.{length, getD, set, take, replicate, length-set, length-replicate}
+use lib.Seq.{ext-getD, getD-set-same, getD-set-other, set-out, take-all}
 use borrow.Author.Tests.{eqb-true, ltb-true, ltb-false, eq-eqb, ne-eqb, lt-ltb, le-ltb}
 use Rattle.lists.proofs.Laws.{by-same, by-less, length-tabulate, getD-tabulate}
 use Rattle.queue.specs.declared.record.Request.{Request}
 use Rattle.queue.specs.Queue.{noRequest}
-use Rattle.queue.specs.Words.{recordIn, recordsIn, queueIn, overRecord, storedIn, KeptUnlessRow}
+use Rattle.queue.specs.Words.{recordIn, recordsIn, queueIn, queueOf, wordsOf, overRecord, storedIn}
 
 pub queueIn-row : (ws : List ℕ) → length ws ≡ 192 → queueIn ws ≡ recordsIn ws
 unfolding queueIn
@@ -29,6 +31,41 @@ queueIn-none ws e = ap (λ (b : Bool). cond b (recordsIn ws) []) e
 
 pub length-queueIn : (ws : List ℕ) → length ws ≡ 192 → length (queueIn ws) ≡ 32
 length-queueIn ws e = ap length (queueIn-row ws e) ∙ length-tabulate 32 (recordIn ws)
+
+pub queueIn-short : (ws : List ℕ) → length (queueIn ws) ≤ 32
+queueIn-short ws =
+    by-same (length ws) 192 (λ e. omega (arith, length-queueIn ws e))
+    (λ n. omega (arith, ap length (queueIn-none ws (ne-eqb (length ws) 192 n))))
+
+pub wordsOf-short : (size : ℕ) → wordsOf size ≤ 192
+wordsOf-short size = by-test (eqb size 32)
+  where
+    by-test : (b : Bool) → cond b 192 0 ≤ 192
+    by-test true = omega arith
+    by-test false = omega arith
+
+-- words that are handed over with the queue's length
+module _ (size : ℕ) (ws : List ℕ) where
+  pub queueOf-row : size ≡ 32 → queueOf size ws ≡ recordsIn ws
+  unfolding queueOf
+  queueOf-row e = ap (λ (b : Bool). cond b (recordsIn ws) (replicate size noRequest)) (eq-eqb size 32 e)
+
+  pub queueOf-blank : size ≢ 32 → queueOf size ws ≡ replicate size noRequest
+  unfolding queueOf
+  queueOf-blank n = ap (λ (b : Bool). cond b (recordsIn ws) (replicate size noRequest)) (ne-eqb size 32 n)
+
+  pub length-queueOf : length (queueOf size ws) ≡ size
+  length-queueOf =
+      by-same size 32 (λ e. ap length (queueOf-row e) ∙ length-tabulate 32 (recordIn ws) ∙ sym e)
+      (λ n. ap length (queueOf-blank n) ∙ length-replicate size noRequest)
+
+  pub lent-row : length ws ≡ 192 → size ≡ 32 → queueIn (take (wordsOf size) ws) ≡ queueOf size ws
+  lent-row l e =
+      ap (λ (b : Bool). queueIn (take (cond b 192 0) ws)) (eq-eqb size 32 e) ∙ ap queueIn (take-all 192 ws (omega arith))
+      ∙ queueIn-row ws l ∙ sym (queueOf-row e)
+
+  pub lent-none : size ≢ 32 → queueIn (take (wordsOf size) ws) ≡ []
+  lent-none n = ap (λ (b : Bool). queueIn (take (cond b 192 0) ws)) (ne-eqb size 32 n) ∙ queueIn-none [] refl
 
 -- the words with the first fields of a record stored from word i on
 module _ (ws : List ℕ) (i : ℕ) (r : Request) where
@@ -69,7 +106,8 @@ module _ (ws : List ℕ) (i : ℕ) (r : Request) where
   over-other : (j : ℕ) → (j ≡ i → ⊥) → (j ≡ i + 1 → ⊥) → (j ≡ i + 2 → ⊥) → (j ≡ i + 3 → ⊥) → (j ≡ i + 4 → ⊥) → (j ≡ i + 5 → ⊥)
       → getD (overRecord ws i r) j 0 ≡ getD ws j 0
   over-other j n₀ n₁ n₂ n₃ n₄ n₅ =
-      getD-set-other over₅ (i + 5) j (r .p3) 0 n₅ ∙ getD-set-other over₄ (i + 4) j (r .p2) 0 n₄ ∙ getD-set-other over₃ (i + 3) j (r .p1) 0 n₃
+      getD-set-other over₅ (i + 5) j (r .p3) 0 n₅ ∙ getD-set-other over₄ (i + 4) j (r .p2) 0 n₄
+      ∙ getD-set-other over₃ (i + 3) j (r .p1) 0 n₃
       ∙ getD-set-other over₂ (i + 2) j (r .p0) 0 n₂ ∙ getD-set-other over₁ (i + 1) j (r .transaction) 0 n₁
       ∙ getD-set-other ws i j (r .client) 0 n₀
 
@@ -90,7 +128,8 @@ module _ (ws : List ℕ) (i : ℕ) (r : Request) where
   over-transaction : i + 1 < length ws → getD (overRecord ws i r) (i + 1) 0 ≡ r .transaction
   over-transaction h =
       getD-set-other over₅ (i + 5) (i + 1) (r .p3) 0 (λ e. omega arith) ∙ getD-set-other over₄ (i + 4) (i + 1) (r .p2) 0 (λ e. omega arith)
-      ∙ getD-set-other over₃ (i + 3) (i + 1) (r .p1) 0 (λ e. omega arith) ∙ getD-set-other over₂ (i + 2) (i + 1) (r .p0) 0 (λ e. omega arith)
+      ∙ getD-set-other over₃ (i + 3) (i + 1) (r .p1) 0 (λ e. omega arith)
+      ∙ getD-set-other over₂ (i + 2) (i + 1) (r .p0) 0 (λ e. omega arith)
       ∙ getD-set-same over₁ (i + 1) (r .transaction) 0 (omega (arith, over₁-length))
 
   over-p0 : i + 2 < length ws → getD (overRecord ws i r) (i + 2) 0 ≡ r .p0
@@ -177,15 +216,13 @@ module _ (ws : List ℕ) (at : ℕ) (r : Request) where
       by-tests false t e f =
           queueIn-none ws e ∙ sym (ap (λ (q : List Request). set q at r) (queueIn-none ws e))
 
-  pub storedIn-kept : KeptUnlessRow ws (storedIn ws at r)
+  pub storedIn-length : length (storedIn ws at r) ≡ length ws
   unfolding storedIn
-  storedIn-kept = by-tests (eqb (length ws) 192) (ltb at 32)
+  storedIn-length = by-test (eqb (length ws) 192 && ltb at 32)
     where
-      by-tests : (s t : Bool) → (length (cond (s && t) (overRecord ws (at * 6) r) ws) ≡ length ws)
-          × (s ≡ false → cond (s && t) (overRecord ws (at * 6) r) ws ≡ ws)
-      by-tests true true = (over-length ws (at * 6) r, λ e. absurd (false≢true (sym e)))
-      by-tests true false = (refl, λ e. refl)
-      by-tests false t = (refl, λ e. refl)
+      by-test : (b : Bool) → length (cond b (overRecord ws (at * 6) r) ws) ≡ length ws
+      by-test true = over-length ws (at * 6) r
+      by-test false = refl
 
   -- the three cases of storing
   pub storedIn-within : length ws ≡ 192 → at < 32 → overRecord ws (at * 6) r ≡ storedIn ws at r

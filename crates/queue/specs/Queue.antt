@@ -1,8 +1,8 @@
 -- The queue of waiting requests, as a list of records, the earliest first. 01 calls it the row of records; a record's place in the list
 -- is its place in the row.
 use Prim.Native.Nat.{ℕ}
-use mathlib.Core.List.{List, [], _∷_, _++_}
-use lib.ListN.{getD, take, replicate}
+use mathlib.Core.List.{List, [], _∷_}
+use lib.ListN.{getD}
 use Rattle.queue.specs.declared.record.Request.{Request}
 
 -- "a lent row of 32 records"
@@ -20,7 +20,3 @@ paramsOf r = r .p0 ∷ r .p1 ∷ r .p2 ∷ r .p3 ∷ []
 -- one record, by its place
 abbrev pub recordAt : List Request → ℕ → Request
 recordAt queue at = getD queue at noRequest
-
--- the first 32 of a queue of any length, blank where it has none
-abbrev pub recordsOf : List Request → List Request
-recordsOf queue = take queueSize (queue ++ replicate queueSize noRequest)

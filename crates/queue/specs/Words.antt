@@ -1,17 +1,17 @@
 -- A queue as plain words, six a record: "each the client's word, the transaction and four parameters".
 --     recordIn     the record at a place
 --     queueIn      the queue that words stand for: of 192 words 32 records, of any other number none
+--     queueOf      the queue of words that are handed over with its length.    wordsOf      how many of the words are its own
 --     storedIn     the words with a record stored at a place
---     KeptUnlessRow    words of another number than 192 are as before
-use mathlib.Core.Path.{_≡_}
-use Prim.Native.Nat.{ℕ, _+_, _*_}
-use mathlib.Core.Bool.{false, cond, _&&_}
+--     storedFirst  the words of a queue's first records, zeros behind them
+use Prim.Native.Nat.{ℕ, zero, suc, _+_, _*_}
+use mathlib.Core.Bool.{cond, _&&_}
 use mathlib.Core.List.{List, []}
 use lib.Dec.{eqb, ltb}
-use lib.ListN.{length, getD, set}
+use lib.ListN.{length, getD, set, replicate}
 use Rattle.lists.specs.Lists.{tabulate}
 use Rattle.queue.specs.declared.record.Request.{Request}
-use Rattle.queue.specs.Queue.{queueSize}
+use Rattle.queue.specs.Queue.{queueSize, noRequest, recordAt}
 
 -- the words of a record, and of a whole queue
 abbrev pub recordSize : ℕ
@@ -40,6 +40,14 @@ recordsIn ws = tabulate queueSize (recordIn ws)
 unfoldable pub queueIn : List ℕ → List Request
 queueIn ws = cond (eqb (length ws) queueWords) (recordsIn ws) []
 
+-- the queue of a call that is handed its length beside the words
+unfoldable pub queueOf : ℕ → List ℕ → List Request
+queueOf size ws = cond (eqb size queueSize) (recordsIn ws) (replicate size noRequest)
+
+-- its words: 192 of 32 records, and none of any other length
+abbrev pub wordsOf : ℕ → ℕ
+wordsOf size = cond (eqb size queueSize) queueWords 0
+
 -- the six words of a record from word i on
 abbrev pub overRecord : List ℕ → ℕ → Request → List ℕ
 overRecord ws i r =
@@ -50,6 +58,7 @@ overRecord ws i r =
 unfoldable pub storedIn : List ℕ → ℕ → Request → List ℕ
 storedIn ws at r = cond (eqb (length ws) queueWords && ltb at queueSize) (overRecord ws (at * recordSize) r) ws
 
--- what is no row is as before, and no word is added or lost
-abbrev pub KeptUnlessRow : List ℕ → List ℕ → Type 0
-KeptUnlessRow before after = (length after ≡ length before) × (eqb (length before) queueWords ≡ false → after ≡ before)
+-- the words of the first n records of a queue, zeros behind them: of no record past the 32nd
+unfoldable pub storedFirst : ℕ → List Request → List ℕ
+storedFirst zero queue = replicate queueWords 0
+storedFirst (suc n) queue = storedIn (storedFirst n queue) n (recordAt queue n)

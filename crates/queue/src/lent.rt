@@ -1,11 +1,15 @@
-// The lent queue: one record read, one record stored, and a copy of its 32 records by value.
+// The lent queue: one record read, one record stored, and the records that wait as plain words.
 ghost use mathlib.Core.Path.{_≡_};
+ghost use Prim.Native.Nat.{min};
 ghost use lib.ListN.{set};
-ghost use Rattle.queue.specs.Queue.{recordAt, recordsOf};
+ghost use Rattle.queue.specs.Queue.{recordAt, queueSize};
+ghost use Rattle.queue.specs.Words.{storedFirst};
+use crate::record::MOST_WAITING;
 use crate::record::QUEUE_SIZE;
 use crate::record::Request;
 use crate::record::blank;
-use crate::record::blanks;
+use crate::words::QUEUE_WORDS;
+use crate::words::store_in;
 
 // The record at a place; past the end the blank one.
 pub fn load(queue: &[Request], at: usize) -> Request
@@ -27,15 +31,28 @@ pub fn store(queue: &mut [Request], at: usize, request: Request)
     }
 }
 
-// The first 32 records, blank where there is none.
-pub fn copied(queue: &[Request]) -> [Request; QUEUE_SIZE]
-    ensures { λ r. ⌜ r ≡ recordsOf (now (queue .entry)) ⌝ }
+// How many records wait in a queue of 32, whatever number is said to wait.
+pub fn bounded_waiting(waiting: u32) -> usize
+    ensures { λ r. ⌜ r ≡ min waiting queueSize ⌝ }
 {
-    let mut records = blanks();
+    if waiting < MOST_WAITING {
+        waiting as usize
+    } else {
+        QUEUE_SIZE
+    }
+}
+
+// The words of the records that wait, and zeros behind them. The other records are not read.
+pub fn copied(queue: &[Request], waiting: u32) -> [u32; QUEUE_WORDS]
+    ensures { λ r. ⌜ r ≡ storedFirst waiting (now (queue .entry)) ⌝ }
+{
+    let mut row = [0; QUEUE_WORDS];
+    let count = bounded_waiting(waiting);
     let mut at: usize = 0;
-    while at < QUEUE_SIZE {
-        records[at] = load(queue, at);
+    while at < count {
+        let request = load(queue, at);
+        store_in(&mut row, at, request);
         at += 1;
     }
-    records
+    row
 }

@@ -1,4 +1,5 @@
-// The queue of waiting requests: a lent slice of records. These functions alone touch the slice; all else is reckoned on plain data.
+// The queue of waiting requests, as a lent slice of records and as plain words. These functions alone touch the slice; all else is reckoned
+// on the words.
 mod lent;
 mod record;
 mod words;
@@ -10,6 +11,7 @@ pub use record::MOST_WAITING;
 pub use record::QUEUE_SIZE;
 pub use record::Request;
 pub use record::params;
-pub use words::records_in;
-pub use words::size_in;
+pub use words::QUEUE_WORDS;
+pub use words::record_in;
 pub use words::store_in;
+pub use words::words_of;

@@ -1,7 +1,6 @@
 // A waiting record: the client's word, the transaction and four parameters.
 ghost use mathlib.Core.Path.{_≡_};
-ghost use lib.ListN.{replicate};
-ghost use Rattle.queue.specs.Queue.{queueSize, noRequest, paramsOf};
+ghost use Rattle.queue.specs.Queue.{noRequest, paramsOf};
 
 // The records of a queue, and as many as may wait.
 pub const QUEUE_SIZE: usize = 32;
@@ -36,11 +35,4 @@ pub fn blank() -> Request
         p2: 0,
         p3: 0,
     }
-}
-
-pub fn blanks() -> [Request; QUEUE_SIZE]
-    ensures { λ r. ⌜ r ≡ replicate queueSize noRequest ⌝ }
-{
-    let none = blank();
-    [none; QUEUE_SIZE]
 }

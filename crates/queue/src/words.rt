@@ -1,28 +1,16 @@
-// The queue as plain words, six a record: how many records it has, all of them by value, and one stored.
+// The queue as plain words, six a record: one record read, one stored, and how many words a queue of some length has.
 ghost use mathlib.Core.Path.{_≡_};
 ghost use Prim.Native.Nat.{_<_, _+_, _≤_};
 ghost use lib.ListN.{length, getD};
-ghost use Rattle.queue.specs.Queue.{recordsOf, queueSize};
-ghost use Rattle.queue.specs.Words.{recordIn, recordsIn, queueIn, overRecord, storedIn, recordSize, queueWords};
+ghost use Rattle.queue.specs.Queue.{queueSize};
+ghost use Rattle.queue.specs.Words.{recordIn, wordsOf, overRecord, storedIn, recordSize, queueWords};
 use crate::record::QUEUE_SIZE;
 use crate::record::Request;
-use crate::record::blanks;
 
 // The words of a record, and of a queue.
 const RECORD_SIZE: usize = 6;
 
-const QUEUE_WORDS: usize = RECORD_SIZE * QUEUE_SIZE;
-
-// How many records the words stand for.
-pub fn size_in(row: &[u32]) -> usize
-    ensures { λ r. ⌜ r ≡ length (queueIn (now (row .entry))) ⌝ }
-{
-    if row.len() == QUEUE_WORDS {
-        QUEUE_SIZE
-    } else {
-        0
-    }
-}
+pub const QUEUE_WORDS: usize = RECORD_SIZE * QUEUE_SIZE;
 
 // Word i, 0 past the end.
 fn word_in(row: &[u32], i: usize) -> u32
@@ -32,7 +20,7 @@ fn word_in(row: &[u32], i: usize) -> u32
 }
 
 // The record at a place.
-fn record_in(row: &[u32], at: usize) -> Request
+pub fn record_in(row: &[u32], at: usize) -> Request
     requires { ⌜ at < queueSize ⌝ }
     ensures { λ r. ⌜ r ≡ recordIn (now (row .entry)) at ⌝ }
 {
@@ -46,26 +34,11 @@ fn record_in(row: &[u32], at: usize) -> Request
     }
 }
 
-// 32 records, one after the other.
-fn all_in(row: &[u32]) -> [Request; QUEUE_SIZE]
-    ensures { λ r. ⌜ r ≡ recordsOf (recordsIn (now (row .entry))) ⌝ }
+// The words of a queue of this length: 192 of 32 records, and none of any other.
+pub fn words_of(size: usize) -> usize
+    ensures { λ r. ⌜ r ≡ wordsOf size ⌝ }
 {
-    let mut records = blanks();
-    for at in 0..QUEUE_SIZE {
-        records[at] = record_in(row, at);
-    }
-    records
-}
-
-// The 32 records of a row; blank ones of what is no row.
-pub fn records_in(row: &[u32]) -> [Request; QUEUE_SIZE]
-    ensures { λ r. ⌜ r ≡ recordsOf (queueIn (now (row .entry))) ⌝ }
-{
-    if row.len() == QUEUE_WORDS {
-        all_in(row)
-    } else {
-        blanks()
-    }
+    if size == QUEUE_SIZE { QUEUE_WORDS } else { 0 }
 }
 
 // Writes the six words of a record from word i on.

@@ -1,21 +1,24 @@
--- What the core of a request is handed stands for the queue: questions 1 to 8 have the same answers.
+-- Questions 1 to 8 of a queue of words, as the core of a request puts them.
+--     plan-refused, store-unfit, queue-unfit, buffers-fit      the answers to questions 1 to 5
+--     plan-passes, row-long        what they show where all are yes
+--     opening-refused, desk-unfit, by-operation        the verdict of all, by the first question whose answer is no
 -- Assumes nothing.
 use mathlib.Core.Path.{_≡_, _∙_, sym, ap}
-use mathlib.Core.Bool.{true, false, _&&_}
+use mathlib.Core.Bool.{true, false, false≢true}
 use mathlib.Core.List.{List}
 use Prim.Native.Nat.{ℕ}
 use lib.Dec.{eqb}
 use lib.ListN.{length}
-use borrow.Author.Tests.{eqb-true, eq-eqb, ne-eqb}
+use borrow.Author.Tests.{eq-eqb, ne-eqb}
 use Rattle.verdict.specs.Verdict.{Verdict, accepted, refused, ask, _then_}
-use Rattle.verdict.proofs.Verdicts.{then-accepted, ask-accepted, then-associates, then-only-after-yes}
-use Rattle.lists.proofs.Laws.{and-snd}
+use Rattle.verdict.proofs.Verdicts.{then-accepted, ask-accepted, then-associates}
+use Rattle.lists.proofs.Laws.{and-snd, by-same}
 use Rattle.plan.specs.Decode.{planOf}
 use Rattle.plan.specs.Admission.{planVerdict}
 use Rattle.operation.specs.Admission.{operationVerdict}
-use Rattle.queue.specs.Queue.{recordsOf}
 use Rattle.queue.specs.declared.record.Request.{Request}
-use Rattle.queue.proofs.Copying.{records-whole}
+use Rattle.queue.specs.Words.{recordsIn, queueIn}
+use Rattle.queue.proofs.Rows.{queueIn-row, queueIn-none, length-queueIn}
 use Rattle.desk.specs.declared.state.Desk.{Desk}
 use Rattle.desk.specs.Holding.{holding}
 use Rattle.desk.specs.Queueing.{operationOf}
@@ -25,64 +28,63 @@ use Rattle.requests.specs.Step.{openingVerdict}
 
 -- ---- questions 1 to 5
 
-module _ (ws : List ℕ) (cells : List ℕ) (size : ℕ) where
-  pub plan-refused : (question : ℕ) → planVerdict ws ≡ refused question → openingVerdict ws cells size ≡ refused question
+module _ (ws cells row : List ℕ) where
+  pub plan-refused : (question : ℕ) → planVerdict ws ≡ refused question → openingVerdict ws cells row ≡ refused question
   unfolding openingVerdict
   plan-refused question e = rw e
 
   module _ (e : planVerdict ws ≡ accepted) where
-    pub store-unfit : (length cells ≡ 1024 → ⊥) → openingVerdict ws cells size ≡ refused 5
-    unfolding openingVerdict
+    pub store-unfit : (length cells ≡ 1024 → ⊥) → openingVerdict ws cells row ≡ refused 5
+    unfolding openingVerdict deskBuffersFit
     store-unfit f = rw (e, ne-eqb _ _ f)
 
     module _ (f : length cells ≡ 1024) where
-      pub queue-unfit : (size ≡ 32 → ⊥) → openingVerdict ws cells size ≡ refused 5
-      unfolding openingVerdict
-      queue-unfit g = rw (e, eq-eqb _ _ f, ne-eqb _ _ g)
+      pub queue-unfit : (length row ≡ 192 → ⊥) → openingVerdict ws cells row ≡ refused 5
+      unfolding openingVerdict deskBuffersFit
+      queue-unfit g = rw (e, eq-eqb _ _ f, queueIn-none row (ne-eqb _ _ g))
 
-      pub buffers-fit : size ≡ 32 → openingVerdict ws cells size ≡ accepted
-      unfolding openingVerdict
-      buffers-fit g = rw (e, eq-eqb _ _ f, eq-eqb _ _ g)
+      pub buffers-fit : length row ≡ 192 → openingVerdict ws cells row ≡ accepted
+      unfolding openingVerdict deskBuffersFit
+      buffers-fit g = rw (e, eq-eqb _ _ f, eq-eqb _ _ (length-queueIn row g))
 
-  module _ (e : openingVerdict ws cells size ≡ accepted) where
+  module _ (e : openingVerdict ws cells row ≡ accepted) where
     pub plan-passes : planVerdict ws ≡ accepted
     unfolding openingVerdict
     plan-passes = then-accepted (planVerdict ws) _ e .0
 
-    pub queue-long : size ≡ 32
-    unfolding openingVerdict
-    queue-long =
-        eqb-true size 32 (and-snd (eqb (length cells) 1024) _ (ask-accepted 5 _ (then-accepted (planVerdict ws) _ e .1)))
+    queue-long : eqb (length (queueIn row)) 32 ≡ true
+    unfolding openingVerdict deskBuffersFit
+    queue-long = and-snd (eqb (length cells) 1024) _ (ask-accepted 5 _ (then-accepted (planVerdict ws) _ e .1))
 
--- ---- all of them, of a queue with this length and these first records
+    pub row-long : length row ≡ 192
+    row-long =
+        by-same (length row) 192 (λ l. l)
+        (λ n. absurd (false≢true (sym (ap (λ (q : List Request). eqb (length q) 32) (queueIn-none row (ne-eqb _ _ n))) ∙ queue-long)))
 
-module _ (ws : List ℕ) (d : Desk) (cells : List ℕ) (size : ℕ) (records : List Request) (r : Request)
-    (queue : List Request) (l : length queue ≡ size) (q : recordsOf queue ≡ records) where
+-- ---- all of them
+
+module _ (ws : List ℕ) (d : Desk) (cells row : List ℕ) (r : Request) where
   rest : List Request → Verdict
-  rest rs = ask 6 (deskFits (planOf ws) d rs) then operationVerdict (planOf ws) (operationOf r)
+  rest queue = ask 6 (deskFits (planOf ws) d queue) then operationVerdict (planOf ws) (operationOf r)
 
-  handed : requestVerdict ws (holding d cells queue) r ≡ (openingVerdict ws cells size then rest records)
-  unfolding requestVerdict openingVerdict deskBuffersFit rest
-  handed =
-      ap (_then_ (planVerdict ws))
-      (ap (λ (n : ℕ). ask 5 (eqb (length cells) 1024 && eqb n 32) then rest queue) l
-      ∙ then-only-after-yes 5 (eqb (length cells) 1024 && eqb size 32) (rest queue) (rest records)
-      (λ h. ap rest (sym (records-whole queue (l ∙ eqb-true size 32 (and-snd (eqb (length cells) 1024) _ h))) ∙ q)))
-      ∙ then-associates (planVerdict ws) _ (rest records)
+  handed : requestVerdict ws (holding d cells (queueIn row)) r ≡ (openingVerdict ws cells row then rest (queueIn row))
+  unfolding requestVerdict openingVerdict rest
+  handed = then-associates (planVerdict ws) _ (rest (queueIn row))
 
-  pub opening-refused : (question : ℕ) → openingVerdict ws cells size ≡ refused question
-      → requestVerdict ws (holding d cells queue) r ≡ refused question
-  opening-refused question e = handed ∙ ap (λ (v : Verdict). v then rest records) e
+  pub opening-refused : (question : ℕ) → openingVerdict ws cells row ≡ refused question
+      → requestVerdict ws (holding d cells (queueIn row)) r ≡ refused question
+  opening-refused question e = handed ∙ ap (λ (v : Verdict). v then rest (queueIn row)) e
 
-  module _ (e : openingVerdict ws cells size ≡ accepted) where
-    opened : requestVerdict ws (holding d cells queue) r ≡ rest records
-    opened = handed ∙ ap (λ (v : Verdict). v then rest records) e
+  module _ (e : openingVerdict ws cells row ≡ accepted) where
+    opened : requestVerdict ws (holding d cells (queueIn row)) r ≡ rest (recordsIn row)
+    opened =
+        handed ∙ ap (λ (v : Verdict). v then rest (queueIn row)) e ∙ ap rest (queueIn-row row (row-long ws cells row e))
 
-    pub desk-unfit : deskFits (planOf ws) d records ≡ false → requestVerdict ws (holding d cells queue) r ≡ refused 6
+    pub desk-unfit : deskFits (planOf ws) d (recordsIn row) ≡ false → requestVerdict ws (holding d cells (queueIn row)) r ≡ refused 6
     unfolding rest
     desk-unfit h = opened ∙ rw h
 
-    pub by-operation : deskFits (planOf ws) d records ≡ true
-        → requestVerdict ws (holding d cells queue) r ≡ operationVerdict (planOf ws) (operationOf r)
+    pub by-operation : deskFits (planOf ws) d (recordsIn row) ≡ true
+        → requestVerdict ws (holding d cells (queueIn row)) r ≡ operationVerdict (planOf ws) (operationOf r)
     unfolding rest
     by-operation h = opened ∙ rw h

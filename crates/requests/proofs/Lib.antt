@@ -1,3 +1,4 @@
 pub mod Handed
 pub mod Routes
 pub mod Joining
+pub mod Stored

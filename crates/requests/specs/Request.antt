@@ -11,7 +11,8 @@ use Rattle.plan.specs.Decode.{planOf}
 use Rattle.plan.specs.Admission.{planVerdict}
 use Rattle.operation.specs.Operation.{Operation, deskOf}
 use Rattle.operation.specs.Admission.{operationVerdict}
-use Rattle.operation.specs.Run.{Reply, applyUpdate, run}
+use Rattle.operation.specs.Store.{applyUpdate}
+use Rattle.execution.specs.Run.{Reply, run}
 use Rattle.conflict.specs.Class.{Class, free, local, global, classOf}
 use Rattle.queue.specs.declared.record.Request.{Request}
 use Rattle.desk.specs.declared.state.Desk.{Desk}

@@ -1,10 +1,15 @@
-// The core of a request at a desk.
+// The core of a request at a desk, of a queue of words.
+//     RequestAnswer, RequestResult, RequestStep    the answer; with the state after the call; with the record to be stored and its place
+//     unchanged_result, run_result, wait_result    an answer that changes nothing; the operation runs; it waits
+//     routed_result, admitted_result               by class and desk; behind questions 7 and 8
+//     opening_verdict, request_result              questions 1 to 5; all of the request but the queue
+//     record_of, store_place, step_of              the record of a request; where it is stored; the step
+//     request_step                                 the request, with the record that is to be stored
 ghost use mathlib.Core.Path.{_≡_};
 ghost use mathlib.Core.Bool.{cond};
-ghost use mathlib.Core.List.{List};
+ghost use mathlib.Core.List.{List, []};
 ghost use Prim.Native.Nat.{ℕ};
 ghost use lib.Dec.{ltb, eqb};
-ghost use lib.ListN.{length};
 ghost use Rattle.verdict.specs.Verdict.{accepted, verdictOf};
 ghost use Rattle.plan.specs.Decode.{planOf};
 ghost use Rattle.plan.specs.Admission.{planVerdict};
@@ -12,23 +17,24 @@ ghost use Rattle.plan.specs.Place.{transactionPlaces};
 ghost use Rattle.operation.specs.Operation.{deskOf};
 ghost use Rattle.operation.specs.Admission.{operationVerdict};
 ghost use Rattle.conflict.specs.Class.{classOf};
-ghost use Rattle.queue.specs.Queue.{recordsOf, queueSize};
+ghost use Rattle.queue.specs.Queue.{queueSize};
+ghost use Rattle.queue.specs.Words.{queueIn};
 ghost use Rattle.queue.specs.declared.record.Request.{Request as Queued};
 ghost use Rattle.desk.specs.Holding.{holding};
 ghost use Rattle.desk.specs.Queueing.{operationOf};
+ghost use Rattle.desk.specs.Place.{Placed, masksIf};
 ghost use Rattle.requests.specs.Request.{requestRefused, unchanged, ranNow, enqueued, routed, served, recordOf, requestResult};
-ghost use Rattle.requests.specs.Answer.{responseOf};
-ghost use Rattle.requests.specs.Step.{steppedOf, openingVerdict};
-ghost use Rattle.desk.specs.Place.{Placed, TableHolds};
+ghost use Rattle.requests.specs.Answer.{responseOf, requestedOf};
+ghost use Rattle.requests.specs.Step.{steppedOf, storePlace, stepOf, withoutQueue, openingVerdict};
 use crate::route;
 use crate::route::Route;
 use desk::Desk;
-use desk::DeskCheck;
 use desk::Located;
-use operation::Reply;
+use execution::Reply;
 use operation::STORE_SIZE;
 use queue::MOST_WAITING;
 use queue::QUEUE_SIZE;
+use queue::QUEUE_WORDS;
 use queue::Request;
 use verdict::Verdict;
 
@@ -53,120 +59,100 @@ pub struct RequestStep {
     pub request: Request,
 }
 
-// An answer with which nothing is stored and the state stays.
-fn unchanged_step(answer: RequestAnswer, state: Desk, size: usize, request: Request) -> RequestStep
-    ensures { λ r. ⌜ ((cells : List ℕ) (queue : List Queued) → length queue ≡ size
-        → steppedOf r cells queue ≡ unchanged (holding state cells queue) (responseOf answer)) ⌝ }
+// An answer with which the state stays.
+fn unchanged_result(answer: RequestAnswer, state: Desk) -> RequestResult
+    ensures { λ r. ⌜ ((cells : List ℕ) → requestedOf r cells [] ≡ unchanged (holding state cells []) (responseOf answer)) ⌝ }
 {
-    let result = RequestResult {
+    RequestResult {
         answer: answer,
         state: state,
-    };
-    RequestStep {
-        result: result,
-        place: size,
-        request: request,
     }
 }
 
 // The operation runs at once.
-fn run_step(
+fn run_result(
     plan: &[u32],
     state: Desk,
     cells: &mut [u32],
-    size: usize,
     request: Request,
     at: usize,
-) -> RequestStep
+) -> RequestResult
     requires { ⌜ Placed (now plan) request at ⌝ }
-    ensures { λ r. ⌜ ((queue : List Queued) → length queue ≡ size → steppedOf r (now (cells .exit)) queue
-        ≡ ranNow (holding state (now (cells .entry)) queue) (planOf (now (plan .entry))) (operationOf request)) ⌝ }
+    ensures { λ r. ⌜ requestedOf r (now (cells .exit)) []
+        ≡ ranNow (holding state (now (cells .entry)) []) (planOf (now (plan .entry))) (operationOf request) ⌝ }
 {
     let reply = desk::run_operation(plan, at, request, cells);
-    unchanged_step(RequestAnswer::Replied(reply), state, size, request)
+    unchanged_result(RequestAnswer::Replied(reply), state)
 }
 
-// Question 9; then the request joins those that wait. They stand in the queue already, so that one record is stored, behind them.
-fn wait_step(state: Desk, size: usize, request: Request) -> RequestStep
-    requires { ⌜ size ≡ queueSize ⌝ }
-    ensures { λ r. ⌜ ((cells : List ℕ) (queue : List Queued) → length queue ≡ size → steppedOf r cells queue
-        ≡ cond (ltb (state .waiting) queueSize) (enqueued (holding state cells queue) request)
-        (unchanged (holding state cells queue) (requestRefused 9))) ⌝ }
+// Question 9; then the request joins those that wait.
+fn wait_result(state: Desk) -> RequestResult
+    ensures { λ r. ⌜ ((cells : List ℕ) (request : Queued) → requestedOf r cells []
+        ≡ withoutQueue (cond (ltb (state .waiting) queueSize) (enqueued (holding state cells []) request)
+        (unchanged (holding state cells []) (requestRefused 9)))) ⌝ }
 {
     let waiting = state.waiting;
     if MOST_WAITING <= waiting {
-        return unchanged_step(RequestAnswer::Refused(9), state, size, request);
+        return unchanged_result(RequestAnswer::Refused(9), state);
     }
     let after = Desk {
         desk: state.desk,
         waiting: waiting + 1,
         awaited: state.awaited,
     };
-    let result = RequestResult {
+    RequestResult {
         answer: RequestAnswer::Waits,
         state: after,
-    };
-    RequestStep {
-        result: result,
-        place: waiting as usize,
-        request: request,
     }
 }
 
 // By its class and its desk the operation runs, waits, or is another desk's.
-fn routed_step(
+fn routed_result(
     plan: &[u32],
     state: Desk,
     cells: &mut [u32],
-    size: usize,
     request: Request,
     at: usize,
-    checked: DeskCheck,
-) -> RequestStep
-    requires { ⌜ Placed (now plan) request at × TableHolds (now plan) checked × (size ≡ queueSize) ⌝ }
-    ensures { λ r. ⌜ ((queue : List Queued) → length queue ≡ size → steppedOf r (now (cells .exit)) queue
-        ≡ routed (holding state (now (cells .entry)) queue) (classOf (planOf (now (plan .entry))) (operationOf request))
+    masks: &mut [u8],
+) -> RequestResult
+    requires { ⌜ Placed (now plan) request at × (now masks ≡ masksIf (ltb 0 (state .waiting)) (planOf (now plan))) ⌝ }
+    ensures { λ r. ⌜ requestedOf r (now (cells .exit)) []
+        ≡ withoutQueue (routed (holding state (now (cells .entry)) []) (classOf (planOf (now (plan .entry))) (operationOf request))
         (eqb (deskOf (planOf (now (plan .entry))) (operationOf request)) (state .desk)) (planOf (now (plan .entry))) request) ⌝ }
 {
     let here = state.desk;
     let desk = desk::operation_desk(plan, at, request);
-    match route::route_of(plan, at, request, desk == here, checked) {
-        Route::Runs => run_step(plan, state, cells, size, request, at),
-        Route::Waits => wait_step(state, size, request),
-        Route::Elsewhere => unchanged_step(RequestAnswer::Elsewhere(desk), state, size, request),
+    match route::route_of(plan, at, request, desk == here, 0 < state.waiting, masks) {
+        Route::Runs => run_result(plan, state, cells, request, at),
+        Route::Waits => wait_result(state),
+        Route::Elsewhere => unchanged_result(RequestAnswer::Elsewhere(desk), state),
     }
 }
 
 // Questions 7 and 8, and the route.
-fn admitted_step(
+fn admitted_result(
     plan: &[u32],
     places: &[usize],
     state: Desk,
     cells: &mut [u32],
-    size: usize,
     request: Request,
-    checked: DeskCheck,
-) -> RequestStep
-    requires { ⌜ (planVerdict (now plan) ≡ accepted) × (now places ≡ transactionPlaces (now plan)) × TableHolds (now plan) checked
-        × (size ≡ queueSize) ⌝ }
-    ensures { λ r. ⌜ ((queue : List Queued) → length queue ≡ size → steppedOf r (now (cells .exit)) queue
-        ≡ served (holding state (now (cells .entry)) queue) (operationVerdict (planOf (now (plan .entry))) (operationOf request))
-        (planOf (now (plan .entry))) request) ⌝ }
+    masks: &mut [u8],
+) -> RequestResult
+    requires { ⌜ (planVerdict (now plan) ≡ accepted) × (now places ≡ transactionPlaces (now plan))
+        × (now masks ≡ masksIf (ltb 0 (state .waiting)) (planOf (now plan))) ⌝ }
+    ensures { λ r. ⌜ requestedOf r (now (cells .exit)) []
+        ≡ withoutQueue (served (holding state (now (cells .entry)) [])
+        (operationVerdict (planOf (now (plan .entry))) (operationOf request)) (planOf (now (plan .entry))) request) ⌝ }
 {
     match desk::locate(plan, places, request) {
-        Located::At(at) => routed_step(plan, state, cells, size, request, at, checked),
-        Located::Refused(question) => unchanged_step(
-            RequestAnswer::Refused(question),
-            state,
-            size,
-            request,
-        ),
+        Located::At(at) => routed_result(plan, state, cells, request, at, masks),
+        Located::Refused(question) => unchanged_result(RequestAnswer::Refused(question), state),
     }
 }
 
 // Questions 1 to 5.
-fn opening_verdict(plan: &[u32], cells: &[u32], size: usize) -> Verdict
-    ensures { λ r. ⌜ verdictOf r ≡ openingVerdict (now (plan .entry)) (now (cells .entry)) size ⌝ }
+fn opening_verdict(plan: &[u32], cells: &[u32], row: &[u32]) -> Verdict
+    ensures { λ r. ⌜ verdictOf r ≡ openingVerdict (now (plan .entry)) (now (cells .entry)) (now (row .entry)) ⌝ }
 {
     if let Verdict::Refused(question) = plan::read_plan(plan) {
         return Verdict::Refused(question);
@@ -174,57 +160,96 @@ fn opening_verdict(plan: &[u32], cells: &[u32], size: usize) -> Verdict
     if cells.len() != STORE_SIZE {
         return Verdict::Refused(5);
     }
-    if size != QUEUE_SIZE {
+    if row.len() != QUEUE_WORDS {
         return Verdict::Refused(5);
     }
     Verdict::Accepted
 }
 
-// The request, of a queue with this length and these first records. Nothing is written before the last question.
-fn request_core(
+// All that the request leaves but the queue. Nothing is written before the last question.
+pub(crate) fn request_result(
     plan: &[u32],
     state: Desk,
     cells: &mut [u32],
-    size: usize,
-    records: [Request; QUEUE_SIZE],
+    row: &[u32],
     request: Request,
-) -> RequestStep
-    ensures { λ r. ⌜ ((queue : List Queued) → length queue ≡ size → recordsOf queue ≡ records
-        → steppedOf r (now (cells .exit)) queue ≡ requestResult (now (plan .entry)) (holding state (now (cells .entry)) queue) request) ⌝ }
+) -> RequestResult
+    ensures { λ r. ⌜ requestedOf r (now (cells .exit)) [] ≡ withoutQueue (requestResult (now (plan .entry))
+        (holding state (now (cells .entry)) (queueIn (now (row .entry)))) request) ⌝ }
 {
-    if let Verdict::Refused(question) = opening_verdict(plan, cells, size) {
-        return unchanged_step(RequestAnswer::Refused(question), state, size, request);
+    if let Verdict::Refused(question) = opening_verdict(plan, cells, row) {
+        return unchanged_result(RequestAnswer::Refused(question), state);
     }
     let places = plan::transaction_places(plan);
-    let checked = desk::check_desk(plan, &places, state, records);
-    if !checked.fits {
-        return unchanged_step(RequestAnswer::Refused(6), state, size, request);
+    let mut masks = [0u8; STORE_SIZE];
+    desk::fill_if_waiting(plan, state.waiting, &mut masks);
+    if !desk::desk_fits(plan, &places, state, row, &masks) {
+        return unchanged_result(RequestAnswer::Refused(6), state);
     }
-    admitted_step(plan, &places, state, cells, size, request, checked)
+    admitted_result(plan, &places, state, cells, request, &mut masks)
 }
 
-// The same of a client's word, a transaction and four parameters, of which it makes the record.
-pub fn request_step(
-    plan: &[u32],
-    state: Desk,
-    cells: &mut [u32],
-    size: usize,
-    records: [Request; QUEUE_SIZE],
-    client: u32,
-    transaction: u32,
-    params: [u32; 4],
-) -> RequestStep
-    ensures { λ r. ⌜ ((queue : List Queued) → length queue ≡ size → recordsOf queue ≡ records
-        → steppedOf r (now (cells .exit)) queue
-        ≡ requestResult (now (plan .entry)) (holding state (now (cells .entry)) queue) (recordOf client transaction params)) ⌝ }
+// The record of a request.
+pub(crate) fn record_of(client: u32, transaction: u32, params: [u32; 4]) -> Request
+    ensures { λ r. ⌜ r ≡ recordOf client transaction params ⌝ }
 {
-    let request = Request {
+    Request {
         client: client,
         transaction: transaction,
         p0: params[0],
         p1: params[1],
         p2: params[2],
         p3: params[3],
-    };
-    request_core(plan, state, cells, size, records, request)
+    }
+}
+
+// Where the record is stored in a queue of this length: behind those that wait if it waits, else at the queue's end.
+fn store_place(answer: RequestAnswer, waiting: u32, size: usize) -> usize
+    ensures { λ r. ⌜ r ≡ storePlace (responseOf answer) waiting size ⌝ }
+{
+    match answer {
+        RequestAnswer::Waits => waiting as usize,
+        RequestAnswer::Replied(_) => size,
+        RequestAnswer::Elsewhere(_) => size,
+        RequestAnswer::Refused(_) => size,
+    }
+}
+
+// The step of a result: with its record, and the record's place in a queue of this length.
+pub(crate) fn step_of(
+    result: RequestResult,
+    waiting: u32,
+    size: usize,
+    request: Request,
+) -> RequestStep
+    ensures { λ r. ⌜ r ≡ stepOf result waiting size request ⌝ }
+{
+    let answer = result.answer;
+    let place = store_place(answer, waiting, size);
+    RequestStep {
+        result: result,
+        place: place,
+        request: request,
+    }
+}
+
+// The request. Its record is not stored yet.
+pub(crate) fn request_step(
+    plan: &[u32],
+    state: Desk,
+    cells: &mut [u32],
+    row: &[u32],
+    client: u32,
+    transaction: u32,
+    params: [u32; 4],
+) -> RequestStep
+    ensures stepped { λ r. ⌜ steppedOf r (now (cells .exit)) (queueIn (now (row .entry)))
+        ≡ requestResult (now (plan .entry)) (holding state (now (cells .entry)) (queueIn (now (row .entry))))
+        (recordOf client transaction params) ⌝ }
+    ensures placed { λ r. ⌜ (r .request ≡ recordOf client transaction params)
+        × (r .place ≡ storePlace (responseOf (r .result .answer)) (state .waiting) queueSize) ⌝ }
+{
+    let request = record_of(client, transaction, params);
+    let result = request_result(plan, state, cells, row, request);
+    step_of(result, state.waiting, QUEUE_SIZE, request)
 }

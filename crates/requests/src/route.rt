@@ -1,12 +1,13 @@
 // Where a request's operation goes, by its class and its desk. The table of masks is filled only where the answer hangs on it: for an
 // own operation that writes, unless question 6 has filled it.
+//     is_global    whether the operation is global
+//     route_of     where it goes
 ghost use mathlib.Core.Path.{_≡_};
 ghost use Rattle.plan.specs.Decode.{planOf};
 ghost use Rattle.conflict.specs.Class.{isGlobal, classOf};
 ghost use Rattle.desk.specs.Queueing.{operationOf};
-ghost use Rattle.desk.specs.Place.{Placed, TableHolds};
+ghost use Rattle.desk.specs.Place.{Placed, masksIf};
 ghost use Rattle.requests.specs.Route.{wayOf, wayBy};
-use desk::DeskCheck;
 use queue::Request;
 
 // It runs at once, waits at this desk, or is another desk's.
@@ -16,35 +17,36 @@ pub enum Route {
     Elsewhere,
 }
 
-// Whether the operation is global, by the table that question 6 filled, or else by one that is filled here if it writes.
-fn is_global(plan: &[u32], at: usize, request: Request, checked: DeskCheck) -> bool
-    requires { ⌜ Placed (now plan) request at × TableHolds (now plan) checked ⌝ }
+// Whether the operation is global, by the table of masks: where it is not filled, it is filled here if the operation writes.
+fn is_global(plan: &[u32], at: usize, request: Request, filled: bool, masks: &mut [u8]) -> bool
+    requires { ⌜ Placed (now plan) request at × (now masks ≡ masksIf filled (planOf (now plan))) ⌝ }
     ensures { λ r. ⌜ r ≡ isGlobal (classOf (planOf (now (plan .entry))) (operationOf request)) ⌝ }
 {
     let params = queue::params(request);
-    if checked.known {
-        return conflict::is_global(plan, at, params, &checked.masks);
+    if filled {
+        return conflict::is_global(plan, at, params, masks);
     }
     if !conflict::has_write(plan, at) {
         return false;
     }
-    let masks = conflict::desk_masks(plan);
-    conflict::is_global(plan, at, params, &masks)
+    conflict::fill_masks(plan, masks);
+    conflict::is_global(plan, at, params, masks)
 }
 
-// Where the operation goes. `own` says whether this desk is its own.
+// Where the operation goes. `own` says whether this desk is its own, `filled` whether the table is filled.
 pub(crate) fn route_of(
     plan: &[u32],
     at: usize,
     request: Request,
     own: bool,
-    checked: DeskCheck,
+    filled: bool,
+    masks: &mut [u8],
 ) -> Route
-    requires { ⌜ Placed (now plan) request at × TableHolds (now plan) checked ⌝ }
+    requires { ⌜ Placed (now plan) request at × (now masks ≡ masksIf filled (planOf (now plan))) ⌝ }
     ensures { λ r. ⌜ wayOf r ≡ wayBy (classOf (planOf (now (plan .entry))) (operationOf request)) own ⌝ }
 {
     if own {
-        if is_global(plan, at, request, checked) {
+        if is_global(plan, at, request, filled, masks) {
             return Route::Waits;
         }
         return Route::Runs;

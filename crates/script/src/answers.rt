@@ -1,4 +1,4 @@
-// What a call answers: a number and a text, as one number low and high. The text of a refusal is that of the question.
+// What a call answers: a text and a number. The text of a refusal is that of the question.
 use crate::layout::ANSWER;
 use crate::layout::ANSWERED;
 use crate::layout::CALLS;
@@ -9,42 +9,26 @@ use crate::memory::Memory;
 use crate::memory::add;
 use crate::memory::count_above;
 use crate::memory::get;
-use crate::memory::high;
-use crate::memory::low;
 use crate::memory::on;
 use crate::memory::put;
-use crate::memory::wide;
 use crate::output::say;
 use crate::texts;
 
-// The answer of a call that a question refused, 0 for none.
-pub fn refused(question: u32) -> u64 {
-    wide(0, texts::QUESTIONS + question % 16)
+// Notes what a call answers that no question refused.
+pub fn note(m: &mut Memory, text: u32, number: u32) -> &mut Memory {
+    put(put(put(m, QUESTION, 0), ANSWER, text), VALUE, number)
 }
 
-// Notes what a call answers, and which question refused it.
-pub fn note(m: &mut Memory, answer: u64) -> &mut Memory {
-    let text = high(answer);
-    let question = if text / 16 == texts::QUESTIONS / 16 {
-        text % 16
-    } else {
-        0
-    };
-    put(
-        put(put(m, QUESTION, question), ANSWER, text),
-        VALUE,
-        low(answer),
-    )
+// Notes which question refused a call, 0 for none.
+pub fn note_question(m: &mut Memory, question: u32) -> &mut Memory {
+    let question = question % 16;
+    put(note(m, texts::QUESTIONS + question, 0), QUESTION, question)
 }
 
-// Counts the call by the text of its answer.
-pub fn count_call(m: &mut Memory) -> &mut Memory {
-    let place = on(ANSWERED, get(m, ANSWER) as usize);
-    count_above(add(add(m, place, 1), CALLS, 1), REFUSALS, QUESTION, 0)
-}
-
-// Says the text of the answer, and before it which question refused the call.
+// Says the text of the answer, and before it which question refused the call. Counts the call by this text.
 pub fn say_answer(m: &mut Memory) -> &mut Memory {
     let text = get(m, ANSWER);
+    let m = add(add(m, on(ANSWERED, text as usize), 1), CALLS, 1);
+    let m = count_above(m, REFUSALS, QUESTION, 0);
     say(say(m, texts::REFUSED), text)
 }

@@ -1,25 +1,30 @@
 // The engine's request and visit, on what stands in memory. What a call leaves of the desk and of the buffers goes to places of its own,
 // so that all of it can be held against what was there before.
-use crate::answers;
+use crate::answers::note;
+use crate::answers::note_question;
 use crate::desks;
 use crate::layout::AFTER;
 use crate::layout::BEFORE;
-use crate::layout::CELL_COUNT;
 use crate::layout::CLIENT;
+use crate::layout::FOURTH_PARAMETER;
 use crate::layout::HAND;
+use crate::layout::HAND_WORDS;
 use crate::layout::LENT_CELLS;
 use crate::layout::LENT_OUTGOING;
-use crate::layout::LENT_RECORDS;
 use crate::layout::LENT_REPLIES;
+use crate::layout::LENT_ROW;
 use crate::layout::MARKS;
-use crate::layout::MOST_WORDS;
 use crate::layout::OUTGOING;
+use crate::layout::OUTGOING_WORDS;
 use crate::layout::PARAMETERS;
 use crate::layout::PLAN;
-use crate::layout::RECORDS;
+use crate::layout::PLAN_WORDS;
+use crate::layout::RECORDS_AFTER;
+use crate::layout::RECORDS_BEFORE;
 use crate::layout::REPLIES;
 use crate::layout::REPLIES_SIZE;
-use crate::layout::STATE;
+use crate::layout::SECOND_PARAMETER;
+use crate::layout::THIRD_PARAMETER;
 use crate::layout::TRANSACTION;
 use crate::memory::Memory;
 use crate::memory::copy;
@@ -27,9 +32,8 @@ use crate::memory::counted;
 use crate::memory::get;
 use crate::memory::narrow;
 use crate::memory::on;
-use crate::memory::part;
 use crate::memory::put;
-use crate::memory::wide;
+use crate::memory::size;
 use crate::texts;
 use conveyor::RequestAnswer;
 use conveyor::RequestResult;
@@ -37,26 +41,17 @@ use conveyor::Verdict;
 use conveyor::VisitAnswer;
 use conveyor::VisitResult;
 
-// Word i, 0 past the end.
-fn word_at(words: &[u32], i: usize) -> u32 {
-    if i < words.len() { words[i] } else { 0 }
-}
-
-// The first so many words, or all where there are less.
-fn front(words: &mut [u32], size: usize) -> &mut [u32] {
-    if size <= words.len() {
-        &mut words[..size]
-    } else {
-        words
-    }
-}
-
-// Copies words to a buffer, with zeros behind them, and gives the first so many words of it.
-fn load<'a>(words: &[u32], into: &'a mut [u32], size: usize) -> &'a mut [u32] {
+// Copies words from a place on to a buffer, and gives as many of them as another place says, or all where there are less.
+fn load<'a>(m: &Memory, place: usize, number: usize, into: &'a mut [u32]) -> &'a mut [u32] {
     for i in 0..into.len() {
-        into[i] = word_at(words, i);
+        into[i] = get(m, on(place, i));
     }
-    front(into, size)
+    let lent = size(m, number);
+    if lent <= into.len() {
+        &mut into[..lent]
+    } else {
+        into
+    }
 }
 
 // Copies words to memory.
@@ -71,43 +66,38 @@ fn store<'a>(m: &'a mut Memory, place: usize, words: &[u32]) -> &'a mut Memory {
 pub fn parameters(m: &Memory) -> [u32; 4] {
     [
         get(m, PARAMETERS),
-        get(m, PARAMETERS + 1),
-        get(m, PARAMETERS + 2),
-        get(m, PARAMETERS + 3),
+        get(m, SECOND_PARAMETER),
+        get(m, THIRD_PARAMETER),
+        get(m, FOURTH_PARAMETER),
     ]
 }
 
 // The request itself on copies of the cells and of the row, with as much lent as is set.
 fn ask(m: &Memory, cells: &mut [u32], row: &mut [u32]) -> RequestResult {
-    let lent_cells = get(m, LENT_CELLS) as usize;
-    let lent_words = (get(m, LENT_RECORDS) % 64) as usize * 6;
     conveyor::request_on_words(
-        counted(m, PLAN),
+        counted(m, PLAN, PLAN_WORDS),
         desks::state(m),
-        load(part(m, BEFORE, BEFORE + CELL_COUNT), cells, lent_cells),
-        load(part(m, BEFORE + RECORDS, BEFORE + STATE), row, lent_words),
+        load(m, BEFORE, LENT_CELLS, cells),
+        load(m, RECORDS_BEFORE, LENT_ROW, row),
         get(m, CLIENT),
         get(m, TRANSACTION),
         parameters(m),
     )
 }
 
-// What a request answers. The texts of what became of it stand in the order of its counts.
-fn request_answer(answer: RequestAnswer) -> u64 {
+// Notes what a request answers. The texts of what became of it stand in the order of its counts.
+fn note_request(m: &mut Memory, answer: RequestAnswer) -> &mut Memory {
     match answer {
         RequestAnswer::Replied(said) => {
-            wide(
-                said.number,
-                if said.done {
-                    texts::DONE
-                } else {
-                    texts::DECLINED
-                },
-            )
+            if said.done {
+                note(m, texts::DONE, said.number)
+            } else {
+                note(m, texts::DECLINED, said.number)
+            }
         }
-        RequestAnswer::Waits => wide(0, texts::WAITS),
-        RequestAnswer::Elsewhere(desk) => wide(desk, texts::ELSEWHERE),
-        RequestAnswer::Refused(question) => answers::refused(question),
+        RequestAnswer::Waits => note(m, texts::WAITS, 0),
+        RequestAnswer::Elsewhere(desk) => note(m, texts::ELSEWHERE, desk),
+        RequestAnswer::Refused(question) => note_question(m, question),
     }
 }
 
@@ -117,40 +107,34 @@ pub fn request(m: &mut Memory) -> &mut Memory {
     let mut row = [0u32; 198];
     let result = ask(m, &mut cells, &mut row);
     let given = result.answer;
-    let m = store(store(m, AFTER, &cells), AFTER + RECORDS, &row);
-    answers::note(
-        desks::put_state(m, AFTER + STATE, result.state),
-        request_answer(given),
-    )
+    let m = store(store(m, AFTER, &cells), RECORDS_AFTER, &row);
+    note_request(desks::put_state(m, result.state), given)
 }
 
 // The visit itself by the words of the line, on a copy of the cells and on marked buffers, with as much lent as is set.
 fn pass(m: &Memory, cells: &mut [u32], out: &mut [u32], replies: &mut [u32]) -> VisitResult {
-    let lent_cells = get(m, LENT_CELLS) as usize;
-    let lent_words = (get(m, LENT_RECORDS) % 64) as usize * 6;
-    let lent_out = get(m, LENT_OUTGOING) as usize;
-    let lent_replies = get(m, LENT_REPLIES) as usize;
     conveyor::visit_on_words(
-        counted(m, PLAN),
+        counted(m, PLAN, PLAN_WORDS),
         desks::state(m),
-        load(part(m, BEFORE, BEFORE + CELL_COUNT), cells, lent_cells),
-        part(m, BEFORE + RECORDS, BEFORE + RECORDS + lent_words),
-        counted(m, HAND),
-        load(part(m, MARKS, MARKS + MOST_WORDS), out, lent_out),
-        load(part(m, MARKS, MARKS + REPLIES_SIZE), replies, lent_replies),
+        load(m, BEFORE, LENT_CELLS, cells),
+        counted(m, LENT_ROW, RECORDS_BEFORE),
+        counted(m, HAND, HAND_WORDS),
+        load(m, MARKS, LENT_OUTGOING, out),
+        load(m, MARKS, LENT_REPLIES, replies),
     )
 }
 
 // Notes what a visit answers: the words that it sends, and its replies with no text.
 fn note_visit(m: &mut Memory, answer: VisitAnswer) -> &mut Memory {
     match answer {
-        VisitAnswer::Forwarded(words, replies) => answers::note(
-            put(m, OUTGOING, narrow(words % 8192)),
-            narrow(replies % 64) as u64,
-        ),
-        VisitAnswer::Refused(question) => {
-            answers::note(put(m, OUTGOING, 0), answers::refused(question))
+        VisitAnswer::Forwarded(words, replies) => {
+            note(
+                put(m, OUTGOING, narrow(words % 8192)),
+                0,
+                narrow(replies % 64),
+            )
         }
+        VisitAnswer::Refused(question) => note_question(put(m, OUTGOING, 0), question),
     }
 }
 
@@ -161,19 +145,19 @@ pub fn visit(m: &mut Memory) -> &mut Memory {
     let mut replies = [0u32; 112];
     let result = pass(m, &mut cells, &mut out, &mut replies);
     let given = result.answer;
-    let m = store(
-        store(store(m, AFTER, &cells), OUTGOING + 1, &out),
-        REPLIES,
-        &replies,
+    let m = store(store(m, AFTER, &cells), OUTGOING_WORDS, &out);
+    let m = copy(
+        store(m, REPLIES, &replies),
+        RECORDS_BEFORE,
+        RECORDS_AFTER,
+        198,
     );
-    let m = copy(m, BEFORE + RECORDS, AFTER + RECORDS, 198);
-    note_visit(desks::put_state(m, AFTER + STATE, result.state), given)
+    note_visit(desks::put_state(m, result.state), given)
 }
 
 // The starting frame in a marked buffer of the size that is set: 0, or the question.
 fn begin_frame(m: &Memory, out: &mut [u32]) -> u32 {
-    let size = get(m, LENT_OUTGOING) as usize;
-    match conveyor::starting_frame(load(part(m, MARKS, MARKS + MOST_WORDS), out, size)) {
+    match conveyor::starting_frame(load(m, MARKS, LENT_OUTGOING, out)) {
         Verdict::Accepted => 0,
         Verdict::Refused(question) => question,
     }
@@ -183,17 +167,19 @@ fn begin_frame(m: &Memory, out: &mut [u32]) -> u32 {
 pub fn start(m: &mut Memory) -> &mut Memory {
     let mut out = [0u32; 6420];
     let question = begin_frame(m, &mut out);
-    let m = copy(store(m, OUTGOING + 1, &out), MARKS, REPLIES, REPLIES_SIZE);
-    answers::note(
+    let m = copy(store(m, OUTGOING_WORDS, &out), MARKS, REPLIES, REPLIES_SIZE);
+    note_question(
         put(m, OUTGOING, if question == 0 { 4 } else { 0 }),
-        answers::refused(question),
+        question,
     )
 }
 
 // The words that the frame reader gives back for the words of the line, and how many.
 fn read_into(m: &Memory, into: &mut [u32]) -> usize {
-    let words = conveyor::read_frame(counted(m, PLAN), counted(m, HAND));
-    load(words, into, 0);
+    let words = conveyor::read_frame(counted(m, PLAN, PLAN_WORDS), counted(m, HAND, HAND_WORDS));
+    for i in 0..into.len() {
+        into[i] = if i < words.len() { words[i] } else { 0 };
+    }
     words.len()
 }
 
@@ -201,5 +187,5 @@ fn read_into(m: &Memory, into: &mut [u32]) -> usize {
 pub fn read_frame(m: &mut Memory) -> &mut Memory {
     let mut out = [0u32; 6420];
     let words = read_into(m, &mut out);
-    put(store(m, OUTGOING + 1, &out), OUTGOING, narrow(words))
+    put(store(m, OUTGOING_WORDS, &out), OUTGOING, narrow(words))
 }

@@ -6,22 +6,25 @@ use crate::layout::CELL_COUNT;
 use crate::layout::CHANGED;
 use crate::layout::CHANGED_CELLS;
 use crate::layout::DESK_SIZE;
+use crate::layout::MADE_AFTER;
+use crate::layout::MADE_BEFORE;
 use crate::layout::MARKS;
 use crate::layout::MOST_WORDS;
 use crate::layout::OTHER_WORDS;
 use crate::layout::OUTGOING;
+use crate::layout::OUTGOING_WORDS;
 use crate::layout::QUESTION;
-use crate::layout::RECORDS;
+use crate::layout::RECORDS_AFTER;
+use crate::layout::RECORDS_BEFORE;
 use crate::layout::REPLIES;
 use crate::layout::REPLIES_SIZE;
-use crate::layout::STATE;
 use crate::layout::VALUE;
 use crate::memory;
 use crate::memory::Memory;
 use crate::memory::differences;
 use crate::memory::get;
-use crate::memory::on;
 use crate::memory::put;
+use crate::memory::size;
 use crate::output::say;
 use crate::output::say_changes;
 use crate::sums;
@@ -29,7 +32,7 @@ use crate::texts;
 
 // The cells that changed, or how many they are and the sums over the whole book.
 fn say_cells(m: &mut Memory) -> &mut Memory {
-    let changed = differences(m, BEFORE, AFTER, CELL_COUNT);
+    let changed = differences(m, BEFORE, AFTER, 0, CELL_COUNT);
     if changed <= 24 {
         return say_changes(m, texts::CHANGED_CELL, AFTER, BEFORE, 1, CELL_COUNT);
     }
@@ -39,19 +42,11 @@ fn say_cells(m: &mut Memory) -> &mut Memory {
     )
 }
 
-// How many words of a buffer are not the marks, from one of them on.
-fn unmarked(m: &Memory, place: usize, from: usize, words: usize) -> u32 {
-    if words < from {
-        return 0;
-    }
-    differences(m, on(place, from), on(MARKS, from), words - from)
-}
-
 // Notes how many words changed behind the outgoing ones and the replies.
 pub fn note_behind(m: &mut Memory) -> &mut Memory {
-    let words = unmarked(m, OUTGOING + 1, get(m, OUTGOING) as usize, MOST_WORDS);
-    let replies = (get(m, VALUE) % 64) as usize * 3;
-    let reply_words = unmarked(m, REPLIES, replies, REPLIES_SIZE);
+    let words = differences(m, OUTGOING_WORDS, MARKS, size(m, OUTGOING), MOST_WORDS);
+    let replies = size(m, VALUE) % 64 * 3;
+    let reply_words = differences(m, REPLIES, MARKS, replies, REPLIES_SIZE);
     memory::add(put(m, OTHER_WORDS, words), OTHER_WORDS, reply_words)
 }
 
@@ -61,7 +56,7 @@ fn is_idle(m: &Memory) -> bool {
         return false;
     }
     std::num::wrapping_add_u32(
-        differences(m, BEFORE, AFTER, DESK_SIZE),
+        differences(m, BEFORE, AFTER, 0, DESK_SIZE),
         get(m, OTHER_WORDS),
     )
         == 0
@@ -76,11 +71,11 @@ pub fn say_all(m: &mut Memory) -> &mut Memory {
     let m = say_changes(
         say_cells(m),
         texts::CHANGED_RECORD,
-        AFTER + RECORDS,
-        BEFORE + RECORDS,
+        RECORDS_AFTER,
+        RECORDS_BEFORE,
         6,
         33,
     );
-    let m = say_changes(m, texts::CHANGED_STATE, AFTER + STATE, BEFORE + STATE, 5, 1);
+    let m = say_changes(m, texts::CHANGED_STATE, MADE_AFTER, MADE_BEFORE, 5, 1);
     memory::copy(say(m, texts::OTHER_WORDS), AFTER, BEFORE, DESK_SIZE)
 }

@@ -9,8 +9,11 @@ use crate::layout::CHANGED_FRAMES;
 use crate::layout::CHANGES;
 use crate::layout::DESK;
 use crate::layout::HAND;
+use crate::layout::HAND_VISIT;
+use crate::layout::HAND_WORDS;
 use crate::layout::LONGEST_SENT;
 use crate::layout::LONGEST_TAKEN;
+use crate::layout::MADE_BEFORE;
 use crate::layout::OTHER_WORDS;
 use crate::layout::OUTGOING;
 use crate::layout::QUESTION;
@@ -22,13 +25,12 @@ use crate::layout::VALUE;
 use crate::layout::VISIT;
 use crate::layout::VISIT_REPLIES;
 use crate::layout::VISITS;
-use crate::layout::is_made;
 use crate::layout::keep_desk;
 use crate::layout::take_desk;
-use crate::memory;
 use crate::memory::Memory;
 use crate::memory::QUIET;
 use crate::memory::add;
+use crate::memory::copy;
 use crate::memory::count_above;
 use crate::memory::get;
 use crate::memory::put;
@@ -42,11 +44,8 @@ use crate::texts::LAST_QUESTION;
 // `request 1 client 9 T0 5 9`.
 pub fn request(m: &mut Memory) -> &mut Memory {
     let m = put(calls::request(m), OTHER_WORDS, 0);
-    let m = say(
-        count_above(m, REQUESTS, ANSWER, LAST_QUESTION),
-        texts::REQUEST,
-    );
-    changes::say_all(answers::say_answer(answers::count_call(m)))
+    let m = count_above(m, REQUESTS, ANSWER, LAST_QUESTION);
+    changes::say_all(answers::say_answer(say(m, texts::REQUEST)))
 }
 
 // The replies of a visit, and the frame that it sends. Counts it with its replies and its frames, the one taken and the one sent.
@@ -66,40 +65,39 @@ fn accept(m: &mut Memory) -> &mut Memory {
     frames::send(m, texts::VISIT_SENDS)
 }
 
-// The answer to a visit.
-fn say_visit(m: &mut Memory) -> &mut Memory {
-    let m = say(memory::copy(m, HAND + 2, VISIT, 1), texts::VISIT);
-    if get(m, QUESTION) == 0 {
-        accept(m)
-    } else {
-        answers::say_answer(m)
-    }
-}
-
 // `visit 1`: by the words of the line at the desk at hand.
 pub fn visit(m: &mut Memory) -> &mut Memory {
-    let m = answers::count_call(changes::note_behind(calls::visit(m)));
-    changes::say_all(say_visit(m))
+    let m = copy(changes::note_behind(calls::visit(m)), HAND_VISIT, VISIT, 1);
+    let m = answers::say_answer(say(m, texts::VISIT));
+    if get(m, QUESTION) == 0 {
+        changes::say_all(accept(m))
+    } else {
+        changes::say_all(m)
+    }
 }
 
 // Takes the latest frame; the desk that it is addressed to is at hand then, desk 0 where none was sent.
 fn take_token(m: &mut Memory) -> &mut Memory {
     let m = forms::take_latest(m);
-    let desk = get(m, HAND + 1) / 0x100_0000 % 8;
+    let desk = get(m, HAND_WORDS) / 0x100_0000 % 8;
     take_desk(put(m, DESK, desk))
 }
 
 // `pass 3`, as a line writes it.
 pub fn read_pass(m: &mut Memory) -> &mut Memory {
     let m = take_token(m);
-    let is_there = is_made(m);
-    scanner::number_to(scanner::demand(m, is_there, texts::NOT_MADE), TO, 1000000)
+    let is_made = 0 < get(m, MADE_BEFORE);
+    scanner::number_to(scanner::demand(m, is_made, texts::NOT_MADE), TO, 1000000)
 }
 
 // The token goes on by one visit, if the desk is made; without an answer where this is not 0.
 fn pass_once(m: &mut Memory, quiet: u32) -> &mut Memory {
     let m = take_token(put(m, QUIET, quiet));
-    if is_made(m) { keep_desk(visit(m)) } else { m }
+    if 0 < get(m, MADE_BEFORE) {
+        keep_desk(visit(m))
+    } else {
+        m
+    }
 }
 
 // `pass 3`: only the last visit is answered.

@@ -4,6 +4,7 @@ use crate::frames;
 use crate::layout::CHANGES;
 use crate::layout::FROM;
 use crate::layout::HAND;
+use crate::layout::HAND_WORDS;
 use crate::layout::MOST_WORDS;
 use crate::layout::OWN_WORDS;
 use crate::layout::PLAN;
@@ -12,7 +13,6 @@ use crate::layout::SUMS;
 use crate::layout::TAKEN_FRAME;
 use crate::layout::TO;
 use crate::layout::frame_place;
-use crate::line;
 use crate::memory;
 use crate::memory::Memory;
 use crate::memory::NUMBER;
@@ -23,6 +23,7 @@ use crate::memory::get;
 use crate::memory::narrow;
 use crate::memory::on;
 use crate::memory::put;
+use crate::memory::size;
 use crate::scanner;
 use crate::scanner::NO_NUMBER;
 use crate::scanner::demand;
@@ -33,75 +34,55 @@ use crate::texts;
 
 // So many words more, which stand from a place on, or a fault where they are too many.
 fn extend(m: &mut Memory, from: usize, words: usize) -> &mut Memory {
-    let length = get(m, HAND) as usize;
+    let length = size(m, HAND);
     if MOST_WORDS < on(length, words) {
         return fault(m, texts::TOO_MANY_WORDS);
     }
     memory::add(
-        copy(m, from, on(HAND + 1, length), words),
+        copy(m, from, on(HAND_WORDS, length), words),
         HAND,
         narrow(words),
     )
 }
 
-// Where a slash stands in the word at hand, or its end.
-fn slash(m: &Memory) -> usize {
-    for i in scanner::start(m)..scanner::end(m) {
-        if line::byte_at(m, i) == 47 {
-            return i;
-        }
-    }
-    scanner::end(m)
-}
-
 // The two numbers of `*403/13`; the second is 1 in `*11`.
 fn read_repetition(m: &mut Memory) -> &mut Memory {
-    let middle = slash(m);
-    let end = scanner::end(m);
-    let m = memory::add(put(m, WORD_END, narrow(middle)), WORD_START, 1);
+    let end = size(m, WORD_END);
+    let slash = scanner::find(m, size(m, WORD_START), end, 47, 1);
+    let m = memory::add(put(m, WORD_END, narrow(slash)), WORD_START, 1);
     let m = copy(keep(m, 10, 6420, NO_NUMBER), NUMBER, FROM, 1);
-    if middle == end {
+    if slash == end {
         return put(m, TO, 1);
     }
     let m = put(
-        put(m, WORD_START, narrow(on(middle, 1))),
+        put(m, WORD_START, narrow(on(slash, 1))),
         WORD_END,
         narrow(end),
     );
     copy(keep(m, 10, 6420, NO_NUMBER), NUMBER, TO, 1)
 }
 
-// Where the last period begins, 0 where there are no such words.
-fn last_period(m: &Memory) -> usize {
-    let words = get(m, HAND);
-    let period = get(m, TO);
-    if period == 0 {
-        return 0;
-    }
-    if words < period {
-        return 0;
-    }
-    on(HAND + 1, (words - period) as usize)
-}
-
-// `*11` or `*403/13`: words more, each the same as a period before it.
+// `*11` or `*403/13`: words more, each the same as a period before it, which is at least 1 and no more than there are words.
 fn repeated(m: &mut Memory) -> &mut Memory {
     let m = read_repetition(m);
-    let from = last_period(m);
-    let words = get(m, FROM) as usize;
-    if words == 0 {
+    let more = size(m, FROM);
+    if more == 0 {
         return m;
     }
-    extend(demand(m, 0 < from, texts::NO_SUCH_WORDS), from, words)
+    let words = size(m, HAND);
+    let period = size(m, TO);
+    let from = on(HAND_WORDS, std::num::wrapping_sub_usize(words, period));
+    let is_there = std::num::wrapping_sub_usize(period, 1) < words;
+    extend(demand(m, is_there, texts::NO_SUCH_WORDS), from, more)
 }
 
 // `word 2 A1100000`.
 fn replaced(m: &mut Memory) -> &mut Memory {
     let m = scanner::number_to(m, FROM, 6420);
-    let is_there = get(m, FROM) < get(m, HAND);
-    let place = on(HAND + 1, get(m, FROM) as usize);
+    let i = size(m, FROM);
+    let is_there = i < size(m, HAND);
     let m = scanner::next_word(demand(m, is_there, texts::NO_SUCH_WORDS));
-    copy(scanner::keep_word(m), NUMBER, place, 1)
+    copy(scanner::keep_word(m), NUMBER, on(HAND_WORDS, i), 1)
 }
 
 // Cuts off so many of the last words.
@@ -116,20 +97,11 @@ fn cut(m: &mut Memory) -> &mut Memory {
 
 // `seal`.
 fn sealed(m: &mut Memory) -> &mut Memory {
-    let words = get(m, HAND) as usize;
-    extend(sums::take(m, HAND + 1, words), SUMS, 2)
+    let words = size(m, HAND);
+    extend(sums::take(m, HAND_WORDS, words), SUMS, 2)
 }
 
-// A form that has no name: words that are repeated, or one word.
-fn plain_form(m: &mut Memory) -> &mut Memory {
-    // *
-    if line::byte_at(m, scanner::start(m)) == 42 {
-        return repeated(m);
-    }
-    extend(scanner::keep_word(m), NUMBER, 1)
-}
-
-// A form that changes words, by its name.
+// A form that changes words, by its name; one that has none is `*` with a number, or one word.
 fn change(m: &mut Memory, name: u64) -> &mut Memory {
     match name {
         // words
@@ -144,7 +116,13 @@ fn change(m: &mut Memory, name: u64) -> &mut Memory {
         0x7365_616c => sealed(m),
         // same
         0x7361_6d65 => memory::copy_counted(m, PLAN, HAND),
-        _ => plain_form(m),
+        _ => {
+            if scanner::byte_at(m, size(m, WORD_START)) == 42 {
+                repeated(m)
+            } else {
+                extend(scanner::keep_word(m), NUMBER, 1)
+            }
+        }
     }
 }
 
@@ -177,7 +155,7 @@ pub fn take_latest(m: &mut Memory) -> &mut Memory {
     let sent = get(m, SENT);
     let m = put(put(put(m, CHANGES, 0), OWN_WORDS, 0), HAND, 0);
     if sent == 0 {
-        return put(put(m, OWN_WORDS, 1), HAND + 1, 0);
+        return put(put(m, OWN_WORDS, 1), HAND_WORDS, 0);
     }
     let m = put(m, TAKEN_FRAME, sent - 1);
     let place = frame_place(m, TAKEN_FRAME);

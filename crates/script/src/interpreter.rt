@@ -1,36 +1,43 @@
 // The run of a script: the commands by their names, what is said of a bad line, and the counts at the end. A line is read whole before
 // anything is done, so that a bad one changes nothing.
+use crate::answers::say_answer;
 use crate::desks;
 use crate::events;
 use crate::forms;
 use crate::frames;
 use crate::layout::BEFORE;
+use crate::layout::CELL_COUNT;
 use crate::layout::DESK;
-use crate::layout::DESK_SIZE;
 use crate::layout::DESKS;
+use crate::layout::DESKS_REST;
 use crate::layout::DONE;
 use crate::layout::FROM;
 use crate::layout::HAND;
 use crate::layout::LENT;
 use crate::layout::LENT_NEXT;
+use crate::layout::MADE_BEFORE;
 use crate::layout::PLAN;
 use crate::layout::REFUSED;
 use crate::layout::REQUESTED;
 use crate::layout::SENT;
 use crate::layout::SENT_FRAME;
 use crate::layout::SHOWN;
-use crate::layout::STATE;
 use crate::layout::TO;
+use crate::layout::draw;
 use crate::layout::install_marks;
 use crate::layout::keep_desk;
 use crate::layout::take_desk;
-use crate::line;
 use crate::loans;
 use crate::memory;
 use crate::memory::BAD_LINES;
+use crate::memory::BEFORE_LINE;
 use crate::memory::FAULT;
 use crate::memory::ITEM;
+use crate::memory::LINE;
+use crate::memory::LINE_JOINED;
+use crate::memory::LINE_LAST;
 use crate::memory::LINE_LENGTH;
+use crate::memory::LINE_NUMBER;
 use crate::memory::LINE_SIZE;
 use crate::memory::LINES;
 use crate::memory::Memory;
@@ -38,6 +45,7 @@ use crate::memory::WORD_END;
 use crate::memory::get;
 use crate::memory::on;
 use crate::memory::put;
+use crate::memory::size;
 use crate::operations;
 use crate::output;
 use crate::output::say;
@@ -84,14 +92,15 @@ const FRAME: u64 = 0x66_7261_6d65;
 
 // Everything as at the beginning, but for the counts: no desk is made, nor the one at hand.
 fn reset(m: &mut Memory) -> &mut Memory {
-    let m = memory::fill(m, DESKS, DESK_SIZE * 9 - 1, 0);
-    loans::put_all(put(put(m, PLAN, 0), SENT, 0), LENT)
+    let m = memory::fill(m, DESKS, DESKS_REST, 0);
+    let m = loans::put_all(put(put(m, PLAN, 0), SENT, 0));
+    memory::copy(m, LENT_NEXT, LENT, 4)
 }
 
 // Says the rest of the line behind one more byte.
 fn say_rest(m: &mut Memory) -> &mut Memory {
-    for i in on(scanner::end(m), 1)..line::length(m) {
-        output::byte(m, line::byte_at(m, i));
+    for i in on(size(m, WORD_END), 1)..size(m, LINE_LENGTH) {
+        output::byte(m, (scanner::byte_at(m, i) % 256) as u8);
     }
     m
 }
@@ -123,18 +132,13 @@ fn read_rest(m: &mut Memory, name: u64) -> &mut Memory {
             TO,
             scanner::WORD,
         ),
-        CELLS => scanner::keep(
-            desks::read_seed(desks::read_made(m)),
-            10,
-            scanner::WORD,
-            scanner::NO_NUMBER,
-        ),
+        CELLS => desks::read_drawn(desks::read_made(m)),
         RECORDS => operations::read_of_client(number_to(
             number_to(desks::read_made(m), FROM, 33),
             TO,
             33,
         )),
-        LEND => loans::read_sizes(loans::put_all(m, LENT_NEXT)),
+        LEND => loans::read_sizes(loans::put_all(m)),
         SHOW => read_show(m),
         SAY => say(
             memory::copy(say_rest(m), LINE_LENGTH, WORD_END, 1),
@@ -148,17 +152,17 @@ fn read_rest(m: &mut Memory, name: u64) -> &mut Memory {
 // Does what was read.
 fn perform(m: &mut Memory, name: u64) -> &mut Memory {
     match name {
-        PLAN_NAME => plans::hold(m),
-        CLASS => plans::class(m),
-        DESK_NAME => desks::new_desk(m),
+        PLAN_NAME => say_answer(plans::read(memory::copy_counted(m, HAND, PLAN))),
+        CLASS => say_answer(plans::class(m)),
+        DESK_NAME => say_answer(desks::new_desk(m)),
         START => frames::start(m),
         REQUEST => events::request(m),
         VISIT => events::visit(m),
         PASS => events::pass(m),
         READ => frames::read(m),
-        STATE_NAME => memory::copy(m, ITEM, BEFORE + STATE, 5),
+        STATE_NAME => memory::copy(m, ITEM, MADE_BEFORE, 5),
         CELL => desks::set_cell(m),
-        CELLS => desks::set_cells(m),
+        CELLS => draw(m, BEFORE, CELL_COUNT),
         RECORDS => desks::set_records(m),
         LEND => memory::copy(m, LENT_NEXT, LENT, 4),
         RESET => reset(m),
@@ -186,7 +190,7 @@ fn run_words(m: &mut Memory) -> &mut Memory {
 
 // Runs a line that is whole.
 fn run_whole(m: &mut Memory) -> &mut Memory {
-    if LINE_SIZE < line::length(m) {
+    if LINE_SIZE < size(m, LINE_LENGTH) {
         return say(memory::add(m, BAD_LINES, 1), texts::LONG_LINE);
     }
     if scanner::has_more(m) {
@@ -196,22 +200,33 @@ fn run_whole(m: &mut Memory) -> &mut Memory {
     }
 }
 
-// Ends a line, which goes on or is run; the next one is empty then.
+// An empty line, whose number is the next one.
+fn begin_line(m: &mut Memory) -> &mut Memory {
+    let m = memory::fill(m, LINE_LENGTH, 5, 0);
+    memory::add(memory::copy(m, LINES, LINE_NUMBER, 1), LINE_NUMBER, 1)
+}
+
+// Ends a line. Where its last byte is `\`, a space takes its place and the line goes on, else it is run; of an empty one the 0 in front of
+// the line is looked at.
 fn end_line(m: &mut Memory) -> &mut Memory {
     let m = memory::add(m, LINES, 1);
-    if line::goes_on(m) {
-        line::join(m)
+    let last = on(BEFORE_LINE, size(m, LINE_LENGTH));
+    if get(m, last) == 92 {
+        memory::copy(put(m, last, 32), LINE_LENGTH, LINE_JOINED, 1)
     } else {
-        line::clear(run_whole(m))
+        begin_line(run_whole(m))
     }
 }
 
-// Takes a byte of the script.
+// Takes a byte of the script; in a line that is too long it takes the place of the last one.
 fn take(m: &mut Memory, byte: u8) -> &mut Memory {
+    let length = size(m, LINE_LENGTH);
     if byte == b'\n' {
         end_line(m)
+    } else if LINE_SIZE < length {
+        put(m, LINE_LAST, byte as u32)
     } else {
-        line::append(m, byte as u32)
+        memory::add(put(m, on(LINE, length), byte as u32), LINE_LENGTH, 1)
     }
 }
 
@@ -225,8 +240,8 @@ fn take_block<'a>(m: &'a mut Memory, block: &[u8]) -> &'a mut Memory {
 
 // Runs a last line that no line feed ends, and says the counts.
 fn finish(m: &mut Memory) -> &mut Memory {
-    let lines = line::open_lines(m);
-    let m = run_whole(memory::add(m, LINES, lines));
+    let joined = get(m, LINE_JOINED);
+    let m = run_whole(memory::count_above(m, LINES, LINE_LENGTH, joined));
     let m = say(memory::copy(m, REQUESTED, DONE, 4), texts::COUNTS);
     say(
         say_each(m, texts::REFUSED_COUNT, REFUSED, 1, 16),
@@ -246,7 +261,7 @@ fn run_block(m: &mut Memory) -> bool {
 // Reads a script from standard input, and writes what is said to it.
 pub fn run() {
     let mut m = [0u32; 540672];
-    line::clear(reset(install_marks(texts::install(&mut m))));
+    begin_line(reset(install_marks(texts::install(&mut m))));
     for _turn in 0..0xffff_ffff_ffffusize {
         if !run_block(&mut m) {
             break;

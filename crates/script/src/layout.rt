@@ -1,10 +1,12 @@
 // Where everything stands in memory behind the words of the modules below this one, and the registers that texts name.
 use crate::memory;
+use crate::memory::ITEM;
 use crate::memory::Memory;
+use crate::memory::NUMBER;
 use crate::memory::get;
-use crate::memory::narrow;
 use crate::memory::on;
 use crate::memory::put;
+use crate::memory::size;
 
 // Registers for what is counted. A: calls. B: refusals. C: refusals that changed something. D: requests that were not refused, and
 // of these E done, F declined, G waiting, H elsewhere. I: visits that were not refused, J their replies, K those with several, L those of
@@ -49,6 +51,12 @@ pub const TRANSACTION: usize = 98;
 
 pub const PARAMETERS: usize = 99;
 
+pub const SECOND_PARAMETER: usize = 100;
+
+pub const THIRD_PARAMETER: usize = 101;
+
+pub const FOURTH_PARAMETER: usize = 102;
+
 pub const CHANGED_CELLS: usize = 110;
 
 pub const OTHER_WORDS: usize = 111;
@@ -69,6 +77,8 @@ pub const WORDS: usize = 119;
 
 pub const SUMS: usize = 120;
 
+pub const SECOND_SUM: usize = SUMS + 1;
+
 pub const LAST_WORDS: usize = 122;
 
 // How many frames were sent.
@@ -77,27 +87,36 @@ pub const SENT: usize = 16;
 // The text of a call's answer.
 pub const ANSWER: usize = 18;
 
-// Two numbers of the line, whether it says `seed`, and what it shows: 0 the plan, 1 a desk, 2 a frame.
+// Two numbers of the line, and what it shows: 0 the plan, 1 a desk, 2 a frame.
 pub const FROM: usize = 19;
 
 pub const TO: usize = 20;
 
-pub const SEED: usize = 21;
-
 pub const SHOWN: usize = 22;
 
-// How many cells, records, outgoing words and reply words are lent, and the same as a line sets them.
+// By what words are drawn, each from the one before: it is multiplied by the factor, and this is added.
+pub const FACTOR: usize = 21;
+
+pub const INCREMENT: usize = 23;
+
+// How many cells, words of records, outgoing words and reply words are lent, and the same as a line sets them.
 pub const LENT: usize = 24;
 
 pub const LENT_CELLS: usize = 24;
 
-pub const LENT_RECORDS: usize = 25;
+pub const LENT_ROW: usize = 25;
 
 pub const LENT_OUTGOING: usize = 26;
 
 pub const LENT_REPLIES: usize = 27;
 
 pub const LENT_NEXT: usize = 28;
+
+pub const NEXT_ROW: usize = LENT_NEXT + 1;
+
+pub const NEXT_OUTGOING: usize = LENT_NEXT + 2;
+
+pub const NEXT_REPLIES: usize = LENT_NEXT + 3;
 
 // Calls by the text of their answer. Of these, calls by the question that refused them, and in front those that no question did; and
 // requests by what became of them.
@@ -110,9 +129,19 @@ pub const REQUESTED: usize = 194;
 // The plan, the words of the line and the outgoing words of a call: a number of words, and these behind it.
 pub const PLAN: usize = 86272;
 
+pub const PLAN_WORDS: usize = PLAN + 1;
+
+pub const TRANSACTIONS: usize = PLAN + 2;
+
 pub const HAND: usize = 92704;
 
+pub const HAND_WORDS: usize = HAND + 1;
+
+pub const HAND_VISIT: usize = HAND + 2;
+
 pub const OUTGOING: usize = 521792;
+
+pub const OUTGOING_WORDS: usize = OUTGOING + 1;
 
 pub const MOST_WORDS: usize = 6420;
 
@@ -121,49 +150,83 @@ pub const FRAMES: usize = 110656;
 
 pub const FRAME_SIZE: usize = 6424;
 
-pub const FRAMES_KEPT: u32 = 64;
+pub const FRAMES_KEPT: usize = 64;
 
-// The desks, and behind them the desk at hand, on which commands work; and what a call leaves of it.
+// The desks, and behind them the desk at hand, on which commands work; and what a call leaves of it. The rest of a desk, and of all with
+// the one at hand, are the words behind the first.
 pub const DESKS: usize = 99136;
 
 pub const DESK_SIZE: usize = 1280;
+
+pub const DESK_REST: usize = DESK_SIZE - 1;
+
+pub const DESKS_REST: usize = DESK_SIZE * 9 - 1;
 
 pub const BEFORE: usize = 109376;
 
 pub const AFTER: usize = 530432;
 
-// Of a desk: its cells, its records, and whether it is made with its state: desk, waiting, awaited low and high.
+// Of a desk: its cells, its records, and whether it is made with its state: desk, waiting, awaited low and high. The state
+// stands in the item at hand too.
 pub const CELL_COUNT: usize = 1040;
 
-pub const RECORDS: usize = 1040;
+pub const RECORDS_BEFORE: usize = BEFORE + 1040;
 
-pub const STATE: usize = 1240;
+pub const RECORDS_AFTER: usize = AFTER + 1040;
+
+pub const MADE_BEFORE: usize = BEFORE + 1240;
+
+pub const DESK_BEFORE: usize = BEFORE + 1241;
+
+pub const WAITING_BEFORE: usize = BEFORE + 1242;
+
+pub const AWAITED_BEFORE: usize = BEFORE + 1243;
+
+pub const MADE_AFTER: usize = AFTER + 1240;
+
+pub const DESK_AFTER: usize = AFTER + 1241;
+
+pub const WAITING_AFTER: usize = AFTER + 1242;
+
+pub const AWAITED_AFTER: usize = AFTER + 1243;
+
+pub const ITEM_DESK: usize = ITEM + 1;
+
+pub const ITEM_WAITING: usize = ITEM + 2;
+
+pub const ITEM_AWAITED: usize = ITEM + 3;
 
 // The reply words that a call left.
 pub const REPLIES: usize = 528224;
 
 pub const REPLIES_SIZE: usize = 112;
 
-// What the lent buffers hold before a call: word i is the first, and i.
+// What the lent buffers hold before a call: each word is the one before and 1.
 pub const MARKS: usize = 532480;
 
-pub const FIRST_MARK: u32 = 0xf0f0_0000;
+pub const BEFORE_MARKS: u32 = 0xf0ef_ffff;
 
-// Puts the marks in their place.
-pub fn install_marks(m: &mut Memory) -> &mut Memory {
-    for i in 0..MOST_WORDS {
-        put(
-            m,
-            on(MARKS, i),
-            std::num::wrapping_add_u32(FIRST_MARK, narrow(i)),
-        );
+// So many words from a place on are drawn, the first from the number that was read last.
+pub fn draw(m: &mut Memory, place: usize, words: usize) -> &mut Memory {
+    let factor = get(m, FACTOR);
+    let increment = get(m, INCREMENT);
+    let mut x = get(m, NUMBER);
+    for i in 0..words {
+        x = ((x as u64 * factor as u64 + increment as u64) % 0x1_0000_0000) as u32;
+        put(m, on(place, i), x);
     }
     m
 }
 
+// Puts the marks in their place.
+pub fn install_marks(m: &mut Memory) -> &mut Memory {
+    let m = put(put(put(m, FACTOR, 1), INCREMENT, 1), NUMBER, BEFORE_MARKS);
+    draw(m, MARKS, MOST_WORDS)
+}
+
 // Where the desk stands whose number is noted.
 fn desk_place(m: &Memory) -> usize {
-    on(DESKS, (get(m, DESK) % 8) as usize * DESK_SIZE)
+    on(DESKS, size(m, DESK) % 8 * DESK_SIZE)
 }
 
 // Takes the desk whose number is noted to hand.
@@ -178,27 +241,7 @@ pub fn keep_desk(m: &mut Memory) -> &mut Memory {
     memory::copy(m, BEFORE, place, DESK_SIZE)
 }
 
-// Whether the desk at hand is made.
-pub fn is_made(m: &Memory) -> bool {
-    0 < get(m, BEFORE + STATE)
-}
-
 // Where the frame stands whose number is at a place.
 pub fn frame_place(m: &Memory, place: usize) -> usize {
-    on(FRAMES, (get(m, place) % FRAMES_KEPT) as usize * FRAME_SIZE)
-}
-
-// Whether the frame whose number is at a place was sent, and less than 64 after it.
-pub fn is_kept(m: &Memory, place: usize) -> bool {
-    let sent = get(m, SENT);
-    let k = get(m, place);
-    if sent <= k {
-        return false;
-    }
-    sent - k <= FRAMES_KEPT
-}
-
-// How many parts follow a word of a plan or a frame, which stands at a place: the steps of a transaction, the cells of an update.
-pub fn parts(m: &Memory, place: usize) -> u32 {
-    get(m, place) / 0x10_0000 % 16
+    on(FRAMES, size(m, place) % FRAMES_KEPT * FRAME_SIZE)
 }

@@ -1,15 +1,14 @@
 // The interpreter of scripts over the engine's public calls. docs/SCRIPT.md is its language. It is safe and ends for any bytes at all.
-// The first four modules know nothing of plans, desks or frames. No function asks anything of its arguments.
+// The first three modules know nothing of plans, desks or frames. No function asks anything of its arguments.
 //
 //     memory        the words of the interpreter, by place
 //     output        text, written in blocks
-//     line          the bytes of a line, from the input or at hand
-//     scanner       the words of a line: numbers, names, and the first fault
+//     scanner       the words of the line at hand: numbers, names, and the first fault
 //     layout        where everything stands in memory
 //     texts         all that is said, by number
 //     sums          the two sums of words
 //     forms         words of plans and frames, as a script writes them
-//     words         words of frames, as answers write them
+//     words         words of plans and frames, as answers write them
 //     answers       what a call answers: a text and a number; the text of a refusal is that of the question
 //     plans         the plan reader and the classifier; a plan in words
 //     operations    operations, as a script writes them
@@ -19,7 +18,7 @@
 //     calls         the engine's request and visit, on what stands in memory
 //     frames        frames that were sent; the starting frame, the frame reader
 //     events        the lines of requests and visits, and the token that goes on
-//     interpreter   commands, faults, counts, and the run of a script
+//     interpreter   lines, commands, faults, counts, and the run of a script
 mod answers;
 mod calls;
 mod changes;
@@ -29,7 +28,6 @@ mod forms;
 mod frames;
 mod interpreter;
 mod layout;
-mod line;
 mod loans;
 mod memory;
 mod operations;

@@ -1,16 +1,19 @@
 // How much is lent to a call.
 use crate::layout::LENT_NEXT;
+use crate::layout::NEXT_OUTGOING;
+use crate::layout::NEXT_REPLIES;
+use crate::layout::NEXT_ROW;
 use crate::memory::Memory;
-use crate::memory::on;
+use crate::memory::get;
 use crate::memory::put;
 use crate::scanner;
 use crate::scanner::number_to;
 use crate::texts;
 
-// Sizes as the paper asks for them, from a place on.
-pub fn put_all(m: &mut Memory, place: usize) -> &mut Memory {
-    let m = put(put(m, place, 1024), on(place, 1), 32);
-    put(put(m, on(place, 2), 6404), on(place, 3), 96)
+// Sizes as the paper asks for them.
+pub fn put_all(m: &mut Memory) -> &mut Memory {
+    let m = put(put(m, LENT_NEXT, 1024), NEXT_ROW, 192);
+    put(put(m, NEXT_OUTGOING, 6404), NEXT_REPLIES, 96)
 }
 
 // A size by its name.
@@ -20,11 +23,15 @@ fn read_size(m: &mut Memory) -> &mut Memory {
         // book
         0x626f_6f6b => number_to(m, LENT_NEXT, 1040),
         // row
-        0x72_6f77 => number_to(m, LENT_NEXT + 1, 33),
+        0x72_6f77 => {
+            let m = number_to(m, NEXT_ROW, 33);
+            let records = get(m, NEXT_ROW) % 64;
+            put(m, NEXT_ROW, records * 6)
+        }
         // out
-        0x6f_7574 => number_to(m, LENT_NEXT + 2, 6420),
+        0x6f_7574 => number_to(m, NEXT_OUTGOING, 6420),
         // replies
-        0x72_6570_6c69_6573 => number_to(m, LENT_NEXT + 3, 112),
+        0x72_6570_6c69_6573 => number_to(m, NEXT_REPLIES, 112),
         _ => scanner::fault(m, texts::NOTHING_TO_LEND),
     }
 }

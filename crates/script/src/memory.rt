@@ -3,18 +3,18 @@
 
 pub type Memory = [u32; 540672];
 
-// Text that is still to be written, one byte a word, and how many bytes.
+// Text that is still to be written, one byte a word, and how many bytes; it is written where there are more than the most.
 pub const OUTPUT: usize = 4096;
 
-pub const OUTPUT_SIZE: usize = 16384;
+pub const OUTPUT_MOST: usize = 16383;
 
 pub const OUTPUT_LENGTH: usize = 0;
 
 // Where this is not 0, nothing is said.
 pub const QUIET: usize = 1;
 
-// The number that was written last.
-pub const WRITTEN: usize = 2;
+// The number that was written last, low and high.
+pub const WRITTEN: usize = 14;
 
 // The texts, one byte a word, and behind each other the places where they begin.
 pub const TEXTS: usize = 1024;
@@ -24,12 +24,16 @@ pub const TEXT_PLACES: usize = 256;
 // How many texts were begun behind the first.
 pub const TEXTS_BEGUN: usize = 13;
 
-// The line at hand, one byte a word, behind a word that is 0. From its length to its fault all is 0 where a line begins: its length, its
-// length when it was last joined to the next, where the word at hand begins and where it ends, its number, and the text of the line's first
-// fault, 0 for none.
+// The line at hand, one byte a word, behind a word that is 0; the last place is for a byte that makes it too long. From its length to its
+// fault all is 0 where a line begins: its length, its length when it was last joined to the next, where the word at hand begins and where
+// it ends, its number, and the text of the line's first fault, 0 for none.
 pub const LINE: usize = 20481;
 
+pub const BEFORE_LINE: usize = LINE - 1;
+
 pub const LINE_SIZE: usize = 65536;
+
+pub const LINE_LAST: usize = LINE + LINE_SIZE;
 
 pub const LINE_LENGTH: usize = 3;
 
@@ -61,10 +65,12 @@ pub const FAULT_WORD: usize = 82;
 
 pub const MOST: usize = 83;
 
-// Registers h to m: the words of the item at hand. p: its index.
+// Registers h to m: the words of the item at hand. p: its index. And where the items end that were said last.
 pub const ITEM: usize = 104;
 
 pub const INDEX: usize = 112;
+
+pub const ITEMS_END: usize = 2;
 
 // Words from this place on are free for others.
 pub const FREE: usize = 86272;
@@ -72,6 +78,11 @@ pub const FREE: usize = 86272;
 // The word at a place.
 pub fn get(m: &Memory, place: usize) -> u32 {
     if place < 540672 { m[place] } else { 0 }
+}
+
+// The word at a place, as a size.
+pub fn size(m: &Memory, place: usize) -> usize {
+    get(m, place) as usize
 }
 
 // Stores a word.
@@ -116,29 +127,15 @@ pub fn narrow(n: usize) -> u32 {
     if n < 0x1_0000_0000 { n as u32 } else { 0 }
 }
 
-// The low word of a number.
-pub fn low(n: u64) -> u32 {
-    (n % 0x1_0000_0000) as u32
-}
-
-// The high word of a number.
-pub fn high(n: u64) -> u32 {
-    (n / 0x1_0000_0000) as u32
-}
-
-// The number of a low and a high word.
-pub fn wide(low: u32, high: u32) -> u64 {
-    high as u64 * 0x1_0000_0000 + low as u64
-}
-
 // The number whose low word stands at a place and whose high word behind it.
 pub fn get_wide(m: &Memory, place: usize) -> u64 {
-    wide(get(m, place), get(m, on(place, 1)))
+    get(m, on(place, 1)) as u64 * 0x1_0000_0000 + get(m, place) as u64
 }
 
 // Stores a number in two words.
 pub fn put_wide(m: &mut Memory, place: usize, n: u64) -> &mut Memory {
-    put(put(m, place, low(n)), on(place, 1), high(n))
+    let m = put(m, place, (n % 0x1_0000_0000) as u32);
+    put(m, on(place, 1), (n / 0x1_0000_0000) as u32)
 }
 
 // Copies words, the first first.
@@ -156,14 +153,14 @@ pub fn fill(m: &mut Memory, place: usize, more: usize, word: u32) -> &mut Memory
 
 // Copies a number of words and as many words behind it.
 pub fn copy_counted(m: &mut Memory, from: usize, to: usize) -> &mut Memory {
-    let words = on(get(m, from) as usize, 1);
+    let words = on(size(m, from), 1);
     copy(m, from, to, words)
 }
 
-// How many of so many words from one place on are not those from another on.
-pub fn differences(m: &Memory, a: usize, b: usize, words: usize) -> u32 {
+// How many of the words from one place on are not those from another on, of those with an index in a range.
+pub fn differences(m: &Memory, a: usize, b: usize, from: usize, to: usize) -> u32 {
     let mut found: u32 = 0;
-    for i in 0..words {
+    for i in from..to {
         if get(m, on(a, i)) != get(m, on(b, i)) {
             found = std::num::wrapping_add_u32(found, 1);
         }
@@ -172,7 +169,7 @@ pub fn differences(m: &Memory, a: usize, b: usize, words: usize) -> u32 {
 }
 
 // The words from one place to another; none where that is no part of the memory.
-pub fn part(m: &[u32], from: usize, to: usize) -> &[u32] {
+fn part(m: &[u32], from: usize, to: usize) -> &[u32] {
     if to <= m.len() {
         if from <= to {
             return &m[from..to];
@@ -181,8 +178,7 @@ pub fn part(m: &[u32], from: usize, to: usize) -> &[u32] {
     &m[..0]
 }
 
-// The words whose number stands at a place, and they behind it.
-pub fn counted(m: &Memory, place: usize) -> &[u32] {
-    let from = on(place, 1);
-    part(m, from, on(from, get(m, place) as usize))
+// The words from a place on, as many as another place says.
+pub fn counted(m: &Memory, number: usize, place: usize) -> &[u32] {
+    part(m, place, on(place, size(m, number)))
 }

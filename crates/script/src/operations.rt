@@ -4,10 +4,16 @@ use crate::layout::GIVEN;
 use crate::layout::PARAMETERS;
 use crate::layout::TRANSACTION;
 use crate::memory::Memory;
+use crate::memory::NUMBER;
+use crate::memory::WORD_START;
+use crate::memory::add;
+use crate::memory::copy;
 use crate::memory::fill;
 use crate::memory::on;
 use crate::memory::put;
+use crate::memory::size;
 use crate::scanner;
+use crate::scanner::NO_TRANSACTION;
 use crate::texts;
 
 // Parameter i, if the line has it.
@@ -23,10 +29,13 @@ fn read_parameter(m: &mut Memory, i: usize) -> &mut Memory {
     }
 }
 
-// An operation goes to its registers, with up to four parameters.
+// An operation goes to its registers: T and the number of its transaction, and up to four parameters.
 pub fn read(m: &mut Memory) -> &mut Memory {
-    let m = fill(fill(m, GIVEN, 3, 0), PARAMETERS, 3, 0);
-    let m = read_parameter(scanner::transaction_to(m, TRANSACTION), 0);
+    let m = scanner::next_word(fill(fill(m, GIVEN, 3, 0), PARAMETERS, 3, 0));
+    let has_t = scanner::byte_at(m, size(m, WORD_START)) == 84;
+    let m = add(scanner::demand(m, has_t, NO_TRANSACTION), WORD_START, 1);
+    let m = scanner::keep(m, 10, scanner::WORD, NO_TRANSACTION);
+    let m = read_parameter(copy(m, NUMBER, TRANSACTION, 1), 0);
     read_parameter(read_parameter(read_parameter(m, 1), 2), 3)
 }
 

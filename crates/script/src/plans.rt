@@ -1,93 +1,58 @@
 // The plan at hand: the plan reader, the classifier, and the plan in words.
-use crate::answers;
+use crate::answers::note;
+use crate::answers::note_question;
 use crate::calls;
-use crate::layout::HAND;
+use crate::layout::ANSWER;
 use crate::layout::PLAN;
+use crate::layout::PLAN_WORDS;
 use crate::layout::QUESTION;
 use crate::layout::TRANSACTION;
+use crate::layout::TRANSACTIONS;
 use crate::layout::WORDS;
-use crate::layout::parts;
-use crate::memory;
-use crate::memory::INDEX;
 use crate::memory::ITEM;
 use crate::memory::Memory;
 use crate::memory::copy;
 use crate::memory::counted;
 use crate::memory::get;
 use crate::memory::on;
-use crate::memory::put;
-use crate::memory::wide;
+use crate::memory::size;
 use crate::output::say;
-use crate::output::say_each;
 use crate::texts;
+use crate::words;
 use conveyor::ClassAnswer;
 use conveyor::Verdict;
 
-// The plan reader's answer.
-fn verdict(m: &Memory) -> u64 {
-    match conveyor::read_plan(counted(m, PLAN)) {
-        Verdict::Accepted => answers::refused(0),
-        Verdict::Refused(question) => answers::refused(question),
+// Asks the plan reader, and says its line up to the answer.
+pub fn read(m: &mut Memory) -> &mut Memory {
+    let m = copy(copy(m, PLAN, WORDS, 1), PLAN_WORDS, ITEM, 1);
+    match conveyor::read_plan(counted(m, PLAN, PLAN_WORDS)) {
+        Verdict::Accepted => say(note_question(m, 0), texts::VERDICT),
+        Verdict::Refused(question) => say(note_question(m, question), texts::VERDICT),
     }
 }
 
-// The plan reader's line.
-fn say_verdict(m: &mut Memory) -> &mut Memory {
-    let m = copy(copy(m, PLAN, WORDS, 1), PLAN + 1, ITEM, 1);
-    answers::say_answer(say(m, texts::VERDICT))
-}
-
-// `plan`.
-pub fn hold(m: &mut Memory) -> &mut Memory {
-    let m = memory::copy_counted(m, HAND, PLAN);
-    let answer = verdict(m);
-    say_verdict(answers::count_call(answers::note(m, answer)))
-}
-
-// The classifier's answer to the operation at hand.
-fn class_of(m: &Memory) -> u64 {
-    match conveyor::classify(counted(m, PLAN), get(m, TRANSACTION), calls::parameters(m)) {
-        ClassAnswer::Free => wide(0, texts::FREE),
-        ClassAnswer::Local(desk) => wide(desk, texts::LOCAL),
-        ClassAnswer::Global(desk) => wide(desk, texts::GLOBAL),
-        ClassAnswer::Refused(question) => answers::refused(question),
-    }
-}
-
-// `class`.
+// `class`: asks the classifier, and says its line up to the answer.
 pub fn class(m: &mut Memory) -> &mut Memory {
     let m = say(m, texts::OPERATION);
-    let answer = class_of(m);
-    answers::say_answer(answers::count_call(answers::note(m, answer)))
-}
-
-// Transaction t, whose word stands at a place, with its steps.
-fn say_transaction(m: &mut Memory, t: u32, place: usize) -> &mut Memory {
-    let steps = parts(m, place) as usize;
-    let m = say(copy(put(m, INDEX, t), place, ITEM, 1), texts::TRANSACTION);
-    say(
-        say_each(m, texts::STEP, on(place, 1), 1, steps),
-        texts::LINE_END,
-    )
-}
-
-// All transactions.
-fn say_transactions(m: &mut Memory) -> &mut Memory {
-    let mut place = PLAN + 2;
-    for t in 0..(get(m, PLAN + 1) / 0x1_0000 % 256) {
-        say_transaction(m, t, place);
-        place = on(place, parts(m, place) as usize + 1);
+    match conveyor::classify(
+        counted(m, PLAN, PLAN_WORDS),
+        get(m, TRANSACTION),
+        calls::parameters(m),
+    ) {
+        ClassAnswer::Free => note(m, texts::FREE, 0),
+        ClassAnswer::Local(desk) => note(m, texts::LOCAL, desk),
+        ClassAnswer::Global(desk) => note(m, texts::GLOBAL, desk),
+        ClassAnswer::Refused(question) => note_question(m, question),
     }
-    m
 }
 
-// `show plan`.
+// `show plan`. What is shown is no call, and is not counted.
 pub fn show(m: &mut Memory) -> &mut Memory {
-    let answer = verdict(m);
-    let m = say_verdict(answers::note(m, answer));
-    if get(m, QUESTION) == 0 {
-        say_transactions(m)
-    } else {
-        m
+    let m = read(m);
+    let answer = get(m, ANSWER);
+    if 0 < get(m, QUESTION) {
+        return say(say(m, texts::REFUSED), answer);
     }
+    let end = on(PLAN_WORDS, size(m, PLAN));
+    words::say_groups(m, TRANSACTIONS, end, texts::TRANSACTION, texts::STEP, 1)
 }

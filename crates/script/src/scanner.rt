@@ -1,10 +1,10 @@
 // The words of a line, from left to right. Each function that expects something notes a fault if it is not there; the first is kept.
-use crate::line::byte_at;
-use crate::line::length;
 use crate::memory;
 use crate::memory::BOUND;
 use crate::memory::FAULT;
 use crate::memory::FAULT_WORD;
+use crate::memory::LINE;
+use crate::memory::LINE_LENGTH;
 use crate::memory::MOST;
 use crate::memory::Memory;
 use crate::memory::NUMBER;
@@ -17,6 +17,7 @@ use crate::memory::narrow;
 use crate::memory::on;
 use crate::memory::put;
 use crate::memory::put_wide;
+use crate::memory::size;
 
 // What can be wrong: the numbers of texts.
 pub const NO_COMMAND: u32 = 1;
@@ -51,44 +52,43 @@ pub fn demand(m: &mut Memory, holds: bool, text: u32) -> &mut Memory {
     if holds { m } else { fault(m, text) }
 }
 
-// The first place from here on with a byte of a word, or with none, or the end of the line.
-fn find(m: &Memory, from: usize, is_in_word: bool) -> usize {
-    for i in from..length(m) {
-        if (32 < byte_at(m, i)) == is_in_word {
+// Byte i of the line, 0 past its end.
+pub fn byte_at(m: &Memory, i: usize) -> u32 {
+    if i < size(m, LINE_LENGTH) {
+        get(m, on(LINE, i))
+    } else {
+        0
+    }
+}
+
+// The first place in a part of the line with one of so many bytes from this one on, or the end of the part.
+pub fn find(m: &Memory, from: usize, to: usize, byte: u32, bytes: u32) -> usize {
+    for i in from..to {
+        if std::num::wrapping_sub_u32(byte_at(m, i), byte) < bytes {
             return i;
         }
     }
-    length(m)
+    to
 }
 
-// Where the word at hand begins.
-pub fn start(m: &Memory) -> usize {
-    get(m, WORD_START) as usize
-}
-
-// Where the word at hand ends.
-pub fn end(m: &Memory) -> usize {
-    get(m, WORD_END) as usize
-}
-
-// Where the next word begins; the end of the line where none does, or a comment.
+// Where the next word begins; the end of the line where none does, or a comment. A word has no bytes up to 32.
 fn next_start(m: &Memory) -> usize {
-    let start = find(m, end(m), true);
+    let start = find(m, size(m, WORD_END), size(m, LINE_LENGTH), 33, 223);
     if byte_at(m, start) == 35 {
-        return length(m);
+        return size(m, LINE_LENGTH);
     }
     start
 }
 
 // Whether there is another word.
 pub fn has_more(m: &Memory) -> bool {
-    next_start(m) < length(m)
+    next_start(m) < size(m, LINE_LENGTH)
 }
 
 // The next word is at hand, empty where there is none.
 pub fn next_word(m: &mut Memory) -> &mut Memory {
     let start = next_start(m);
-    let end = find(m, start, false);
+    let end = find(m, start, size(m, LINE_LENGTH), 0, 33);
     let m = put(put(m, WORD_START, narrow(start)), WORD_END, narrow(end));
     memory::add(m, WORD_NUMBER, 1)
 }
@@ -136,7 +136,7 @@ struct Scanned {
 // The word at hand as a number in a base, up to a bound.
 fn scan(m: &Memory, base: u64, most: u64) -> Scanned {
     let mut value: u64 = 0;
-    for i in start(m)..end(m) {
+    for i in size(m, WORD_START)..size(m, WORD_END) {
         let digit = digit(byte_at(m, i), base);
         if !fits(value, digit, base, most) {
             return Scanned {
@@ -147,7 +147,7 @@ fn scan(m: &Memory, base: u64, most: u64) -> Scanned {
         value = extended(value, digit, base);
     }
     Scanned {
-        is_number: start(m) < end(m),
+        is_number: size(m, WORD_START) < size(m, WORD_END),
         value: value,
     }
 }
@@ -184,16 +184,8 @@ pub fn number_to(m: &mut Memory, place: usize, most: u64) -> &mut Memory {
 
 // The word at hand is a word of 1 to 8 hexadecimal digits, which is kept.
 pub fn keep_word(m: &mut Memory) -> &mut Memory {
-    let is_short = end(m) <= on(start(m), 8);
+    let is_short = size(m, WORD_END) <= on(size(m, WORD_START), 8);
     keep(demand(m, is_short, NO_WORD), 16, WORD, NO_WORD)
-}
-
-// The next word is a transaction, T and a number, which goes to a place.
-pub fn transaction_to(m: &mut Memory, place: usize) -> &mut Memory {
-    let m = next_word(m);
-    let has_t = byte_at(m, start(m)) == 84;
-    let m = memory::add(demand(m, has_t, NO_TRANSACTION), WORD_START, 1);
-    copy(keep(m, 10, WORD, NO_TRANSACTION), NUMBER, place, 1)
 }
 
 // What stands behind the last word is a fault.

@@ -155,7 +155,8 @@ module _ (S : System) (L : Laws S) where
             turns = I .turns;
             low = Sorting.All-insert (place n) (Low (place n) (placeAt n m n)) new es
                 (omega (arith, place-mono S L {j = g p} {k = m} 0 (I .g-low p))) (I .low);
-            own-not-beyond = λ q h. by-same q p (λ e. rw e (rw (Sorting.beyond-insert-hi (place n) spot new es (le-refl _)) (I .own-not-beyond p below)))
+            own-not-beyond = λ q h. by-same q p
+                (λ e. rw e (rw (Sorting.beyond-insert-hi (place n) spot new es (le-refl _)) (I .own-not-beyond p below)))
                 (λ e. Sorting.beyond-insert (place n) (BehindOf S q) (placeAt n (g q) (suc q)) new es (at-not p q (t .op) e hr)
                 (I .own-not-beyond q h));
             others-beyond = λ q h. by-same q p (λ e. rw e

@@ -15,11 +15,12 @@ use Rattle.conflict.specs.Touch.{rowTouched, cellTouched, stepTouches, deskMask
 use Rattle.conflict.specs.Written.{cellGiven, stepWrites, written}
 use Rattle.conflict.specs.Class.{classBy}
 use Rattle.conflict.specs.Answer.{classifyResult}
-use Rattle.operation.specs.Run.{act, runFrom, applyUpdate}
-use Rattle.token.specs.Frame.{sumsFrom, frameAround, writeWords, updateWords, updatesWords}
-use Rattle.token.specs.Admission as frames
-use Rattle.token.specs.Admission.{writesFrom, updatesFrom, deskCount, frameHeaded, sumsRight, updateFormed, cellFormed, fewPerDesk}
-use Rattle.token.specs.Admission.{updatesRight, frameVerdict, readVerdict}
+use Rattle.operation.specs.Store.{applyUpdate}
+use Rattle.execution.specs.Run.{act, runFrom}
+use Rattle.frame.specs.Frame.{sumsFrom, frameAround, writeWords, updateWords, updatesWords}
+use Rattle.frame.specs.Admission as frames
+use Rattle.frame.specs.Admission.{writesFrom, updatesFrom, deskCount, frameHeaded, sumsRight, updateFormed, cellFormed, fewPerDesk}
+use Rattle.frame.specs.Admission.{updatesRight, frameVerdict, readVerdict}
 use Rattle.desk.specs.Admission.{deskBuffersFit, waitsHere, deskFits}
 use Rattle.visits.specs.Admission.{visitBuffersFit, turnVerdict}
 use Rattle.visits.specs.Waiting.{runAll, updatesOf, repliesOf, repliesWords}

@@ -9,9 +9,10 @@ use Rattle.plan.specs.Decode.{planOf}
 use Rattle.plan.specs.Admission.{planVerdict}
 use Rattle.operation.specs.Operation.{operation, writeSet}
 use Rattle.operation.specs.Admission.{operationVerdict}
-use Rattle.token.specs.Frame.{SentUpdate, sent, startingFrame, longestFrame}
-use Rattle.token.specs.Admission.{readVerdict, updatesFrom}
-use Rattle.token.specs.Answer.{VisitRead, visitNumber, refusal, visitRead, partRead, startVerdict, startWords}
+use Rattle.frame.specs.Frame.{SentUpdate, sent, startingFrame, longestFrame}
+use Rattle.frame.specs.Admission.{readVerdict, updatesFrom}
+use Rattle.frame.specs.Answer.{VisitRead, visitNumber, refusal, visitRead, partRead}
+use Rattle.token.specs.Writing.{startVerdict, startWords}
 use Rattle.queue.specs.Queue.{noRequest, queueSize}
 use Rattle.queue.specs.declared.record.Request.{Request}
 use Rattle.desk.specs.declared.state.Desk.{Desk}
@@ -19,7 +20,7 @@ use Rattle.desk.specs.Holding.{Holding, holding}
 use Rattle.requests.specs.Request.{recordOf}
 use Rattle.visits.specs.Visit.{visitResult}
 use Rattle.conflict.specs.Answer.{Classified, classedFree, classedLocal, classedGlobal, classRefused, classifyResult}
-use Rattle.operation.specs.Run.{storeSize}
+use Rattle.operation.specs.Store.{storeSize}
 use Rattle.visits.specs.Waiting.{replySize, repliesSize}
 use Rattle.visits.specs.Visit as visiting
 

@@ -12,9 +12,9 @@ use borrow.Author.Tests.{ltb-true, lt-ltb, leb-true, le-leb}
 use Rattle.lists.specs.Lists.{every}
 use Rattle.lists.proofs.Laws.{and-fst, and-snd, and-true}
 use Rattle.word.specs.Field.{updateDesk, cellCount, cellField}
-use Rattle.operation.specs.Run.{Update}
-use Rattle.token.specs.Frame.{SentUpdate, sent, updateHead, writeWords, updateWords, updatesWords}
-use Rattle.token.specs.Admission.{writesFrom, updatesFrom, updateFormed, cellFormed, wellFormed}
+use Rattle.operation.specs.Store.{Update}
+use Rattle.frame.specs.Frame.{SentUpdate, sent, updateHead, writeWords, updateWords, updatesWords}
+use Rattle.frame.specs.Admission.{writesFrom, updatesFrom, updateFormed, cellFormed, wellFormed}
 use Rattle.token.specs.WellFormed.{cellFits, updateFits}
 use Rattle.token.proofs.HeadWords.{update-read, update-desk, update-cells, update-formed, cell-read, cell-field, cell-formed}
 

@@ -10,9 +10,9 @@ use lib.ListN.{length}
 use borrow.Author.Tests.{eqb-true}
 use Rattle.lists.specs.Lists.{every}
 use Rattle.lists.proofs.Laws.{and-fst, and-snd, and-true, every-append}
-use Rattle.operation.specs.Run.{Update}
-use Rattle.token.specs.Frame.{SentUpdate, sent, updateWords, updatesWords}
-use Rattle.token.specs.Admission.{deskCount}
+use Rattle.operation.specs.Store.{Update}
+use Rattle.frame.specs.Frame.{SentUpdate, sent, updateWords, updatesWords}
+use Rattle.frame.specs.Admission.{deskCount}
 use Rattle.token.specs.Forward.{foreign}
 use Rattle.token.specs.WellFormed.{updateFits, WellFormed}
 

@@ -17,9 +17,9 @@ use borrow.Author.Tests.{leb-true, leb-false, not-true, not-false}
 use Rattle.lists.specs.Lists.{overwritten}
 use Rattle.lists.proofs.Laws.{drop-here, Filling, fill-none, fill-size, fill-length, fill-same, fill-word, fill-done}
 use Rattle.word.specs.Field.{updateDesk, cellCount, cellField}
-use Rattle.operation.specs.Run.{Store, applyUpdate}
-use Rattle.token.specs.Frame.{updateHead, cellWord, writeWords, updateWords, updatesWords}
-use Rattle.token.specs.Admission.{writesFrom, updatesFrom}
+use Rattle.operation.specs.Store.{Store, applyUpdate}
+use Rattle.frame.specs.Frame.{updateHead, cellWord, writeWords, updateWords, updatesWords}
+use Rattle.frame.specs.Admission.{writesFrom, updatesFrom}
 use Rattle.token.specs.Forward.{foreign, applyAll, foreignWords}
 
 -- ---- what is still to come: the last `left` cells of an update, which is kept or the desk's own, and the updates behind them

@@ -9,8 +9,8 @@ use borrow.Author.Tests.{eqb-true, eq-eqb, ltb-true, lt-ltb, leb-true, le-leb}
 use Rattle.lists.proofs.Laws.{and-fst, and-snd, and-true}
 use Rattle.word.specs.Field.{kindOf, addressedDesk, frameLength, updateDesk, cellCount, cellField}
 use Rattle.word.specs.Reserved.{reservedZero, sourceField, zeroBits}
-use Rattle.token.specs.Frame.{frameHead, updateHead, cellWord}
-use Rattle.token.specs.Admission.{updateFormed, cellFormed}
+use Rattle.frame.specs.Frame.{frameHead, updateHead, cellWord}
+use Rattle.frame.specs.Admission.{updateFormed, cellFormed}
 
 -- a word's reserved bits go by its kind
 by-kind : (w k : ℕ) → kindOf w ≡ k → reservedZero w ≡ zeroBits k (sourceField w) w

@@ -11,8 +11,8 @@ use lib.ListN.{length, length-append}
 use borrow.Author.Tests.{ltb-true, leb-true, eqb-false}
 use Rattle.lists.specs.Lists.{every}
 use Rattle.lists.proofs.Laws.{and-fst, and-snd}
-use Rattle.token.specs.Frame.{SentUpdate, updateWords, updatesWords}
-use Rattle.token.specs.Admission.{deskCount}
+use Rattle.frame.specs.Frame.{SentUpdate, updateWords, updatesWords}
+use Rattle.frame.specs.Admission.{deskCount}
 use Rattle.token.specs.WellFormed.{updateFits, WellFormed}
 use Rattle.token.proofs.Written.{update-length}
 

@@ -1,7 +1,3 @@
-pub mod Summing
-pub mod PerDesk
-pub mod Walking
-pub mod Verdicts
 pub mod Written
 pub mod Sealed
 pub mod HeadWords
@@ -9,7 +5,6 @@ pub mod Decoding
 pub mod Lengths
 pub mod Parts
 pub mod RoundTrip
-pub mod OneWord
 pub mod Readers
 pub mod Forwarding
 pub mod Foreign

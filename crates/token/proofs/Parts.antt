@@ -6,7 +6,7 @@ use Prim.Native.Nat.{ℕ, suc, _+_, _-_, _≤_}
 use native.Mathlib.Omega.{arith}
 use lib.ListN.{length, getD, take, drop, length-append, take-append-drop, drop-of-length-le}
 use lib.Seq.{drop-cons, take-at, getD-append-add}
-use Rattle.token.specs.Admission.{updatesPart}
+use Rattle.frame.specs.Admission.{updatesPart}
 
 abbrev pub laid : ℕ → ℕ → List ℕ → ℕ → ℕ → List ℕ
 laid h v body a b = (h ∷ v ∷ body) ++ (a ∷ b ∷ [])

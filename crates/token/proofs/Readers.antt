@@ -2,26 +2,19 @@
 -- Assumes nothing.
 use mathlib.Core.Path.{_≡_, refl, _∙_, sym, ap, subst}
 use mathlib.Core.List.{List, []}
-use Prim.Native.Nat.{ℕ, _≤_}
+use Prim.Native.Nat.{ℕ}
 use native.Mathlib.Nat.{zero-mod}
 use native.Mathlib.Omega.{arith}
 use Rattle.verdict.specs.Verdict.{Verdict, accepted, refused}
 use Rattle.lists.specs.Lists.{every}
 use Rattle.plan.specs.Decode.{planOf}
-use Rattle.token.specs.Frame.{updatesWords, frameAround, frameWords, startingFrame}
-use Rattle.token.specs.Admission.{frameVisit, frameUpdates, deskCount, readVerdict, ReadsAs}
+use Rattle.frame.specs.Frame.{updatesWords, frameAround, frameWords, startingFrame}
+use Rattle.frame.specs.Admission.{frameVisit, frameUpdates, deskCount, readVerdict, ReadsAs}
 use Rattle.token.specs.WellFormed.{WellFormed}
-use Rattle.token.specs.Answer.{partRead, visitNumber, refusal, visitRead}
+use Rattle.token.specs.Readers.{ReadersAgree, StartingReads}
+use Rattle.frame.specs.Answer.{partRead, visitNumber, refusal, visitRead}
 use Rattle.token.proofs.RoundTrip.{written-reads, part-written}
-use Rattle.token.proofs.Verdicts.{read-accepted}
-
--- where one call refuses, the other hands back the empty part; where it gives a visit, the frame reads as that visit and some updates,
--- and the part that the other hands back is their words
-pub record Agree (plan frame : List ℕ) : Type 0 where
-  pub refusing : (q : ℕ) → visitRead (readVerdict plan frame) frame ≡ refusal q → partRead (readVerdict plan frame) frame ≡ []
-  pub reading : (v : ℕ) → visitRead (readVerdict plan frame) frame ≡ visitNumber v
-      → ReadsAs (planOf plan .desks) frame v (frameUpdates frame)
-      × (partRead (readVerdict plan frame) frame ≡ updatesWords (frameUpdates frame))
+use Rattle.frame.proofs.Verdicts.{read-accepted}
 
 refused-part : (r : Verdict) (frame : List ℕ) (q : ℕ) → visitRead r frame ≡ refusal q → partRead r frame ≡ []
 refused-part accepted frame q e = cc
@@ -31,7 +24,7 @@ visit-accepted : (r : Verdict) (frame : List ℕ) (v : ℕ) → visitRead r fram
 visit-accepted accepted frame v e = (refl, (cc))
 visit-accepted (refused k) frame v e = ((cc), (cc))
 
-pub readers-agree : (plan frame : List ℕ) → Agree plan frame
+pub readers-agree : ReadersAgree
 readers-agree plan frame =
     record {
       refusing = refused-part (readVerdict plan frame) frame;
@@ -52,6 +45,6 @@ pub starting-words : (n : ℕ) → startingFrame ≡ frameWords n 0 []
 unfolding updatesWords
 starting-words n = ap (λ (d : ℕ). frameAround d 0 []) (sym (zero-mod n))
 
-pub starting-reads : (n : ℕ) → 1 ≤ n → n ≤ 8 → ReadsAs n startingFrame 0 []
+pub starting-reads : StartingReads
 starting-reads n low high =
     subst (λ (ws : List ℕ). ReadsAs n ws 0 []) (sym (starting-words n)) (written-reads n 0 [] low high (no-updates n))

@@ -13,18 +13,18 @@ use Rattle.verdict.specs.Verdict.{accepted}
 use Rattle.lists.proofs.Laws.{and-fst, and-snd, and-true}
 use Rattle.word.specs.Field.{kindOf, addressedDesk, frameLength}
 use Rattle.plan.specs.Decode.{headOf}
-use Rattle.token.specs.Frame.{SentUpdate, frameHead, writeWords, updatesWords, sumsOf, frameAround, frameWords, longestFrame}
-use Rattle.token.specs.Admission.{frameVisit, updatesPart, writesFrom, updatesFrom, frameUpdates, frameHeaded, sumsRight}
-use Rattle.token.specs.Admission.{wellFormed, fewPerDesk, updatesAdmitted, updatesRight, frameVerdict, ReadsAs}
+use Rattle.frame.specs.Frame.{SentUpdate, frameHead, writeWords, updatesWords, sumsOf, frameAround, frameWords, longestFrame}
+use Rattle.frame.specs.Admission.{frameVisit, updatesPart, writesFrom, updatesFrom, frameUpdates, frameHeaded, sumsRight}
+use Rattle.frame.specs.Admission.{wellFormed, fewPerDesk, updatesAdmitted, updatesRight, frameVerdict, ReadsAs}
 use Rattle.token.specs.WellFormed.{WellFormed}
 use Rattle.token.specs.RoundTrip.{ReadsExactly, WrittenLength, WritingInjective}
 use Rattle.token.proofs.HeadWords.{head-read, head-kind, head-zero, head-desk, head-length}
-use Rattle.token.proofs.PerDesk.{few-counts, counts-few}
+use Rattle.frame.proofs.PerDesk.{few-counts, counts-few}
 use Rattle.token.proofs.Decoding.{Decoded, decoded, encoded}
 use Rattle.token.proofs.Lengths.{updates-length}
 use Rattle.token.proofs.Parts.{laid, laid-length, laid-part, laid-front, laid-first, laid-second, front, layout}
 use Rattle.token.proofs.Sealed.{around}
-use Rattle.token.proofs.Verdicts.{headed, admitted}
+use Rattle.frame.proofs.Verdicts.{headed, admitted}
 
 -- ---- what reads is written
 

@@ -8,7 +8,7 @@ use lib.ListN.{length, set, take, drop, length-take, length-drop, take-append-dr
 use lib.Seq.{take-at}
 use Rattle.lists.specs.Lists.{overwritten}
 use Rattle.lists.proofs.Laws.{write-two}
-use Rattle.token.specs.Frame.{frameHead, sumsOf, sealed, frameAround}
+use Rattle.frame.specs.Frame.{frameHead, sumsOf, sealed, frameAround}
 
 -- two words in front of those that stand there already
 pub framed : (out : List ℕ) (h v k : ℕ) → 2 + k ≤ length out

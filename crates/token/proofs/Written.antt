@@ -9,10 +9,10 @@ use lib.ListN.{length, getD, set}
 use lib.Seq.{drop-set-lt}
 use Rattle.lists.specs.Lists.{overwritten}
 use Rattle.lists.proofs.Laws.{write-two, by-less}
-use Rattle.operation.specs.Run.{Update}
-use Rattle.operation.specs.Answer.{pairs}
-use Rattle.operation.proofs.Updates.{pairs-next, pairs-past}
-use Rattle.token.specs.Frame.{SentUpdate, sent, cellWord, updateHead, writeWords, updateWords}
+use Rattle.operation.specs.Store.{Update}
+use Rattle.execution.specs.Answer.{pairs}
+use Rattle.execution.proofs.Updates.{pairs-next, pairs-past}
+use Rattle.frame.specs.Frame.{SentUpdate, sent, cellWord, updateHead, writeWords, updateWords}
 
 -- ---- the words of an update, pair by pair
 

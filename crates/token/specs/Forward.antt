@@ -3,9 +3,9 @@ use Prim.Native.Nat.{ℕ}
 use mathlib.Core.Bool.{cond}
 use mathlib.Core.List.{List, [], _∷_}
 use lib.Dec.{eqb}
-use Rattle.operation.specs.Run.{Store, applyUpdate}
-use Rattle.token.specs.Frame.{SentUpdate, updatesWords}
-use Rattle.token.specs.Admission.{updatesFrom}
+use Rattle.operation.specs.Store.{Store, applyUpdate}
+use Rattle.frame.specs.Frame.{SentUpdate, updatesWords}
+use Rattle.frame.specs.Admission.{updatesFrom}
 
 -- "A visit drops this desk's own updates": those of the others, in order
 unfoldable pub foreign : ℕ → List SentUpdate → List SentUpdate

@@ -1,7 +1,5 @@
-pub mod Frame
-pub mod Admission
 pub mod Forward
 pub mod WellFormed
-pub mod Answer
+pub mod Writing
 pub mod RoundTrip
-pub mod OneWord
+pub mod Readers

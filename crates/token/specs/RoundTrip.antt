@@ -4,8 +4,8 @@ use mathlib.Core.Logic.{_↔_}
 use mathlib.Core.List.{List}
 use Prim.Native.Nat.{ℕ, _≤_}
 use lib.ListN.{length}
-use Rattle.token.specs.Frame.{SentUpdate, longestFrame, frameWords}
-use Rattle.token.specs.Admission.{ReadsAs}
+use Rattle.frame.specs.Frame.{SentUpdate, longestFrame, frameWords}
+use Rattle.frame.specs.Admission.{ReadsAs}
 use Rattle.token.specs.WellFormed.{WellFormed}
 
 abbrev pub ReadsExactly : Type 0

@@ -6,9 +6,9 @@ use mathlib.Core.List.{List}
 use lib.ListN.{length}
 use lib.Dec.{ltb, leb}
 use Rattle.lists.specs.Lists.{every}
-use Rattle.token.specs.Frame.{SentUpdate}
-use Rattle.token.specs.Admission.{deskCount, updatesPerDesk}
-use Rattle.operation.specs.Run.{storeSize}
+use Rattle.frame.specs.Frame.{SentUpdate}
+use Rattle.frame.specs.Admission.{deskCount, updatesPerDesk}
+use Rattle.operation.specs.Store.{storeSize}
 
 -- "A book is 1,024 words, one per cell."
 abbrev pub cellFits : ℕ × ℕ → Bool

@@ -4,8 +4,8 @@ ghost use mathlib.Core.Path.{_≡_};
 ghost use Prim.Native.Nat.{_≤_};
 ghost use lib.ListN.{length, set};
 ghost use Rattle.lists.specs.Lists.{overwritten};
-ghost use Rattle.token.specs.Frame.{updatesWords};
-ghost use Rattle.token.specs.Admission.{updatesFrom};
+ghost use Rattle.frame.specs.Frame.{updatesWords};
+ghost use Rattle.frame.specs.Admission.{updatesFrom};
 ghost use Rattle.token.specs.Forward.{foreign, applyAll, foreignWords};
 use word::fields;
 

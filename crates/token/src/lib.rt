@@ -1,16 +1,8 @@
-// Frames of the token: the two sums, reading (questions 10 to 12), writing, the starting frame, and the others' updates sent on.
+// The token, the frame that goes round: the others' updates sent on, a desk's own written, the seal, and the starting frame.
 mod forward;
-mod reader;
-mod sums;
-mod updates;
 mod writer;
 
 pub use forward::forward_foreign;
-pub use reader::FrameAnswer;
-pub use reader::LONGEST_FRAME;
-pub use reader::check_frame;
-pub use reader::frame_visit;
-pub use reader::read_frame;
 pub use writer::seal;
 pub use writer::starting_frame;
 pub use writer::write_update;

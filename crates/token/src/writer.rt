@@ -4,11 +4,10 @@ ghost use Prim.Native.Nat.{_+_, _≤_, min};
 ghost use lib.ListN.{length};
 ghost use Rattle.verdict.specs.Verdict.{verdictOf};
 ghost use Rattle.lists.specs.Lists.{overwritten};
-ghost use Rattle.operation.specs.Answer.{updateOf};
-ghost use Rattle.token.specs.Frame.{sent, frameHead, updateHead, cellWord, updateWords, sealedAt};
-ghost use Rattle.token.specs.Answer.{startVerdict, startWords};
-use crate::reader::LEAST_FRAME;
-use crate::sums;
+ghost use Rattle.execution.specs.Answer.{updateOf};
+ghost use Rattle.frame.specs.Frame.{sent, frameHead, updateHead, cellWord, updateWords};
+ghost use Rattle.token.specs.Writing.{sealedAt, startVerdict, startWords};
+use frame::LEAST_FRAME;
 use verdict::Verdict;
 use word::fields;
 
@@ -41,7 +40,7 @@ fn cells_held(count: usize) -> usize
 }
 
 // Writes the update at the front of what is left of the outgoing words, and answers how many words it wrote.
-pub fn write_update(out: &mut [u32], desk: u32, update: operation::Update) -> usize
+pub fn write_update(out: &mut [u32], desk: u32, update: execution::Update) -> usize
     requires { ⌜ length (updateWords (sent desk (updateOf update))) ≤ length (now out) ⌝ }
     ensures words { λ r. ⌜ r ≡ length (updateWords (sent desk (updateOf update))) ⌝ }
     ensures written { λ r. ⌜ now (out .exit) ≡ overwritten (updateWords (sent desk (updateOf update))) (now (out .entry)) ⌝ }
@@ -68,7 +67,7 @@ pub fn seal(out: &mut [u32], desk: u32, visit: u32, end: usize)
 {
     out[0] = frame_head(desk, end + 2);
     out[1] = visit;
-    let sums = sums::frame_sums(&out[..end]);
+    let sums = frame::frame_sums(&out[..end]);
     out[end] = sums.first;
     out[end + 1] = sums.second;
 }

@@ -9,7 +9,7 @@ use lib.Seq.{length-take-le, take-at, drop-at}
 use borrow.Rule.Slice.PartMut.{putMid}
 use Rattle.lists.specs.Lists.{overwritten}
 use Rattle.lists.proofs.Laws.{overwritten-twice, Filling, fill-length, fill-part, fill-done, fill-same, take-remainder, put-remainder}
-use Rattle.token.specs.Frame.{frameHead, sumsOf, frameAround}
+use Rattle.frame.specs.Frame.{frameHead, sumsOf, frameAround}
 
 pub frame-length : (d v : ℕ) (body : List ℕ) → length (frameAround d v body) ≡ length body + 4
 unfolding frameAround

@@ -4,4 +4,5 @@ pub mod Assembled
 pub mod Questions
 pub mod Outgoing
 pub mod Visited
+pub mod ReadsWaiting
 pub mod ReplyWord

@@ -10,12 +10,12 @@ use Rattle.verdict.specs.Verdict.{accepted}
 use Rattle.lists.specs.Lists.{overwritten}
 use Rattle.plan.specs.Decode.{planOf}
 use Rattle.plan.proofs.Accepted.{accepted-gives, desk-count}
-use Rattle.operation.specs.Run.{Store}
-use Rattle.token.specs.Frame.{sent, updatesWords, frameAround, leastFrame, longestFrame}
-use Rattle.token.specs.Admission.{frameVerdict, frameVisit, updatesPart, updatesFrom, frameUpdates}
+use Rattle.operation.specs.Store.{Store}
+use Rattle.frame.specs.Frame.{sent, updatesWords, frameAround, leastFrame, longestFrame}
+use Rattle.frame.specs.Admission.{frameVerdict, frameVisit, updatesPart, updatesFrom, frameUpdates}
 use Rattle.token.specs.Forward.{foreign, applyAll, foreignWords}
 use Rattle.token.specs.WellFormed.{WellFormed}
-use Rattle.token.proofs.Verdicts.{headed, admitted}
+use Rattle.frame.proofs.Verdicts.{headed, admitted}
 use Rattle.token.proofs.RoundTrip.{part-written, reads-written}
 use Rattle.token.proofs.Lengths.{updates-length}
 use Rattle.token.proofs.Foreign.{words-append, forwarded-fits}

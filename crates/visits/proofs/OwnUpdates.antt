@@ -15,10 +15,11 @@ use Rattle.plan.specs.Decode.{planOf}
 use Rattle.plan.specs.Admission.{planVerdict}
 use Rattle.plan.specs.Place.{transactionPlace, transactionFrom}
 use Rattle.operation.specs.Admission.{unusedZero, parametersPass}
-use Rattle.operation.specs.Run.{Store, Outcome, applyUpdate, run, runTransaction}
+use Rattle.operation.specs.Store.{Store, applyUpdate}
+use Rattle.execution.specs.Run.{Outcome, run, runTransaction}
 use Rattle.operation.proofs.Bounds.{cells-low, transaction-fits}
-use Rattle.operation.proofs.Runs.{update-few, writes-within}
-use Rattle.token.specs.Frame.{sent}
+use Rattle.execution.proofs.Runs.{update-few, writes-within}
+use Rattle.frame.specs.Frame.{sent}
 use Rattle.token.specs.WellFormed.{cellFits, updateFits}
 use Rattle.queue.specs.Queue.{paramsOf}
 use Rattle.queue.specs.declared.record.Request.{Request}

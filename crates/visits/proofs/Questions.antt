@@ -15,15 +15,15 @@ use Rattle.word.specs.Field.{addressedDesk}
 use Rattle.plan.specs.Plan.{Plan}
 use Rattle.plan.specs.Decode.{headOf, planOf}
 use Rattle.plan.specs.Admission.{planVerdict}
-use Rattle.token.specs.Admission.{frameVerdict, frameVisit}
+use Rattle.frame.specs.Admission.{frameVerdict, frameVisit}
 use Rattle.queue.specs.declared.record.Request.{Request}
 use Rattle.desk.specs.Holding.{Holding, waitingAt}
 use Rattle.desk.specs.Admission.{deskBuffersFit, waitsHere, deskFits}
 use Rattle.visits.specs.Admission.{visitBuffersFit, turnVerdict}
 use Rattle.visits.specs.Visit.{visitVerdict}
 use Rattle.visits.specs.Running.{isOperation}
-use Rattle.operation.specs.Run.{storeSize}
-use Rattle.token.specs.Frame.{longestFrame}
+use Rattle.operation.specs.Store.{storeSize}
+use Rattle.frame.specs.Frame.{longestFrame}
 use Rattle.queue.specs.Queue.{queueSize}
 use Rattle.visits.specs.Waiting.{repliesSize}
 

@@ -1,4 +1,7 @@
--- What the core of a visit is handed stands for the queue: the questions have the same answers, and the visit leaves the same.
+-- The questions of a visit as the code puts them, to a queue on plain words: they are the visit's questions, and decide what it leaves.
+--     plan-refused, by-buffers, plan-passes, row-whole     questions 1 to 5, and what they show
+--     desk-unfit, frame-refused, by-turn                   questions 6 and 10 to 15
+--     opening-refused, token-refused, all-pass, accepted-leaves    all of them, and the visit
 -- Assumes nothing.
 use mathlib.Core.Path.{_≡_, _∙_, sym, ap}
 use mathlib.Core.Bool.{Bool, true, false, _&&_}
@@ -6,18 +9,19 @@ use mathlib.Core.List.{List}
 use Prim.Native.Nat.{ℕ}
 use lib.Dec.{eqb}
 use lib.ListN.{length}
-use borrow.Author.Tests.{eqb-true}
+use native.Mathlib.Omega.{arith}
+use borrow.Author.Tests.{eqb-true, ne-eqb}
 use Rattle.verdict.specs.Verdict.{Verdict, accepted, refused, ask, _then_}
-use Rattle.verdict.proofs.Verdicts.{then-accepted, ask-accepted, then-associates, then-only-after-yes}
-use Rattle.lists.proofs.Laws.{and-fst, and-snd}
+use Rattle.verdict.proofs.Verdicts.{then-accepted, ask-accepted, then-associates}
+use Rattle.lists.proofs.Laws.{and-fst, and-snd, by-same}
 use Rattle.plan.specs.Decode.{planOf}
 use Rattle.plan.specs.Admission.{planVerdict}
-use Rattle.token.specs.Admission.{frameVerdict}
-use Rattle.queue.specs.Queue.{recordsOf}
+use Rattle.frame.specs.Admission.{frameVerdict}
 use Rattle.queue.specs.declared.record.Request.{Request}
-use Rattle.queue.proofs.Copying.{records-whole}
+use Rattle.queue.specs.Words.{recordsIn, queueIn}
+use Rattle.queue.proofs.Rows.{queueIn-row, queueIn-none}
 use Rattle.desk.specs.declared.state.Desk.{Desk}
-use Rattle.desk.specs.Holding.{holding}
+use Rattle.desk.specs.Holding.{Holding, holding}
 use Rattle.desk.specs.Admission.{deskBuffersFit, deskFits}
 use Rattle.visits.specs.Admission.{visitBuffersFit, turnVerdict}
 use Rattle.visits.specs.Visit.{unchanged, acceptedVisit, visitVerdict, visitResult}
@@ -25,28 +29,31 @@ use Rattle.visits.specs.Core.{openingVerdict, tokenVerdict}
 
 -- ---- questions 1 to 5
 
-module _ (ws cells : List ℕ) (size : ℕ) (out replies : List ℕ) where
+module _ (ws cells row out replies : List ℕ) where
   abbrev buffersFit : Bool
-  buffersFit = (eqb (length cells) 1024 && eqb size 32) && visitBuffersFit out replies
+  buffersFit = deskBuffersFit cells (queueIn row) && visitBuffersFit out replies
 
-  pub plan-refused : (question : ℕ) → planVerdict ws ≡ refused question → openingVerdict ws cells size out replies ≡ refused question
+  pub plan-refused : (question : ℕ) → planVerdict ws ≡ refused question → openingVerdict ws cells row out replies ≡ refused question
   unfolding openingVerdict
   plan-refused question e = rw e
 
-  pub by-buffers : planVerdict ws ≡ accepted → openingVerdict ws cells size out replies ≡ ask 5 buffersFit
+  pub by-buffers : planVerdict ws ≡ accepted → openingVerdict ws cells row out replies ≡ ask 5 buffersFit
   unfolding openingVerdict
   by-buffers e = rw e
 
-  module _ (e : openingVerdict ws cells size out replies ≡ accepted) where
+  module _ (e : openingVerdict ws cells row out replies ≡ accepted) where
     pub plan-passes : planVerdict ws ≡ accepted
     unfolding openingVerdict
     plan-passes = then-accepted (planVerdict ws) _ e .0
 
-    pub queue-long : size ≡ 32
-    unfolding openingVerdict
-    queue-long =
+    pub row-whole : queueIn row ≡ recordsIn row
+    unfolding openingVerdict deskBuffersFit
+    row-whole =
         let fit = ask-accepted 5 buffersFit (then-accepted (planVerdict ws) _ e .1) in
-        eqb-true size 32 (and-snd (eqb (length cells) 1024) _ (and-fst (eqb (length cells) 1024 && eqb size 32) _ fit))
+        let long : length (queueIn row) ≡ 32 = eqb-true (length (queueIn row)) 32
+        (and-snd (eqb (length cells) 1024) _ (and-fst (deskBuffersFit cells (queueIn row)) _ fit)) in
+        by-same (length row) 192 (queueIn-row row)
+        (λ n. let z : ⊥ = omega (arith, ap length (queueIn-none row (ne-eqb (length row) 192 n))) in absurd z)
 
 -- ---- questions 6 and 10 to 15
 
@@ -65,49 +72,47 @@ module _ (ws : List ℕ) (d : Desk) (records : List Request) (frame : List ℕ) 
     unfolding tokenVerdict
     by-turn g = rw (h, g)
 
--- ---- all of them, of a queue with this length and these first records
+-- ---- all of them
 
-module _ (ws : List ℕ) (d : Desk) (cells : List ℕ) (size : ℕ) (records : List Request) (frame out replies : List ℕ) where
-  handed : (queue : List Request) → length queue ≡ size → recordsOf queue ≡ records
-      → visitVerdict ws (holding d cells queue) frame out replies
-      ≡ (openingVerdict ws cells size out replies then tokenVerdict ws d records frame)
-  unfolding visitVerdict openingVerdict tokenVerdict deskBuffersFit
-  handed queue l q =
-      let fit : ℕ → Bool = λ (n : ℕ). (eqb (length cells) 1024 && eqb n 32) && visitBuffersFit out replies in
-      ap (_then_ (planVerdict ws))
-      (ap (λ (n : ℕ). ask 5 (fit n) then tokenVerdict ws d queue frame) l
-      ∙ then-only-after-yes 5 (fit size) (tokenVerdict ws d queue frame) (tokenVerdict ws d records frame) (λ (h : fit size ≡ true).
-      ap (λ (rs : List Request). tokenVerdict ws d rs frame) (sym (records-whole queue
-      (l ∙ eqb-true size 32 (and-snd (eqb (length cells) 1024) _ (and-fst (eqb (length cells) 1024 && eqb size 32) _ h)))) ∙ q)))
-      ∙ then-associates (planVerdict ws) _ (tokenVerdict ws d records frame)
+module _ (ws : List ℕ) (d : Desk) (cells row frame out replies : List ℕ) where
+  -- what the desk holds
+  abbrev held : Holding
+  held = holding d cells (queueIn row)
 
-  module _ (queue : List Request) (l : length queue ≡ size) (q : recordsOf queue ≡ records) where
-    left-refused : (question : ℕ) → visitVerdict ws (holding d cells queue) frame out replies ≡ refused question
-        → unchanged (holding d cells queue) out replies question ≡ visitResult ws (holding d cells queue) frame out replies
-    unfolding visitResult
-    left-refused question e = rw e
+  asked : visitVerdict ws held frame out replies
+      ≡ (openingVerdict ws cells row out replies then tokenVerdict ws d (queueIn row) frame)
+  unfolding visitVerdict openingVerdict tokenVerdict
+  asked = then-associates (planVerdict ws) _ _
 
-    pub opening-refused : (question : ℕ) → openingVerdict ws cells size out replies ≡ refused question
-        → unchanged (holding d cells queue) out replies question ≡ visitResult ws (holding d cells queue) frame out replies
-    opening-refused question e =
-        left-refused question (handed queue l q ∙ ap (λ (v : Verdict). v then tokenVerdict ws d records frame) e)
+  refused-leaves : (question : ℕ) → visitVerdict ws held frame out replies ≡ refused question
+      → unchanged held out replies question ≡ visitResult ws held frame out replies
+  unfolding visitResult
+  refused-leaves question e = rw e
 
-    module _ (e : openingVerdict ws cells size out replies ≡ accepted) where
-      opened : visitVerdict ws (holding d cells queue) frame out replies ≡ tokenVerdict ws d records frame
-      opened = handed queue l q ∙ ap (λ (v : Verdict). v then tokenVerdict ws d records frame) e
+  pub opening-refused : (question : ℕ) → openingVerdict ws cells row out replies ≡ refused question
+      → unchanged held out replies question ≡ visitResult ws held frame out replies
+  opening-refused question e =
+      refused-leaves question (asked ∙ ap (λ (v : Verdict). v then tokenVerdict ws d (queueIn row) frame) e)
 
-      pub token-refused : (question : ℕ) → tokenVerdict ws d records frame ≡ refused question
-          → unchanged (holding d cells queue) out replies question ≡ visitResult ws (holding d cells queue) frame out replies
-      token-refused question h = left-refused question (opened ∙ h)
+  module _ (e : openingVerdict ws cells row out replies ≡ accepted) where
+    opened : visitVerdict ws held frame out replies ≡ tokenVerdict ws d (recordsIn row) frame
+    opened =
+        asked ∙ ap (λ (v : Verdict). v then tokenVerdict ws d (queueIn row) frame) e
+        ∙ ap (λ (rs : List Request). tokenVerdict ws d rs frame) (row-whole ws cells row out replies e)
 
-      pub left-accepted : tokenVerdict ws d records frame ≡ accepted
-          → acceptedVisit (planOf ws) (holding d cells records) frame out replies ≡ visitResult ws (holding d cells queue) frame out replies
+    pub token-refused : (question : ℕ) → tokenVerdict ws d (recordsIn row) frame ≡ refused question
+        → unchanged held out replies question ≡ visitResult ws held frame out replies
+    token-refused question h = refused-leaves question (opened ∙ h)
+
+    module _ (h : tokenVerdict ws d (recordsIn row) frame ≡ accepted) where
+      pub all-pass : visitVerdict ws (holding d cells (recordsIn row)) frame out replies ≡ accepted
+      all-pass =
+          ap (λ (rs : List Request). visitVerdict ws (holding d cells rs) frame out replies) (sym (row-whole ws cells row out replies e))
+          ∙ opened ∙ h
+
+      pub accepted-leaves : acceptedVisit (planOf ws) (holding d cells (recordsIn row)) frame out replies
+          ≡ visitResult ws held frame out replies
       unfolding visitResult
-      left-accepted h =
+      accepted-leaves =
           rw (opened ∙ h) (ap (λ (rs : List Request). acceptedVisit (planOf ws) (holding d cells rs) frame out replies)
-          (sym (sym (records-whole queue (l ∙ queue-long ws cells size out replies e)) ∙ q)))
-
-  -- the records are a queue themselves
-  pub of-records : length records ≡ 32 → openingVerdict ws cells size out replies ≡ accepted
-      → tokenVerdict ws d records frame ≡ accepted → visitVerdict ws (holding d cells records) frame out replies ≡ accepted
-  of-records l e h = opened records (l ∙ sym (queue-long ws cells size out replies e)) (records-whole records l) e ∙ h
+          (sym (row-whole ws cells row out replies e)))

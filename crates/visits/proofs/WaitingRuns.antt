@@ -11,8 +11,9 @@ use borrow.Rule.Slice.PartMut.{putMid}
 use Rattle.lists.specs.Lists.{overwritten}
 use Rattle.lists.proofs.Laws.{Filling, fill-none, fill-size, fill-length, fill-same, fill-part, fill-done, take-remainder, put-remainder}
 use Rattle.plan.specs.Plan.{Plan}
-use Rattle.operation.specs.Run.{Store, applyUpdate, run}
-use Rattle.token.specs.Frame.{updatesWords}
+use Rattle.operation.specs.Store.{Store, applyUpdate}
+use Rattle.execution.specs.Run.{run}
+use Rattle.frame.specs.Frame.{updatesWords}
 use Rattle.queue.specs.Queue.{noRequest}
 use Rattle.queue.specs.declared.record.Request.{Request}
 use Rattle.desk.specs.Queueing.{operationOf}

@@ -7,9 +7,9 @@ use lib.ListN.{length}
 use Rattle.verdict.specs.Verdict.{Verdict, ask, _then_}
 use Rattle.word.specs.Field.{addressedDesk}
 use Rattle.plan.specs.Decode.{headOf}
-use Rattle.token.specs.Admission.{frameVisit}
+use Rattle.frame.specs.Admission.{frameVisit}
 use Rattle.desk.specs.declared.state.Desk.{Desk}
-use Rattle.token.specs.Frame.{longestFrame}
+use Rattle.frame.specs.Frame.{longestFrame}
 use Rattle.visits.specs.Waiting.{repliesSize}
 
 -- 5: "for a visit, outgoing at least 6,404 and replies at least 96 words"

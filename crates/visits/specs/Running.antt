@@ -10,8 +10,9 @@ use Rattle.plan.specs.Plan.{Plan}
 use Rattle.plan.specs.Decode.{planOf}
 use Rattle.plan.specs.Admission.{planVerdict}
 use Rattle.operation.specs.Admission.{operationVerdict}
-use Rattle.operation.specs.Run.{Store, applyUpdate, run}
-use Rattle.token.specs.Frame.{sent, updateWords, updatesWords}
+use Rattle.operation.specs.Store.{Store, applyUpdate}
+use Rattle.execution.specs.Run.{run}
+use Rattle.frame.specs.Frame.{sent, updateWords, updatesWords}
 use Rattle.queue.specs.declared.record.Request.{Request}
 use Rattle.desk.specs.Queueing.{operationOf}
 use Rattle.desk.specs.Place.{Placed}

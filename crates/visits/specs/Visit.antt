@@ -8,9 +8,9 @@ use Rattle.lists.specs.Lists.{overwritten}
 use Rattle.plan.specs.Plan.{Plan}
 use Rattle.plan.specs.Decode.{planOf}
 use Rattle.plan.specs.Admission.{planVerdict}
-use Rattle.operation.specs.Run.{Store}
-use Rattle.token.specs.Frame.{SentUpdate, sent, frameWords}
-use Rattle.token.specs.Admission.{frameVerdict, frameVisit, frameUpdates}
+use Rattle.operation.specs.Store.{Store}
+use Rattle.frame.specs.Frame.{SentUpdate, sent, frameWords}
+use Rattle.frame.specs.Admission.{frameVerdict, frameVisit, frameUpdates}
 use Rattle.token.specs.Forward.{foreign, applyAll}
 use Rattle.desk.specs.declared.state.Desk.{Desk}
 use Rattle.desk.specs.Holding.{Holding, waitingAt}

@@ -6,8 +6,9 @@ use mathlib.Core.List.{List, [], _∷_, _++_}
 use Rattle.word.specs.Field.{field, kindOf}
 use Rattle.word.specs.Reserved.{reservedZero}
 use Rattle.plan.specs.Plan.{Plan}
-use Rattle.operation.specs.Run.{Store, Update, Reply, applyUpdate, run}
-use Rattle.token.specs.Frame.{placed, ofKind}
+use Rattle.operation.specs.Store.{Store, Update, applyUpdate}
+use Rattle.execution.specs.Run.{Reply, run}
+use Rattle.frame.specs.Frame.{placed, ofKind}
 use Rattle.queue.specs.Queue.{queueSize}
 use Rattle.queue.specs.declared.record.Request.{Request}
 use Rattle.desk.specs.Queueing.{operationOf}

@@ -3,6 +3,7 @@ ghost use mathlib.Core.Path.{_≡_};
 ghost use Rattle.verdict.specs.Verdict.{accepted};
 ghost use Rattle.plan.specs.Decode.{planOf};
 ghost use Rattle.plan.specs.Place.{transactionPlaces};
+ghost use Rattle.queue.specs.Words.{recordsIn};
 ghost use Rattle.desk.specs.Holding.{holding};
 ghost use Rattle.visits.specs.Visit.{visitVerdict, acceptedVisit};
 ghost use Rattle.visits.specs.Answer.{visitedOf};
@@ -10,8 +11,6 @@ use crate::running;
 use crate::visiting::VisitAnswer;
 use crate::visiting::VisitResult;
 use desk::Desk;
-use queue::QUEUE_SIZE;
-use queue::Request;
 use word::fields;
 
 // Drops the desk's own updates, applies the others and sends them on, runs the waiting requests, and seals the frame for the next visit.
@@ -20,15 +19,16 @@ pub(crate) fn accepted_visit(
     places: &[usize],
     state: Desk,
     cells: &mut [u32],
-    records: [Request; QUEUE_SIZE],
+    row: &[u32],
     frame: &[u32],
     out: &mut [u32],
     replies: &mut [u32],
 ) -> VisitResult
-    requires { ⌜ (visitVerdict (now plan) (holding state (now cells) records) (now frame) (now out) (now replies) ≡ accepted)
+    requires { ⌜ (visitVerdict (now plan) (holding state (now cells) (recordsIn (now row))) (now frame) (now out) (now replies) ≡ accepted)
         × (now places ≡ transactionPlaces (now plan)) ⌝ }
-    ensures { λ r. ⌜ visitedOf r (now (cells .exit)) (now (out .exit)) (now (replies .exit)) ≡ acceptedVisit (planOf (now (plan .entry)))
-        (holding state (now (cells .entry)) records) (now (frame .entry)) (now (out .entry)) (now (replies .entry)) ⌝ }
+    ensures { λ r. ⌜ visitedOf r (now (cells .exit)) (now (out .exit)) (now (replies .exit))
+        ≡ acceptedVisit (planOf (now (plan .entry))) (holding state (now (cells .entry)) (recordsIn (now (row .entry))))
+        (now (frame .entry)) (now (out .entry)) (now (replies .entry)) ⌝ }
 {
     let desk = state.desk;
     let waiting = state.waiting as usize;
@@ -40,7 +40,7 @@ pub(crate) fn accepted_visit(
             plan,
             places,
             waiting,
-            records,
+            row,
             desk,
             cells,
             &mut out[copied..],

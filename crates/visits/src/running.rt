@@ -1,5 +1,7 @@
 // Running the waiting requests: each on the store as the one before left it, its update behind the words of those before, its reply behind
 // theirs.
+//     reply_head, write_reply      the words of a reply
+//     run_one, run_waiting         one request; the first of a row, which is lent as plain words
 ghost use mathlib.Core.Path.{_≡_};
 ghost use Prim.Native.Nat.{_≤_};
 ghost use lib.ListN.{length, take};
@@ -9,7 +11,8 @@ ghost use Rattle.plan.specs.Place.{transactionPlaces};
 ghost use Rattle.visits.specs.Waiting.{replyHead, replySize, answered, replyWords};
 ghost use Rattle.visits.specs.Running.{Runs, Ran, AllRun, AllRan};
 ghost use Rattle.queue.specs.Queue.{queueSize};
-use operation::Reply;
+ghost use Rattle.queue.specs.Words.{recordsIn};
+use execution::Reply;
 use queue::QUEUE_SIZE;
 use queue::Request;
 
@@ -51,34 +54,34 @@ fn run_one(
         r (now (cells .exit)) (now (out .exit)) (now (replies .exit)) ⌝ }
 {
     let params = queue::params(request);
-    let outcome = operation::run(plan, at, params, cells);
+    let outcome = execution::run(plan, at, params, cells);
     let update = outcome.update;
     let reply = outcome.reply;
     write_reply(replies, request.client, reply);
-    operation::apply(cells, update);
+    execution::apply(cells, update);
     token::write_update(out, desk, update)
 }
 
-// Runs the first `waiting` requests in order, and answers how many outgoing words their updates have.
+// Runs the first `waiting` requests of the row in order, and answers how many outgoing words their updates have.
 pub(crate) fn run_waiting(
     plan: &[u32],
     places: &[usize],
     waiting: usize,
-    records: [Request; QUEUE_SIZE],
+    row: &[u32],
     desk: u32,
     cells: &mut [u32],
     out: &mut [u32],
     replies: &mut [u32],
 ) -> usize
     requires { ⌜ (waiting ≤ queueSize) × (now places ≡ transactionPlaces (now plan))
-        × AllRun (now plan) (take waiting records) desk (now cells) (now out) (now replies) ⌝ }
-    ensures { λ r. ⌜ AllRan (planOf (now (plan .entry))) (take waiting records) desk (now (cells .entry)) (now (out .entry))
-        (now (replies .entry)) r (now (cells .exit)) (now (out .exit)) (now (replies .exit)) ⌝ }
+        × AllRun (now plan) (take waiting (recordsIn (now row))) desk (now cells) (now out) (now replies) ⌝ }
+    ensures { λ r. ⌜ AllRan (planOf (now (plan .entry))) (take waiting (recordsIn (now (row .entry)))) desk (now (cells .entry))
+        (now (out .entry)) (now (replies .entry)) r (now (cells .exit)) (now (out .exit)) (now (replies .exit)) ⌝ }
 {
     let mut end: usize = 0;
     let mut at: usize = 0;
     while at < waiting {
-        let request = records[at];
+        let request = queue::record_in(row, at);
         let place = places[request.transaction as usize];
         let answered = at * REPLY_SIZE;
         end = end

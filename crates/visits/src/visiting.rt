@@ -1,29 +1,31 @@
-// The core of a visit of the token at a desk.
+// A visit of the token at a desk, on the queue as plain words: its questions in their order, and the call.
+//     VisitAnswer, VisitResult     what the call hands back
+//     buffers_fit, turn            question 5; questions 13 to 15
+//     opening_verdict              questions 1 to 5
+//     state_fits, token_verdict    question 6; questions 6 and 10 to 15
+//     visit_on_words               the call
 ghost use mathlib.Core.Path.{_≡_};
 ghost use mathlib.Core.Bool.{_&&_};
-ghost use mathlib.Core.List.{List};
 ghost use Prim.Native.Nat.{_≤_};
-ghost use lib.Dec.{eqb};
 ghost use lib.ListN.{length};
 ghost use Rattle.verdict.specs.Verdict.{accepted, verdictOf};
 ghost use Rattle.plan.specs.Admission.{planVerdict};
+ghost use Rattle.plan.specs.Decode.{planOf};
 ghost use Rattle.plan.specs.Place.{transactionPlaces};
-ghost use Rattle.queue.specs.Queue.{recordsOf, queueSize};
-ghost use Rattle.queue.specs.declared.record.Request.{Request as Queued};
+ghost use Rattle.queue.specs.Words.{recordsIn, queueIn};
+ghost use Rattle.desk.specs.Admission.{deskBuffersFit, deskFits};
 ghost use Rattle.desk.specs.Holding.{holding};
 ghost use Rattle.visits.specs.Admission.{visitBuffersFit, turnVerdict};
 ghost use Rattle.visits.specs.Visit.{visitResult};
 ghost use Rattle.visits.specs.Core.{openingVerdict, tokenVerdict};
 ghost use Rattle.visits.specs.Answer.{visitedOf};
-ghost use Rattle.operation.specs.Run.{storeSize};
-ghost use Rattle.token.specs.Frame.{leastFrame};
+ghost use Rattle.frame.specs.Frame.{leastFrame};
 use crate::accepted;
 use crate::running;
 use desk::Desk;
+use frame::LONGEST_FRAME;
 use operation::STORE_SIZE;
-use queue::QUEUE_SIZE;
-use queue::Request;
-use token::LONGEST_FRAME;
+use queue::QUEUE_WORDS;
 use verdict::Verdict;
 use word::fields;
 
@@ -40,14 +42,14 @@ pub struct VisitResult {
 }
 
 // Question 5.
-fn buffers_fit(cells: &[u32], size: usize, out: &[u32], replies: &[u32]) -> bool
-    ensures { λ r. ⌜ r ≡ ((eqb (length (now (cells .entry))) storeSize && eqb size queueSize)
+fn buffers_fit(cells: &[u32], row: &[u32], out: &[u32], replies: &[u32]) -> bool
+    ensures { λ r. ⌜ r ≡ (deskBuffersFit (now (cells .entry)) (queueIn (now (row .entry)))
         && visitBuffersFit (now (out .entry)) (now (replies .entry))) ⌝ }
 {
     if cells.len() != STORE_SIZE {
         return false;
     }
-    if size != QUEUE_SIZE {
+    if row.len() != QUEUE_WORDS {
         return false;
     }
     if out.len() < LONGEST_FRAME {
@@ -79,69 +81,73 @@ fn turn(state: Desk, frame: &[u32]) -> Verdict
 fn opening_verdict(
     plan: &[u32],
     cells: &[u32],
-    size: usize,
+    row: &[u32],
     out: &[u32],
     replies: &[u32],
 ) -> Verdict
-    ensures { λ r. ⌜ verdictOf r ≡ openingVerdict (now (plan .entry)) (now (cells .entry)) size (now (out .entry))
+    ensures { λ r. ⌜ verdictOf r ≡ openingVerdict (now (plan .entry)) (now (cells .entry)) (now (row .entry)) (now (out .entry))
         (now (replies .entry)) ⌝ }
 {
     if let Verdict::Refused(question) = plan::read_plan(plan) {
         return Verdict::Refused(question);
     }
-    if buffers_fit(cells, size, out, replies) {
+    if buffers_fit(cells, row, out, replies) {
         return Verdict::Accepted;
     }
     Verdict::Refused(5)
 }
 
-// Questions 6 and 10 to 15, all of one before the next.
-fn token_verdict(
-    plan: &[u32],
-    places: &[usize],
-    state: Desk,
-    records: [Request; QUEUE_SIZE],
-    frame: &[u32],
-) -> Verdict
+// Question 6. The table of masks is filled if requests wait.
+fn state_fits(plan: &[u32], places: &[usize], state: Desk, row: &[u32]) -> bool
     requires { ⌜ (planVerdict (now plan) ≡ accepted) × (now places ≡ transactionPlaces (now plan)) ⌝ }
-    ensures { λ r. ⌜ verdictOf r ≡ tokenVerdict (now (plan .entry)) state records (now (frame .entry)) ⌝ }
+    ensures { λ r. ⌜ r ≡ deskFits (planOf (now (plan .entry))) state (recordsIn (now (row .entry))) ⌝ }
 {
-    if !desk::desk_fits(plan, places, state, records) {
+    let mut masks = [0u8; STORE_SIZE];
+    desk::fill_if_waiting(plan, state.waiting, &mut masks);
+    desk::desk_fits(plan, places, state, row, &masks)
+}
+
+// Questions 6 and 10 to 15, all of one before the next.
+fn token_verdict(plan: &[u32], places: &[usize], state: Desk, row: &[u32], frame: &[u32]) -> Verdict
+    requires { ⌜ (planVerdict (now plan) ≡ accepted) × (now places ≡ transactionPlaces (now plan)) ⌝ }
+    ensures { λ r. ⌜ verdictOf r ≡ tokenVerdict (now (plan .entry)) state (recordsIn (now (row .entry))) (now (frame .entry)) ⌝ }
+{
+    if !state_fits(plan, places, state, row) {
         return Verdict::Refused(6);
     }
-    if let Verdict::Refused(question) = token::check_frame(plan[0] / fields::DESKS % 16, frame) {
+    if let Verdict::Refused(question) = frame::check_frame(plan[0] / fields::DESKS % 16, frame) {
         return Verdict::Refused(question);
     }
     turn(state, frame)
 }
 
-// The visit, of a queue with this length and these first records. Nothing is written before the last question.
-pub fn visit_core(
+// The visit. Words of any other number than 192 are no queue of 32 records, and are refused with 5 in its turn. Nothing is written before
+// the last question, and the queue is only read.
+pub fn visit_on_words(
     plan: &[u32],
     state: Desk,
     cells: &mut [u32],
-    size: usize,
-    records: [Request; QUEUE_SIZE],
+    row: &[u32],
     frame: &[u32],
     out: &mut [u32],
     replies: &mut [u32],
 ) -> VisitResult
-    ensures { λ r. ⌜ ((queue : List Queued) → length queue ≡ size → recordsOf queue ≡ records
-        → visitedOf r (now (cells .exit)) (now (out .exit)) (now (replies .exit)) ≡ visitResult (now (plan .entry))
-        (holding state (now (cells .entry)) queue) (now (frame .entry)) (now (out .entry)) (now (replies .entry))) ⌝ }
+    ensures { λ r. ⌜ visitedOf r (now (cells .exit)) (now (out .exit)) (now (replies .exit))
+        ≡ visitResult (now (plan .entry)) (holding state (now (cells .entry)) (queueIn (now (row .entry))))
+        (now (frame .entry)) (now (out .entry)) (now (replies .entry)) ⌝ }
 {
-    if let Verdict::Refused(question) = opening_verdict(plan, cells, size, out, replies) {
+    if let Verdict::Refused(question) = opening_verdict(plan, cells, row, out, replies) {
         return VisitResult {
             answer: VisitAnswer::Refused(question),
             state: state,
         };
     }
     let places = plan::transaction_places(plan);
-    if let Verdict::Refused(question) = token_verdict(plan, &places, state, records, frame) {
+    if let Verdict::Refused(question) = token_verdict(plan, &places, state, row, frame) {
         return VisitResult {
             answer: VisitAnswer::Refused(question),
             state: state,
         };
     }
-    accepted::accepted_visit(plan, &places, state, cells, records, frame, out, replies)
+    accepted::accepted_visit(plan, &places, state, cells, row, frame, out, replies)
 }

@@ -1,2 +1,3 @@
 pub mod Field
 pub mod Reserved
+pub mod Words

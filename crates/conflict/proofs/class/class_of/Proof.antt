@@ -13,8 +13,11 @@ use Rattle.conflict.proofs.class.class_of.Tie as tie
 has-write-requires : tie.Need-has-write-requires
 has-write-requires c κs = search needs
 
-desk-masks-requires : tie.Need-desk-masks-requires
-desk-masks-requires c κs = search needs
+slice-aggregate-fill-masks : tie.Need-slice-aggregate-fill-masks
+slice-aggregate-fill-masks c = search needs
+
+fill-masks-requires : tie.Need-fill-masks-requires
+fill-masks-requires c κs = search needs
 
 slice-aggregate-one-desk-each : tie.Need-slice-aggregate-one-desk-each
 slice-aggregate-one-desk-each c = search needs
@@ -24,15 +27,14 @@ one-desk-each-requires c κs = search needs
 
 -- what the ones in the masks say of an operation that writes
 writing : (c : tie.After-one-desk-each)
-    → cond (c .one-desk-each .result) local global
-    ≡ classBy (planOf (c .before .before .before .before .before .before .args .plan .now))
-    (transactionFrom (c .before .before .before .before .before .before .args .plan .now)
-    (c .before .before .before .before .before .before .args .at))
-    (c .before .before .before .before .before .before .args .params)
+    → let d = c .before .before .before .before .before .before .before .before in
+    cond (c .one-desk-each .result) local global
+    ≡ classBy (planOf (d .args .plan .now)) (transactionFrom (d .args .plan .now) (d .args .at)) (d .args .params)
 writing c =
-    let e = c .before .before .before in
+    let m = c .before .before .before in
+    let e = m .before .before in
     let d = e .before .before .before in
-    class-writing (d .args .plan .now) (d .args .at) (d .args .params) (d .pre .2) _ _ _ (c .before .before .desk-masks .ensures)
+    class-writing (d .args .plan .now) (d .args .at) (d .args .params) (d .pre .2) _ _ _ (m .fill-masks .ensures)
     (sym (e .before .has-write .ensures) ∙ e .if1 .taken) (c .one-desk-each .ensures)
 
 returns : tie.Need-returns
@@ -67,7 +69,8 @@ class-of-spec =
     tie.close
     (tie.spec
     has-write-requires
-    desk-masks-requires
+    slice-aggregate-fill-masks
+    fill-masks-requires
     slice-aggregate-one-desk-each
     one-desk-each-requires
     returns

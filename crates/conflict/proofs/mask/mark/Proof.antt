@@ -15,7 +15,7 @@ abbrev μ-loop : tie.MeasureT-loop
 μ-loop table₀ word partitioning desks base row₀ table row = 32 - row
 
 returns : tie.Need-returns Inv-loop μ-loop
-returns c = operand-marks-none _ _ _ _ (c .before .pre .2) (c .if1 .taken)
+returns c = operand-marks-none _ _ _ _ (c .before .before .pre .2) (c .if1 .taken)
 
 mul-base : tie.Need-mul-base Inv-loop μ-loop
 mul-base c = omega arith
@@ -24,7 +24,7 @@ add-base : tie.Need-add-base Inv-loop μ-loop
 add-base c = omega arith
 
 loop-holds : tie.Need-loop-holds Inv-loop μ-loop
-loop-holds c = marked-none _ _ _ _ (c .before .pre .2)
+loop-holds c = marked-none _ _ _ _ (c .before .before .pre .2)
 
 mul-cell : tie.Need-mul-cell Inv-loop μ-loop
 mul-cell c = omega arith
@@ -35,14 +35,14 @@ add-cell c = omega arith
 cast-cell : tie.Need-cast-cell Inv-loop μ-loop
 cast-cell c = omega arith
 
-element-copy-out-table : tie.Need-element-copy-out-table Inv-loop μ-loop
-element-copy-out-table c = omega arith
+slice-read-table : tie.Need-slice-read-table Inv-loop μ-loop
+slice-read-table c = omega arith
 
 row-mask-requires : tie.Need-row-mask-requires Inv-loop μ-loop
 row-mask-requires c κs = search needs
 
-element-write-table : tie.Need-element-write-table Inv-loop μ-loop
-element-write-table c = omega arith
+slice-write-table : tie.Need-slice-write-table Inv-loop μ-loop
+slice-write-table c = omega arith
 
 add-row : tie.Need-add-row Inv-loop μ-loop
 add-row c = omega arith
@@ -53,6 +53,9 @@ loop-less c = omega arith
 loop-again : tie.Need-loop-again Inv-loop μ-loop
 loop-again c = marked-more _ _ _ _ _ _ _ (c .before .before .loop-test .taken) (c .row-mask .ensures)
     (c .before .before .before .loop .inv)
+
+same-length : tie.Need-same-length Inv-loop μ-loop
+same-length c = omega (arith, c .before .loop .inv .long, c .before .before .before .before .pre .2)
 
 returns-2 : tie.Need-returns-2 Inv-loop μ-loop
 returns-2 c = marked-all _ _ _ _ _ _ (c .before .before .if1 .left) (c .loop-test .left) (c .before .loop .inv)
@@ -70,10 +73,11 @@ mark-spec =
     mul-cell
     add-cell
     cast-cell
-    element-copy-out-table
+    slice-read-table
     row-mask-requires
-    element-write-table
+    slice-write-table
     add-row
     loop-less
     loop-again
+    same-length
     returns-2)

@@ -1,5 +1,5 @@
 -- `conveyor::request` meets its contract: a walk of its MIR, by hand, with no branch. All that it knows of `copied`, of the core
--- (`request_step`) and of `store` is that each meets its contract.
+-- (`request_by_value`) and of `store` is that each meets its contract.
 -- queue is lent to `copied` as a `&`, for a lifetime that is made for the call, and comes back as it was. plan is a `&`, which is Copy:
 -- one copy goes to the core, and the other is kept for the exit.
 -- cells goes to the core, and queue to `store`, each at its own lifetime, share and ghost name: they are given up for good.
@@ -44,12 +44,10 @@ use denote.Triple.Table.{entered, cited}
 use denote.Triple.Walked.{goes-none, goes-none-slice, goes-gave-slice, Walks, walked, walk-meets}
 use denote.Exit.{yes}
 use denote.Signature.{plain}
-use Rattle.queue.specs.declared.record.Request.{Request}
-use Rattle.queue.specs.Queue.{recordsOf}
 use Rattle.queue.proofs.record.Request as T
 use Rattle.queue.proofs.Answers.{answered}
 use Rattle.queue.proofs.Calls.{Copied, Store, calls-copied, calls-store}
-use Rattle.queue.proofs.Records.{records-typed}
+use Rattle.queue.proofs.Records.{row-typed}
 use Rattle.queue.proofs.SharedSlice.{twice, lends-shared, ends-shared}
 use Rattle.queue.proofs.copied.Symbol as copied-def
 use Rattle.queue.proofs.copied.Symbol.{name as #queue·copied}
@@ -57,28 +55,28 @@ use Rattle.queue.proofs.copied.Met as copied-thm
 use Rattle.queue.proofs.store.Symbol as store-def
 use Rattle.queue.proofs.store.Symbol.{name as #queue·store}
 use Rattle.queue.proofs.store.Met as store-thm
-use Rattle.desk.specs.declared.state.Desk.{Desk}
 use Rattle.desk.proofs.state.Desk as D
 use Rattle.desk.proofs.state.Desk.Laws as D′
 use Rattle.requests.proofs.asking.RequestResult as R
 use Rattle.requests.proofs.asking.RequestResult.Laws as R′
 use Rattle.requests.proofs.asking.RequestStep as S
 use Rattle.requests.proofs.asking.RequestStep.Laws as S′
-use Rattle.requests.proofs.request_step as core
-use Rattle.requests.proofs.request_step.Symbol as core-def
-use Rattle.requests.proofs.request_step.Symbol.{name as #requests·request-step}
-use Rattle.requests.proofs.request_step.Met as core-thm
-use Rattle.conveyor.proofs.Lent.{lent, Params, refAt, refVal, token, desk-typed, params-typed}
+use Rattle.requests.proofs.request_by_value as core
+use Rattle.requests.proofs.request_by_value.Symbol as core-def
+use Rattle.requests.proofs.request_by_value.Symbol.{name as #requests·request-by-value}
+use Rattle.requests.proofs.request_by_value.Met as core-thm
+use Rattle.conveyor.proofs.Lent.{lent, Params, refAt, refVal, token, waiting-fits, desk-typed, params-typed}
 use Rattle.conveyor.proofs.engine.request.Key.{name as #conveyor·engine·request}
 use Rattle.conveyor.proofs.engine.request as request
 use Rattle.conveyor.proofs.engine.request.Statement as stated
 use Rattle.conveyor.proofs.engine.request.Code as code
-use Rattle.conveyor.proofs.engine.request.Proof.Ends.{Entry, Fits, stayed, lfts, shares, args, vals, flat, Says, Post, exits}
+use Rattle.conveyor.proofs.engine.request.Proof.Ends.{Entry, Fits, copy, stayed, lfts, shares, args, vals, flat, Steps, Places}
+use Rattle.conveyor.proofs.engine.request.Proof.Ends.{Post, exits}
 use Rattle.conveyor.proofs.engine.request.Proof.Core.{CoreTriple, fields, coreLfts, core-args, to-core, goes-core}
 
 module _ {M : Type 1} (𝓤 : URA M) (H : Heap 𝓤) (A : Atoms 𝓤) (W : Given 𝓤 H A) (mem : Memory → SProp 𝓤) (run : Routine → Fun 𝓤)
     (𝓣 : Tables 𝓤 H) (known-copied : Triple 𝓤 (𝓣 .C #queue·copied) (Copied 𝓤 H A mem run))
-    (known-core : Triple 𝓤 (𝓣 .C #requests·request-step) (CoreTriple 𝓤 H A mem run))
+    (known-core : Triple 𝓤 (𝓣 .C #requests·request-by-value) (CoreTriple 𝓤 H A mem run))
     (known-store : Triple 𝓤 (𝓣 .C #queue·store) (Store 𝓤 H A mem run)) where
   module _ (x : Entry) (f : Fits x) where
     walk : Room u32 (length (x .plan .now)) → Room u32 (length (x .cells .now)) → Room T.the-row (length (x .queue .now))
@@ -99,14 +97,12 @@ module _ {M : Type 1} (𝓤 : URA M) (H : Heap 𝓤) (A : Atoms 𝓤) (W : Given
         pass1 ! (init ! 26 refl (tt, (tt, (record { fits = room₃ .0 }, tt)))) $
         pass1 ! (init ! 24 refl (tt, record { fits = f .client })) $ pass1 ! (init ! 22 refl (tt, record { fits = f .transaction })) $
         pass1 ! (init ! 20 refl (params-typed 𝓤 H A W (x .params) _ (f .params))) $ pass0 ! $
-        -- [L; the tokens; what the parameters own]: the queue's length is read, and queue is lent
-        assigns ! (of-opd ! (load ! (from ! (fld ! refl (stop !))) (look-in ! 26 (sub ! 1 refl (whole !))))) (from ! (stop !))
-        (init ! 18 refl (tt, record { fits = f .size })) $
+        -- [L; the tokens; what the parameters own]: queue is lent
         assigns ! (addr ! (from ! (fld ! refl (hop ! (look-in ! 26 (sub ! 0 refl (whole !))) (stop !))))) (from ! (stop !))
-        (init ! 12 refl (tt, tt)) $
-        assigns ! (agg ! (and-then ! (load ! (from ! (stop !)) (look ! 12 refl))
+        (init ! 14 refl (tt, tt)) $
+        assigns ! (agg ! (and-then ! (load ! (from ! (stop !)) (look ! 14 refl))
         (and-then ! (load ! (from ! (fld ! refl (stop !))) (look-in ! 26 (sub ! 1 refl (whole !)))) (no-more !)))) (from ! (stop !))
-        (init ! 10 refl (tt, (tt, (record { fits = room₃ .0 }, tt)))) $
+        (init ! 12 refl (tt, (tt, (record { fits = room₃ .0 }, tt)))) $
         -- what the parameters own, apart: that of plain data is let go
         move ! (37 ∷ []) $ fsplit ! $ move ! (1 ∷ []) $ fsplit ! $ drop ! $ fsplit ! $ move ! (1 ∷ []) $ fsplit ! $ move ! (1 ∷ []) $
         drop ! $
@@ -116,35 +112,41 @@ module _ {M : Type 1} (𝓤 : URA M) (H : Heap 𝓤) (A : Atoms 𝓤) (W : Given
         (x .queue .offset) (x .queue .now) ! tt (λ α δ.
         -- [what `copied` asks; what queue keeps; cells's token; plan's; what cells owns; what plan owns; L]
         calls-copied mem run (α ∷ []) fullShare (x .queue .block) (x .queue .offset) δ (x .queue .now) ! (fmOf 𝓤 H (W .laws) 𝓣)
-        known-copied (and-then ! (load ! (from ! (stop !)) (look ! 16 refl)) (no-more !)) (λ w is.
-        land ! (from ! (stop !)) (init ! 22 refl (records-typed 𝓤 H A W (recordsOf (x .queue .now)) w is)) $
+        known-copied (x .state .waiting) (waiting-fits (x .state) (f .state))
+        (and-then ! (load ! (from ! (stop !)) (look ! 18 refl))
+        (and-then ! (load ! (from ! (fld ! refl (stop !))) (look-in ! 36 (sub ! 1 refl (whole !)))) (no-more !))) (λ w is.
+        land ! (from ! (stop !)) (init ! 24 refl (row-typed 𝓤 H A W (copy x) w is)) $
         -- the lifetime ends, and queue is back
         ends-shared T.the-row (x .queue .lft) (x .queue .share) (x .queue .name) (x .queue .block) (x .queue .offset) (x .queue .now)
         ! tt α room₃ $
-        -- [what queue owns; queue's token; cells's; plan's; what cells owns; what plan owns; L]: the core
+        -- [what queue owns; queue's token; cells's; plan's; what cells owns; what plan owns; L]: cells is lent, and the queue's length
+        -- is read; the core
         assigns ! (addr ! (from ! (fld ! refl (hop ! (look-in ! 34 (sub ! 0 refl (whole !))) (stop !))))) (from ! (stop !))
-        (init ! 14 refl (tt, tt)) $
-        assigns ! (agg ! (and-then ! (load ! (from ! (stop !)) (look ! 14 refl))
+        (init ! 16 refl (tt, tt)) $
+        assigns ! (agg ! (and-then ! (load ! (from ! (stop !)) (look ! 16 refl))
         (and-then ! (load ! (from ! (fld ! refl (stop !))) (look-in ! 34 (sub ! 1 refl (whole !)))) (no-more !)))) (from ! (stop !))
-        (init ! 12 refl (tt, (tt, (record { fits = room₂ .0 }, tt)))) $
+        (init ! 14 refl (tt, (tt, (record { fits = room₂ .0 }, tt)))) $
+        assigns ! (of-opd ! (load ! (from ! (fld ! refl (stop !))) (look-in ! 32 (sub ! 1 refl (whole !))))) (from ! (stop !))
+        (init ! 12 refl (tt, record { fits = f .size })) $
         move ! (5 ∷ []) $ twice u32 ! (x .plan .lft) (refAt (x .plan)) (refVal (x .plan) ∷ []) $ move ! (5 ∷ 4 ∷ 0 ∷ 6 ∷ []) $ group ! 4 $
         use1 W (raw (CoreTriple 𝓤 H A mem run .pre (to-core x 𝓤 H A mem run w))) (goes-core x 𝓤 H A mem run W f w is) $
         -- [what the core asks; what plan owns; what queue owns; queue's token; L]
         calls-at ! (fmOf 𝓤 H (W .laws) 𝓣) (CoreTriple 𝓤 H A mem run) known-core (to-core x 𝓤 H A mem run w)
         (and-then ! (load ! (from ! (stop !)) (look ! 36 refl)) (and-then ! (load ! (from ! (stop !)) (look ! 34 refl))
-        (and-then ! (load ! (from ! (stop !)) (look ! 10 refl)) (and-then ! (load ! (from ! (stop !)) (look ! 22 refl))
-        (and-then ! (load ! (from ! (stop !)) (look ! 20 refl)) (and-then ! (load ! (from ! (stop !)) (look ! 28 refl))
+        (and-then ! (load ! (from ! (stop !)) (look ! 12 refl)) (and-then ! (load ! (from ! (stop !)) (look ! 10 refl))
+        (and-then ! (load ! (from ! (stop !)) (look ! 22 refl)) (and-then ! (load ! (from ! (stop !)) (look ! 28 refl))
         (and-then ! (load ! (from ! (stop !)) (look ! 26 refl)) (and-then ! (load ! (from ! (stop !)) (look ! 24 refl))
         (no-more !))))))))) (λ u.
         answered ! tt (‵ (token (x .plan)) ⊛ ‵ (token (x .cells)) ⊛ ‵ ftrue) S.the-row
         (λ r. ensured 𝓤 H A core.ended (core.clauses 𝓤 H A mem run) (coreLfts x) (core-args x) tt r) u (λ c isc.
         use1 W (some (λ (zs : Lasts core.ended (coreLfts x) (core-args x)). ‵ (lasts core.ended (coreLfts x) (core-args x) zs) ⊛ raw
-        (fact 𝓤 (Says x c (zs .1 .1 .0))))) (id⊢ 𝓤 _) $ pick ! (λ zb.
-        split ! $ move ! (1 ∷ []) $ heard ! (Says x c (zb .1 .1 .0)) (λ said. fsplit ! $ drop ! $ fsplit ! $ drop ! $
+        (fact 𝓤 (Steps x c (zs .1 .1 .0))) ⊛ raw (fact 𝓤 (Places x c)))) (id⊢ 𝓤 _) $ pick ! (λ zb.
+        split ! $ move ! (1 ∷ []) $ split ! $ heard ! (Steps x c (zb .1 .1 .0)) (λ said. heard ! (Places x c) (λ placed.
+        fsplit ! $ drop ! $ fsplit ! $ drop ! $
         fsplit ! $ fsplit ! $ move ! (1 ∷ []) $ feqL ! (λ same. move ! (1 ∷ []) $ drop ! $
         -- [cells's last list; the tokens; what plan owns; what queue owns; queue's token; L]
-        land ! (from ! (stop !)) (init ! 19 refl (LL.lawful S.the-type S′.the-laws 𝓤 H A W .typed c _ isc .0)) $
-        rewrite ! 19 (λ (z : Val). ‵ (fat fullShare S′.mir l₁₀ 0 z)) (ap only (LL.tells S.the-type S′.the-laws c (u ∷ []) isc)) refl $
+        land ! (from ! (stop !)) (init ! 21 refl (LL.lawful S.the-type S′.the-laws 𝓤 H A W .typed c _ isc .0)) $
+        rewrite ! 21 (λ (z : Val). ‵ (fat fullShare S′.mir l₉ 0 z)) (ap only (LL.tells S.the-type S′.the-laws c (u ∷ []) isc)) refl $
         assigns ! (addr ! (from ! (fld ! refl (hop ! (look-in ! 31 (sub ! 0 refl (whole !))) (stop !))))) (from ! (stop !))
         (init ! 7 refl (tt, tt)) $
         assigns ! (agg ! (and-then ! (load ! (from ! (stop !)) (look ! 7 refl))
@@ -155,11 +157,11 @@ module _ {M : Type 1} (𝓤 : URA M) (H : Heap 𝓤) (A : Atoms 𝓤) (W : Given
         calls-store mem run (x .queue .lft) (x .queue .share) (x .queue .block) (x .queue .offset) (x .queue .name) (x .queue .now)
         ! (fmOf 𝓤 H (W .laws) 𝓣) known-store (c .place) (c .request) (fields c u isc .1 .0) (fields c u isc .1 .1)
         (and-then ! (load ! (from ! (stop !)) (look ! 4 refl)) (and-then !
-        (load ! (from ! (fld ! refl (stop !))) (look-in ! 18 (sub ! 1 refl (whole !))))
-        (and-then ! (load ! (from ! (fld ! refl (stop !))) (look-in ! 18 (sub ! 2 refl (whole !)))) (no-more !)))) (
+        (load ! (from ! (fld ! refl (stop !))) (look-in ! 20 (sub ! 1 refl (whole !))))
+        (and-then ! (load ! (from ! (fld ! refl (stop !))) (look-in ! 20 (sub ! 2 refl (whole !)))) (no-more !)))) (
         -- [queue's token; queue's last list; cells's; the tokens; what plan owns; L]
         land ! (from ! (stop !)) (init ! 9 refl (tt, tt)) $
-        assigns ! (of-opd ! (load ! (from ! (fld ! refl (stop !))) (look-in ! 19 (sub ! 0 refl (whole !))))) (from ! (stop !))
+        assigns ! (of-opd ! (load ! (from ! (fld ! refl (stop !))) (look-in ! 21 (sub ! 0 refl (whole !))))) (from ! (stop !))
         (init ! 39 refl (LL.lawful R.the-type R′.the-laws 𝓤 H A W .typed (c .result) _ (fields c u isc .0) .0)) $
         returns ! (look ! 39 refl) $
         forget ! 5 refl $ forget ! 7 refl $ forget ! 9 refl $ forget ! 11 refl $ forget ! 13 refl $ forget ! 15 refl $
@@ -171,7 +173,7 @@ module _ {M : Type 1} (𝓤 : URA M) (H : Heap 𝓤) (A : Atoms 𝓤) (W : Given
         free1 ! $ move ! (17 ∷ 18 ∷ []) $ free1 ! $ move ! (15 ∷ 16 ∷ []) $ free1 ! $ move ! (13 ∷ 14 ∷ []) $ free1 ! $
         move ! (11 ∷ 12 ∷ []) $ free1 ! $ move ! (9 ∷ 10 ∷ []) $ free1 ! $ move ! (7 ∷ 8 ∷ []) $ free1 ! $ move ! (5 ∷ 6 ∷ []) $
         free1 ! $ free0 ! $
-        by ! (exits x 𝓤 H A mem run W f c (zb .1 .1 .0) said same (fields c u isc .0))))))))))))))))))))))))))))
+        by ! (exits x 𝓤 H A mem run W f c (zb .1 .1 .0) said placed same (fields c u isc .0)))))))))))))))))))))))))))))
 
   request-walks : Walks 𝓤 H A request.ended stayed (WpFn 𝓤 H (𝓣 .C) (𝓣 .Λ) code.function) (request.clauses 𝓤 H A mem run)
   request-walks = walked 𝓤 H A request.ended stayed (request.clauses 𝓤 H A mem run) (WpFn 𝓤 H (𝓣 .C) (𝓣 .Λ) code.function)
@@ -240,7 +242,7 @@ request-spec 𝓤 H 𝓜 𝓖 𝓡 =
     (request-meets 𝓤 H (𝓖 .A) (givenOf 𝓤 H 𝓜 𝓖) (𝓜 .mem) (𝓡 .run) (tablesOf 𝓤 H 𝓜 (tables 𝓤 H 𝓜 𝓡 code.env))
     (cited 𝓤 H (Copied 𝓤 H (𝓖 .A) (𝓜 .mem) (𝓡 .run)) 𝓜 𝓡 code.env #queue·copied copied-def.routine code.calls-queue·copied
     (copied-thm.met 𝓤 H 𝓜 𝓖 𝓡))
-    (cited 𝓤 H (CoreTriple 𝓤 H (𝓖 .A) (𝓜 .mem) (𝓡 .run)) 𝓜 𝓡 code.env #requests·request-step core-def.routine
-    code.calls-requests·request-step (core-thm.met 𝓤 H 𝓜 𝓖 𝓡))
+    (cited 𝓤 H (CoreTriple 𝓤 H (𝓖 .A) (𝓜 .mem) (𝓡 .run)) 𝓜 𝓡 code.env #requests·request-by-value core-def.routine
+    code.calls-requests·request-by-value (core-thm.met 𝓤 H 𝓜 𝓖 𝓡))
     (cited 𝓤 H (Store 𝓤 H (𝓖 .A) (𝓜 .mem) (𝓡 .run)) 𝓜 𝓡 code.env #queue·store store-def.routine code.calls-queue·store
     (store-thm.met 𝓤 H 𝓜 𝓖 𝓡)))

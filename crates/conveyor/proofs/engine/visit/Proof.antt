@@ -1,5 +1,5 @@
 -- `conveyor::visit` meets its contract: a walk of its MIR, by hand, with no branch. All that it knows of `copied` and of the core
--- (`visit_core`) is that each meets its contract.
+-- (`visit_by_value`) is that each meets its contract.
 -- plan, queue and frame are `&`, which is Copy: one copy goes to the callee, and the other is kept for the exit. cells, out and replies
 -- go to the core at their own lifetimes, shares and ghost names: they are given up for good.
 -- In the comments below L stands for the sixteen locals, `_15` first, each with the fact that it dies: `_i` stands 2 · (15 - i) after
@@ -39,11 +39,10 @@ use denote.Triple.Table.{entered, cited}
 use denote.Triple.Walked.{goes-none, goes-none-slice, goes-gave-slice, Walks, walked, walk-meets}
 use denote.Exit.{yes}
 use denote.Signature.{plain}
-use Rattle.queue.specs.Queue.{recordsOf}
 use Rattle.queue.proofs.record.Request as T
 use Rattle.queue.proofs.Answers.{answered}
 use Rattle.queue.proofs.Calls.{Copied, calls-copied}
-use Rattle.queue.proofs.Records.{records-typed}
+use Rattle.queue.proofs.Records.{row-typed}
 use Rattle.queue.proofs.SharedSlice.{twice}
 use Rattle.queue.proofs.copied.Symbol as copied-def
 use Rattle.queue.proofs.copied.Symbol.{name as #queue·copied}
@@ -52,22 +51,22 @@ use Rattle.desk.proofs.state.Desk as D
 use Rattle.desk.proofs.state.Desk.Laws as D′
 use Rattle.visits.proofs.visiting.VisitResult as Out
 use Rattle.visits.proofs.visiting.VisitResult.Laws as Out′
-use Rattle.visits.proofs.visit_core as core
-use Rattle.visits.proofs.visit_core.Symbol as core-def
-use Rattle.visits.proofs.visit_core.Symbol.{name as #visits·visit-core}
-use Rattle.visits.proofs.visit_core.Met as core-thm
-use Rattle.conveyor.proofs.Lent.{lent, refAt, refVal, token, desk-typed}
+use Rattle.visits.proofs.visit_by_value as core
+use Rattle.visits.proofs.visit_by_value.Symbol as core-def
+use Rattle.visits.proofs.visit_by_value.Symbol.{name as #visits·visit-by-value}
+use Rattle.visits.proofs.visit_by_value.Met as core-thm
+use Rattle.conveyor.proofs.Lent.{lent, refAt, refVal, token, waiting-fits, desk-typed}
 use Rattle.conveyor.proofs.engine.visit.Key.{name as #conveyor·engine·visit}
 use Rattle.conveyor.proofs.engine.visit as visit
 use Rattle.conveyor.proofs.engine.visit.Statement as stated
 use Rattle.conveyor.proofs.engine.visit.Code as code
-use Rattle.conveyor.proofs.engine.visit.Proof.Ends.{Entry, Fits, stayed, lfts, shares, args, vals, flat, Says, Post, exits}
+use Rattle.conveyor.proofs.engine.visit.Proof.Ends.{Entry, Fits, copy, stayed, lfts, shares, args, vals, flat, Says, Post, exits}
 use Rattle.conveyor.proofs.engine.visit.Proof.Ends.{coreTokens}
 use Rattle.conveyor.proofs.engine.visit.Proof.Core.{CoreTriple, coreLfts, core-args, to-core, goes-core}
 
 module _ {M : Type 1} (𝓤 : URA M) (H : Heap 𝓤) (A : Atoms 𝓤) (W : Given 𝓤 H A) (mem : Memory → SProp 𝓤) (run : Routine → Fun 𝓤)
     (𝓣 : Tables 𝓤 H) (known-copied : Triple 𝓤 (𝓣 .C #queue·copied) (Copied 𝓤 H A mem run))
-    (known-core : Triple 𝓤 (𝓣 .C #visits·visit-core) (CoreTriple 𝓤 H A mem run)) where
+    (known-core : Triple 𝓤 (𝓣 .C #visits·visit-by-value) (CoreTriple 𝓤 H A mem run)) where
   module _ (x : Entry) (f : Fits x) where
     walk : Room u32 (length (x .plan .now)) → Room u32 (length (x .cells .now)) → Room T.the-row (length (x .queue .now))
         → Room u32 (length (x .frame .now)) → Room u32 (length (x .out .now)) → Room u32 (length (x .replies .now))
@@ -91,10 +90,7 @@ module _ {M : Type 1} (𝓤 : URA M) (H : Heap 𝓤) (A : Atoms 𝓤) (W : Given
         pass1 ! (init ! 20 refl (tt, (tt, (record { fits = room₄ .0 }, tt)))) $
         pass1 ! (init ! 18 refl (tt, (tt, (record { fits = room₅ .0 }, tt)))) $
         pass1 ! (init ! 16 refl (tt, (tt, (record { fits = room₆ .0 }, tt)))) $ pass0 ! $
-        -- [L; the tokens; what the parameters own]: the queue's length is read
-        assigns ! (of-opd ! (load ! (from ! (fld ! refl (stop !))) (look-in ! 22 (sub ! 1 refl (whole !))))) (from ! (stop !))
-        (init ! 14 refl (tt, record { fits = f .size })) $
-        -- what the parameters own, apart, and the tokens
+        -- [L; the tokens; what the parameters own]: these apart, and the tokens
         move ! (33 ∷ []) $ fsplit ! $ move ! (1 ∷ []) $ fsplit ! $ drop ! $ fsplit ! $ move ! (1 ∷ []) $ fsplit ! $ move ! (1 ∷ []) $
         fsplit ! $ move ! (1 ∷ []) $ fsplit ! $ move ! (1 ∷ []) $ fsplit ! $ move ! (1 ∷ []) $ drop ! $
         move ! (38 ∷ []) $ split ! $ move ! (1 ∷ []) $ split ! $ move ! (1 ∷ []) $ split ! $ move ! (1 ∷ []) $ split ! $
@@ -103,16 +99,19 @@ module _ {M : Type 1} (𝓤 : URA M) (H : Heap 𝓤) (A : Atoms 𝓤) (W : Given
         -- a copy of what queue owns
         move ! (9 ∷ []) $ twice T.the-row ! (x .queue .lft) (refAt (x .queue)) (refVal (x .queue) ∷ []) $ move ! (5 ∷ 0 ∷ []) $
         calls-copied mem run (x .queue .lft) (x .queue .share) (x .queue .block) (x .queue .offset) (x .queue .name) (x .queue .now)
-        ! (fmOf 𝓤 H (W .laws) 𝓣) known-copied (and-then ! (load ! (from ! (stop !)) (look ! 34 refl)) (no-more !))
-        (λ w is.
-        land ! (from ! (stop !)) (init ! 24 refl (records-typed 𝓤 H A W (recordsOf (x .queue .now)) w is)) $
+        ! (fmOf 𝓤 H (W .laws) 𝓣) known-copied (x .state .waiting) (waiting-fits (x .state) (f .state))
+        (and-then ! (load ! (from ! (stop !)) (look ! 34 refl))
+        (and-then ! (load ! (from ! (fld ! refl (stop !))) (look-in ! 38 (sub ! 1 refl (whole !)))) (no-more !))) (λ w is.
+        land ! (from ! (stop !)) (init ! 26 refl (row-typed 𝓤 H A W (copy x) w is)) $
         -- [queue's token; what queue owns; the tokens of replies, out, frame, cells, plan; what replies, out, frame, cells, plan own;
-        -- L]: cells, out and replies are lent
+        -- L]: cells, out and replies are lent, and the queue's length is read
         assigns ! (addr ! (from ! (fld ! refl (hop ! (look-in ! 36 (sub ! 0 refl (whole !))) (stop !))))) (from ! (stop !))
-        (init ! 22 refl (tt, tt)) $
-        assigns ! (agg ! (and-then ! (load ! (from ! (stop !)) (look ! 22 refl))
+        (init ! 24 refl (tt, tt)) $
+        assigns ! (agg ! (and-then ! (load ! (from ! (stop !)) (look ! 24 refl))
         (and-then ! (load ! (from ! (fld ! refl (stop !))) (look-in ! 36 (sub ! 1 refl (whole !)))) (no-more !)))) (from ! (stop !))
-        (init ! 20 refl (tt, (tt, (record { fits = room₂ .0 }, tt)))) $
+        (init ! 22 refl (tt, (tt, (record { fits = room₂ .0 }, tt)))) $
+        assigns ! (of-opd ! (load ! (from ! (fld ! refl (stop !))) (look-in ! 34 (sub ! 1 refl (whole !))))) (from ! (stop !))
+        (init ! 20 refl (tt, record { fits = f .size })) $
         assigns ! (addr ! (from ! (fld ! refl (hop ! (look-in ! 30 (sub ! 0 refl (whole !))) (stop !))))) (from ! (stop !))
         (init ! 18 refl (tt, tt)) $
         assigns ! (agg ! (and-then ! (load ! (from ! (stop !)) (look ! 18 refl))
@@ -133,8 +132,8 @@ module _ {M : Type 1} (𝓤 : URA M) (H : Heap 𝓤) (A : Atoms 𝓤) (W : Given
         -- [what the core asks; what frame owns; what plan owns; queue's token; what queue owns; L]
         calls-at ! (fmOf 𝓤 H (W .laws) 𝓣) (CoreTriple 𝓤 H A mem run) known-core (to-core x 𝓤 H A mem run w)
         (and-then ! (load ! (from ! (stop !)) (look ! 33 refl)) (and-then ! (load ! (from ! (stop !)) (look ! 31 refl))
-        (and-then ! (load ! (from ! (stop !)) (look ! 13 refl)) (and-then ! (load ! (from ! (stop !)) (look ! 19 refl))
-        (and-then ! (load ! (from ! (stop !)) (look ! 17 refl)) (and-then ! (load ! (from ! (stop !)) (look ! 25 refl))
+        (and-then ! (load ! (from ! (stop !)) (look ! 15 refl)) (and-then ! (load ! (from ! (stop !)) (look ! 13 refl))
+        (and-then ! (load ! (from ! (stop !)) (look ! 19 refl)) (and-then ! (load ! (from ! (stop !)) (look ! 25 refl))
         (and-then ! (load ! (from ! (stop !)) (look ! 9 refl)) (and-then ! (load ! (from ! (stop !)) (look ! 5 refl))
         (no-more !))))))))) (λ u.
         answered ! tt (coreTokens x 𝓤 H A mem run) Out.the-row
@@ -143,7 +142,7 @@ module _ {M : Type 1} (𝓤 : URA M) (H : Heap 𝓤) (A : Atoms 𝓤) (W : Given
         (lasts core.ended (coreLfts x) (core-args x) zs) ⊛ raw
         (fact 𝓤 (Says x r (zs .1 .1 .0) (zs .1 .1 .1 .1 .1 .1 .0) (zs .1 .1 .1 .1 .1 .1 .1 .0))))) (id⊢ 𝓤 _) $ pick ! (λ zs.
         split ! $ move ! (1 ∷ []) $ heard ! (Says x r (zs .1 .1 .0) (zs .1 .1 .1 .1 .1 .1 .0) (zs .1 .1 .1 .1 .1 .1 .1 .0)) (λ said.
-        -- the last lists: of plan and state nothing is said; then cells; of count, records and frame nothing; then out and replies
+        -- the last lists: of plan and state nothing is said; then cells; of size, row and frame nothing; then out and replies
         fsplit ! $ drop ! $ fsplit ! $ drop ! $ fsplit ! $ fsplit ! $ move ! (1 ∷ []) $ feqL ! (λ e₂. move ! (1 ∷ []) $ fsplit ! $
         drop ! $ fsplit ! $ drop ! $ fsplit ! $ drop ! $ fsplit ! $ fsplit ! $ move ! (1 ∷ []) $ feqL ! (λ e₅. move ! (1 ∷ []) $
         fsplit ! $ fsplit ! $ move ! (1 ∷ []) $ feqL ! (λ e₆. move ! (1 ∷ []) $ drop ! $
@@ -222,5 +221,5 @@ visit-spec 𝓤 H 𝓜 𝓖 𝓡 =
     (visit-meets 𝓤 H (𝓖 .A) (givenOf 𝓤 H 𝓜 𝓖) (𝓜 .mem) (𝓡 .run) (tablesOf 𝓤 H 𝓜 (tables 𝓤 H 𝓜 𝓡 code.env))
     (cited 𝓤 H (Copied 𝓤 H (𝓖 .A) (𝓜 .mem) (𝓡 .run)) 𝓜 𝓡 code.env #queue·copied copied-def.routine code.calls-queue·copied
     (copied-thm.met 𝓤 H 𝓜 𝓖 𝓡))
-    (cited 𝓤 H (CoreTriple 𝓤 H (𝓖 .A) (𝓜 .mem) (𝓡 .run)) 𝓜 𝓡 code.env #visits·visit-core core-def.routine
-    code.calls-visits·visit-core (core-thm.met 𝓤 H 𝓜 𝓖 𝓡)))
+    (cited 𝓤 H (CoreTriple 𝓤 H (𝓖 .A) (𝓜 .mem) (𝓡 .run)) 𝓜 𝓡 code.env #visits·visit-by-value core-def.routine
+    code.calls-visits·visit-by-value (core-thm.met 𝓤 H 𝓜 𝓖 𝓡)))

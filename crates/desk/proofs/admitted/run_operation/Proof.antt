@@ -2,8 +2,9 @@
 -- Assumes nothing.
 use mathlib.Core.Path.{_≡_, _∙_, ap}
 use Rattle.plan.specs.Decode.{planOf}
-use Rattle.operation.specs.Run.{Outcome, applyUpdate, run as runOf}
-use Rattle.operation.specs.Answer.{outcomeOf}
+use Rattle.operation.specs.Store.{applyUpdate}
+use Rattle.execution.specs.Run.{Outcome, run as runOf}
+use Rattle.execution.specs.Answer.{outcomeOf}
 use Rattle.desk.specs.Queueing.{operationOf}
 use Rattle.desk.proofs.Asked.{admitted-stands, parameters-passed, run-asked}
 use borrow.Author.Needs.{needs}

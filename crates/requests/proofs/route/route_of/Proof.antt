@@ -15,26 +15,34 @@ use Rattle.requests.proofs.route.route_of.Tie as tie
 is-global-requires : tie.Need-is-global-requires
 is-global-requires c κs = search needs
 
+same-length : tie.Need-same-length
+same-length c = search needs
+
 returns : tie.Need-returns
 returns c =
-    let f = c .before .before in
-    let d = f .before .before in
+    let g = c .before .before .before in
+    let f = g .before .before in
+    let d = f .before .before .before in
     let k = classOf (planOf (d .args .plan .now)) (operationOf (d .args .request)) in
-    own-waits k (sym (c .before .is-global .ensures) ∙ c .if2 .taken) ∙ ap (λ (b : Bool). wayBy k b) (sym (f .if1 .taken))
+    own-waits k (sym (g .is-global .ensures) ∙ c .if2 .taken) ∙ ap (λ (b : Bool). wayBy k b) (sym (f .if1 .taken))
+
+same-length-2 : tie.Need-same-length-2
+same-length-2 c = search needs
 
 returns-2 : tie.Need-returns-2
 returns-2 c =
-    let f = c .before .before in
-    let d = f .before .before in
+    let g = c .before .before .before in
+    let f = g .before .before in
+    let d = f .before .before .before in
     let k = classOf (planOf (d .args .plan .now)) (operationOf (d .args .request)) in
-    own-runs k (sym (c .before .is-global .ensures) ∙ c .if2 .left) ∙ ap (λ (b : Bool). wayBy k b) (sym (f .if1 .taken))
+    own-runs k (sym (g .is-global .ensures) ∙ c .if2 .left) ∙ ap (λ (b : Bool). wayBy k b) (sym (f .if1 .taken))
 
 params-requires : tie.Need-params-requires
 params-requires c κs = search needs
 
 is-free-requires : tie.Need-is-free-requires
 is-free-requires c κs =
-    let d = c .before .before .before in (
+    let d = c .before .before .before .before in (
       d .pre .0 .admitted .planned,
       admitted-stands (d .args .plan .now) (d .args .request) (d .pre .0 .admitted) _ (d .pre .0 .place),
       parameters-passed (d .args .plan .now) (d .args .request) (d .pre .0 .admitted) _ (d .pre .0 .place) _ (c .params .ensures),
@@ -42,10 +50,10 @@ is-free-requires c κs =
 
 -- whether it is free
 found : (c : tie.After-is-free) →
-    let d = c .before .before .before .before in
+    let d = c .before .before .before .before .before in
     isFree (classOf (planOf (d .args .plan .now)) (operationOf (d .args .request))) ≡ c .is-free .result
 found c =
-    let d = c .before .before .before .before in
+    let d = c .before .before .before .before .before in
     sym (c .is-free .ensures
     ∙ ap isFree (class-asked (d .args .plan .now) (d .args .request) (d .pre .0 .admitted) _ (d .pre .0 .place) _
     (c .before .params .ensures)))
@@ -53,14 +61,14 @@ found c =
 returns-3 : tie.Need-returns-3
 returns-3 c =
     let f = c .before .before .before in
-    let d = f .before .before in
+    let d = f .before .before .before in
     let k = classOf (planOf (d .args .plan .now)) (operationOf (d .args .request)) in
     free-runs k (found (c .before) ∙ c .if3 .taken) ∙ ap (λ (b : Bool). wayBy k b) (sym (f .if1 .left))
 
 returns-4 : tie.Need-returns-4
 returns-4 c =
     let f = c .before .before .before in
-    let d = f .before .before in
+    let d = f .before .before .before in
     let k = classOf (planOf (d .args .plan .now)) (operationOf (d .args .request)) in
     other-leaves k (found (c .before) ∙ c .if3 .left) ∙ ap (λ (b : Bool). wayBy k b) (sym (f .if1 .left))
 
@@ -69,7 +77,9 @@ route-of-spec =
     tie.close
     (tie.spec
     is-global-requires
+    same-length
     returns
+    same-length-2
     returns-2
     params-requires
     is-free-requires

@@ -11,23 +11,14 @@ Inv-loop m₀ i₀ i-end m i = 0 ≤ i
 abbrev μ-loop : tie.MeasureT-loop
 μ-loop m₀ i₀ i-end m i = i-end - i
 
-get-requires : tie.Need-get-requires Inv-loop μ-loop
-get-requires c κs = search needs
+size-requires : tie.Need-size-requires Inv-loop μ-loop
+size-requires c κs = search needs
 
-cast-i : tie.Need-cast-i Inv-loop μ-loop
-cast-i c = search needs
-
-get-requires-2 : tie.Need-get-requires-2 Inv-loop μ-loop
-get-requires-2 c κs = search needs
-
-cast-i-end : tie.Need-cast-i-end Inv-loop μ-loop
-cast-i-end c = search needs
+size-requires-2 : tie.Need-size-requires-2 Inv-loop μ-loop
+size-requires-2 c κs = search needs
 
 loop-holds : tie.Need-loop-holds Inv-loop μ-loop
 loop-holds c = search needs
-
-add-on : tie.Need-add-on Inv-loop μ-loop
-add-on c = search needs
 
 mul-on : tie.Need-mul-on Inv-loop μ-loop
 mul-on c = search needs
@@ -59,12 +50,9 @@ set-records-spec =
     (tie.spec
     Inv-loop
     μ-loop
-    get-requires
-    cast-i
-    get-requires-2
-    cast-i-end
+    size-requires
+    size-requires-2
     loop-holds
-    add-on
     mul-on
     on-requires
     copy-requires

@@ -4,6 +4,9 @@ use Prim.Native.Nat.{_-_, _≤_}
 use borrow.Author.Needs.{needs}
 use Rattle.script.proofs.interpreter.run.Statement.{statement}
 use Rattle.script.proofs.interpreter.run.Tie as tie
+use Rattle.script.proofs.interpreter.begin_line.Reads as begin-line-reads
+use Rattle.script.proofs.interpreter.run_block.Reads as run-block-reads
+use Rattle.script.proofs.layout.install_marks.Reads as install-marks-reads
 
 abbrev Inv-loop : tie.InvT-loop
 Inv-loop m₀ -turn₀ m -turn = -turn ≤ 281474976710655
@@ -20,8 +23,8 @@ install-marks-requires c κs = search needs
 reset-requires : tie.Need-reset-requires Inv-loop μ-loop
 reset-requires c κs = search needs
 
-clear-requires : tie.Need-clear-requires Inv-loop μ-loop
-clear-requires c κs = search needs
+begin-line-requires : tie.Need-begin-line-requires Inv-loop μ-loop
+begin-line-requires c κs = search needs
 
 loop-holds : tie.Need-loop-holds Inv-loop μ-loop
 loop-holds c = search needs
@@ -56,7 +59,7 @@ run-spec =
     install-requires
     install-marks-requires
     reset-requires
-    clear-requires
+    begin-line-requires
     loop-holds
     run-block-requires
     add--turn

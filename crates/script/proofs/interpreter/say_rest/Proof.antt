@@ -4,6 +4,7 @@ use Prim.Native.Nat.{_-_, _≤_}
 use borrow.Author.Needs.{needs}
 use Rattle.script.proofs.interpreter.say_rest.Statement.{statement}
 use Rattle.script.proofs.interpreter.say_rest.Tie as tie
+use Rattle.script.proofs.scanner.byte_at.Reads as byte-at-reads
 
 abbrev Inv-loop : tie.InvT-loop
 Inv-loop m₀ i₀ i-end m i = 0 ≤ i
@@ -11,20 +12,23 @@ Inv-loop m₀ i₀ i-end m i = 0 ≤ i
 abbrev μ-loop : tie.MeasureT-loop
 μ-loop m₀ i₀ i-end m i = i-end - i
 
-end-requires : tie.Need-end-requires Inv-loop μ-loop
-end-requires c κs = search needs
+size-requires : tie.Need-size-requires Inv-loop μ-loop
+size-requires c κs = search needs
 
 on-requires : tie.Need-on-requires Inv-loop μ-loop
 on-requires c κs = search needs
 
-length-requires : tie.Need-length-requires Inv-loop μ-loop
-length-requires c κs = search needs
+size-requires-2 : tie.Need-size-requires-2 Inv-loop μ-loop
+size-requires-2 c κs = search needs
 
 loop-holds : tie.Need-loop-holds Inv-loop μ-loop
 loop-holds c = search needs
 
 byte-at-requires : tie.Need-byte-at-requires Inv-loop μ-loop
 byte-at-requires c κs = search needs
+
+cast-byte : tie.Need-cast-byte Inv-loop μ-loop
+cast-byte c = search needs
 
 byte-requires : tie.Need-byte-requires Inv-loop μ-loop
 byte-requires c κs = search needs
@@ -47,11 +51,12 @@ say-rest-spec =
     (tie.spec
     Inv-loop
     μ-loop
-    end-requires
+    size-requires
     on-requires
-    length-requires
+    size-requires-2
     loop-holds
     byte-at-requires
+    cast-byte
     byte-requires
     add-i
     loop-less

@@ -4,12 +4,13 @@ use Prim.Native.Nat.{_-_, _≤_}
 use borrow.Author.Needs.{needs}
 use Rattle.script.proofs.memory.differences.Statement.{statement}
 use Rattle.script.proofs.memory.differences.Tie as tie
+use Rattle.std.proofs.num.wrapping_add_u32.Reads as wrapping-add-u32-reads
 
 abbrev Inv-loop : tie.InvT-loop
-Inv-loop m a b words found₀ i₀ found i = i ≤ words
+Inv-loop m a b from to found₀ i₀ found i = 0 ≤ i
 
 abbrev μ-loop : tie.MeasureT-loop
-μ-loop m a b words found₀ i₀ found i = words - i
+μ-loop m a b from to found₀ i₀ found i = to - i
 
 loop-holds : tie.Need-loop-holds Inv-loop μ-loop
 loop-holds c = search needs

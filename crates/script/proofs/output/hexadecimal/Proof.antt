@@ -23,8 +23,17 @@ sub-digit c = search needs
 shr-digit : tie.Need-shr-digit Inv-loop μ-loop
 shr-digit c = search needs
 
-digit-requires : tie.Need-digit-requires Inv-loop μ-loop
-digit-requires c κs = search needs
+add-byte : tie.Need-add-byte Inv-loop μ-loop
+add-byte c = search needs
+
+mul-byte : tie.Need-mul-byte Inv-loop μ-loop
+mul-byte c = search needs
+
+add-byte-2 : tie.Need-add-byte-2 Inv-loop μ-loop
+add-byte-2 c = search needs
+
+cast-byte : tie.Need-cast-byte Inv-loop μ-loop
+cast-byte c = search needs
 
 byte-requires : tie.Need-byte-requires Inv-loop μ-loop
 byte-requires c κs = search needs
@@ -51,7 +60,10 @@ hexadecimal-spec =
     mul-digit
     sub-digit
     shr-digit
-    digit-requires
+    add-byte
+    mul-byte
+    add-byte-2
+    cast-byte
     byte-requires
     add-i
     loop-less

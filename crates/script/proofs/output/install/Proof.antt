@@ -4,6 +4,7 @@ use Prim.Native.Nat.{_-_, _≤_}
 use borrow.Author.Needs.{needs}
 use Rattle.script.proofs.output.install.Statement.{statement}
 use Rattle.script.proofs.output.install.Tie as tie
+use Rattle.script.proofs.output.install_byte.Reads as install-byte-reads
 
 abbrev Inv-loop : tie.InvT-loop
 Inv-loop m₀ texts i₀ i-end m i = i ≤ i-end
@@ -17,11 +18,8 @@ loop-holds c = search needs
 on-requires : tie.Need-on-requires Inv-loop μ-loop
 on-requires c κs = search needs
 
-shared-slice-read-word-of : tie.Need-shared-slice-read-word-of Inv-loop μ-loop
-shared-slice-read-word-of c = search needs
-
-word-of-requires : tie.Need-word-of-requires Inv-loop μ-loop
-word-of-requires c κs = search needs
+shared-slice-read-install-byte : tie.Need-shared-slice-read-install-byte Inv-loop μ-loop
+shared-slice-read-install-byte c = search needs
 
 install-byte-requires : tie.Need-install-byte-requires Inv-loop μ-loop
 install-byte-requires c κs = search needs
@@ -46,8 +44,7 @@ install-spec =
     μ-loop
     loop-holds
     on-requires
-    shared-slice-read-word-of
-    word-of-requires
+    shared-slice-read-install-byte
     install-byte-requires
     add-i
     loop-less

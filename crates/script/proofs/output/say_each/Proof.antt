@@ -4,6 +4,7 @@ use Prim.Native.Nat.{_-_, _≤_}
 use borrow.Author.Needs.{needs}
 use Rattle.script.proofs.output.say_each.Statement.{statement}
 use Rattle.script.proofs.output.say_each.Tie as tie
+use Rattle.script.proofs.output.say_item.Reads as say-item-reads
 
 abbrev Inv-loop : tie.InvT-loop
 Inv-loop m₀ text place size count at₀ i₀ m at i = i ≤ count
@@ -29,6 +30,12 @@ loop-less c = search needs
 loop-again : tie.Need-loop-again Inv-loop μ-loop
 loop-again c = search needs
 
+narrow-requires : tie.Need-narrow-requires Inv-loop μ-loop
+narrow-requires c κs = search needs
+
+put-requires : tie.Need-put-requires Inv-loop μ-loop
+put-requires c κs = search needs
+
 returns : tie.Need-returns Inv-loop μ-loop
 returns c = search needs
 
@@ -44,4 +51,6 @@ say-each-spec =
     add-i
     loop-less
     loop-again
+    narrow-requires
+    put-requires
     returns)

@@ -4,6 +4,7 @@ use Prim.Native.Nat.{_-_, _≤_}
 use borrow.Author.Needs.{needs}
 use Rattle.script.proofs.scanner.scan.Statement.{statement}
 use Rattle.script.proofs.scanner.scan.Tie as tie
+use Rattle.script.proofs.scanner.byte_at.Reads as byte-at-reads
 
 abbrev Inv-loop : tie.InvT-loop
 Inv-loop m base most value₀ i₀ i-end value i = 0 ≤ i
@@ -11,11 +12,11 @@ Inv-loop m base most value₀ i₀ i-end value i = 0 ≤ i
 abbrev μ-loop : tie.MeasureT-loop
 μ-loop m base most value₀ i₀ i-end value i = i-end - i
 
-start-requires : tie.Need-start-requires Inv-loop μ-loop
-start-requires c κs = search needs
+size-requires : tie.Need-size-requires Inv-loop μ-loop
+size-requires c κs = search needs
 
-end-requires : tie.Need-end-requires Inv-loop μ-loop
-end-requires c κs = search needs
+size-requires-2 : tie.Need-size-requires-2 Inv-loop μ-loop
+size-requires-2 c κs = search needs
 
 loop-holds : tie.Need-loop-holds Inv-loop μ-loop
 loop-holds c = search needs
@@ -44,11 +45,11 @@ loop-less c = search needs
 loop-again : tie.Need-loop-again Inv-loop μ-loop
 loop-again c = search needs
 
-start-requires-2 : tie.Need-start-requires-2 Inv-loop μ-loop
-start-requires-2 c κs = search needs
+size-requires-3 : tie.Need-size-requires-3 Inv-loop μ-loop
+size-requires-3 c κs = search needs
 
-end-requires-2 : tie.Need-end-requires-2 Inv-loop μ-loop
-end-requires-2 c κs = search needs
+size-requires-4 : tie.Need-size-requires-4 Inv-loop μ-loop
+size-requires-4 c κs = search needs
 
 returns-2 : tie.Need-returns-2 Inv-loop μ-loop
 returns-2 c = search needs
@@ -59,8 +60,8 @@ scan-spec =
     (tie.spec
     Inv-loop
     μ-loop
-    start-requires
-    end-requires
+    size-requires
+    size-requires-2
     loop-holds
     byte-at-requires
     digit-requires
@@ -70,6 +71,6 @@ scan-spec =
     add-i
     loop-less
     loop-again
-    start-requires-2
-    end-requires-2
+    size-requires-3
+    size-requires-4
     returns-2)

@@ -5,7 +5,7 @@ use mathlib.Core.List.{List}
 use Prim.Native.Nat.{ℕ, _+_, _-_, _*_, _≤_}
 use native.Mathlib.Omega.{arith}
 use lib.ListN.{length, set, length-set}
-use Rattle.token.specs.Frame.{updateHead}
+use Rattle.frame.specs.Frame.{updateHead}
 use Rattle.token.proofs.Written.{filledTo, filled-none, filled-next, filled-all, held-words}
 use borrow.Author.Needs.{needs}
 use Rattle.token.proofs.writer.write_update.Statement.{statement}

@@ -9,6 +9,7 @@ use Rattle.lists.proofs.Laws.{take-remainder}
 use Rattle.plan.specs.Decode.{planOf}
 use Rattle.plan.proofs.Accepted.{accepted-gives, desk-count}
 use Rattle.token.specs.Forward.{foreignWords}
+use Rattle.queue.specs.Words.{recordsIn}
 use Rattle.desk.specs.Holding.{holding}
 use Rattle.desk.specs.Queueing.{waitingIn}
 use Rattle.visits.specs.Running.{allMade}
@@ -21,7 +22,7 @@ use Rattle.visits.proofs.accepted.accepted_visit.Tie as tie
 
 -- the start of the visit, behind the call that forwards
 abbrev start-of : tie.After-forward-foreign → tie.Start
-start-of c = c .before .before .before .before .before .before .before .before .before .before .before
+start-of c = c .before .before .before .before .before .before .before .before .before .before .before .before
 
 -- that call, behind the one that runs the waiting requests
 abbrev forwards : tie.After-run-waiting → tie.After-forward-foreign
@@ -36,36 +37,36 @@ cast-waiting c = search needs
 
 adm : (c : tie.Start)
     → let a = c .args in
-    Passable (a .plan .now) (holding (a .state) (a .cells .now) (a .records)) (a .frame .now) (a .out .now) (a .replies .now)
+    Passable (a .plan .now) (holding (a .state) (a .cells .now) (recordsIn (a .row .now))) (a .frame .now) (a .out .now) (a .replies .now)
 adm c = questions-give _ _ _ _ _ (c .pre .0)
 
 low : (c : tie.Start) → 4 ≤ length (c .args .frame .now)
 low c = frame-size _ _ (adm c .frame) .0
 
 sub-sums : tie.Need-sub-sums
-sub-sums c = omega (arith, low (c .before .before .before .before .before .before .before))
+sub-sums c = omega (arith, low (c .before .before .before .before .before .before .before .before))
 
 sub-body : tie.Need-sub-body
-sub-body c = omega (arith, low (c .before .before .before .before .before .before .before))
+sub-body c = omega (arith, low (c .before .before .before .before .before .before .before .before))
 
 part-body-start : tie.Need-part-body-start
-part-body-start c = omega (arith, low (c .before .before .before .before .before .before .before))
+part-body-start c = omega (arith, low (c .before .before .before .before .before .before .before .before))
 
 part-body-end : tie.Need-part-body-end
-part-body-end c = omega (arith, low (c .before .before .before .before .before .before .before))
+part-body-end c = omega (arith, low (c .before .before .before .before .before .before .before .before))
 
 sub-forward-foreign : tie.Need-sub-forward-foreign
-sub-forward-foreign c = omega (arith, adm (c .before .before .before .before .before .before .before .before .before) .room)
+sub-forward-foreign c = omega (arith, adm (c .before .before .before .before .before .before .before .before .before .before) .room)
 
 part-forward-foreign-start : tie.Need-part-forward-foreign-start
-part-forward-foreign-start c = omega (arith, adm (c .before .before .before .before .before .before .before .before .before) .room)
+part-forward-foreign-start c = omega (arith, adm (c .before .before .before .before .before .before .before .before .before .before) .room)
 
 part-forward-foreign-end : tie.Need-part-forward-foreign-end
-part-forward-foreign-end c = omega (arith, adm (c .before .before .before .before .before .before .before .before .before) .room)
+part-forward-foreign-end c = omega (arith, adm (c .before .before .before .before .before .before .before .before .before .before) .room)
 
 forward-foreign-requires : tie.Need-forward-foreign-requires
 forward-foreign-requires c κs =
-    let s = c .before .before .before .before .before .before .before .before .before .before in
+    let s = c .before .before .before .before .before .before .before .before .before .before .before in
     (written _ _ _ _ _ (adm s) _ (part-is (s .args .frame .now)), body-room _ _ _ _ _ (adm s) _ (part-is (s .args .frame .now)))
 
 -- the others' words behind words 0 and 1
@@ -73,7 +74,7 @@ copied : (c : tie.After-forward-foreign)
     → let a = start-of c .args in
     let o = a .out .now in
     Copied o (foreignWords (a .state .desk) (take (length (a .frame .now) - 2 - 2) (drop 2 (a .frame .now))))
-    (allMade (planOf (a .plan .now)) (a .state .desk) (waitingIn (a .state .waiting) (a .records))
+    (allMade (planOf (a .plan .now)) (a .state .desk) (waitingIn (a .state .waiting) (recordsIn (a .row .now)))
     (c .forward-foreign .last .1 .1 .0))
     (putMid 2 (length o - 2) o (c .forward-foreign .last .1 .1 .1 .0)) (2 + c .forward-foreign .result)
 copied c =
@@ -122,7 +123,7 @@ joined : (c : tie.After-run-waiting)
     let o1 = putMid 2 (length o - 2) o (k .forward-foreign .last .1 .1 .1 .0) in
     let n = 2 + k .forward-foreign .result in
     Joined o (foreignWords (a .state .desk) (take (length (a .frame .now) - 2 - 2) (drop 2 (a .frame .now))))
-    (allMade (planOf (a .plan .now)) (a .state .desk) (waitingIn (a .state .waiting) (a .records))
+    (allMade (planOf (a .plan .now)) (a .state .desk) (waitingIn (a .state .waiting) (recordsIn (a .row .now)))
     (k .forward-foreign .last .1 .1 .0))
     o1 n (putMid n (length o1 - n) o1 (c .run-waiting .last .1 .1 .1 .1 .1 .1 .0)) (n + c .run-waiting .result)
 joined c =

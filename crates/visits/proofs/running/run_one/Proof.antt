@@ -5,9 +5,10 @@ use native.Mathlib.Omega.{arith}
 use lib.ListN.{length}
 use Rattle.lists.specs.Lists.{overwritten}
 use Rattle.plan.specs.Decode.{planOf}
-use Rattle.operation.specs.Answer.{outcomeOf}
-use Rattle.operation.specs.Run.{Outcome, run, applyUpdate}
-use Rattle.token.specs.Frame.{sent, updateWords}
+use Rattle.execution.specs.Answer.{outcomeOf}
+use Rattle.operation.specs.Store.{applyUpdate}
+use Rattle.execution.specs.Run.{Outcome, run}
+use Rattle.frame.specs.Frame.{sent, updateWords}
 use Rattle.desk.specs.Queueing.{operationOf}
 use Rattle.visits.specs.Waiting.{answered, replyWords}
 use Rattle.desk.proofs.Asked.{admitted-stands, parameters-passed, run-asked}

@@ -23,20 +23,18 @@ use denote.Steps.{owned, nothing}
 use denote.Struct.Laws as LL
 use denote.Triple.Spec.{tripleOf}
 use denote.Triple.Statement.{Contract}
-use Rattle.queue.specs.declared.record.Request.{Request}
-use Rattle.queue.specs.Queue.{recordsOf}
 use Rattle.queue.proofs.record.Request as T
-use Rattle.queue.proofs.Records.{Records, requestVal, records-makes}
+use Rattle.queue.proofs.Records.{Row, requestVal, row-makes}
 use Rattle.desk.specs.declared.state.Desk.{Desk}
 use Rattle.requests.specs.declared.asking.RequestStep.{RequestStep}
 use Rattle.desk.proofs.state.Desk as D
 use Rattle.requests.proofs.asking.RequestResult as R
 use Rattle.requests.proofs.asking.RequestStep as S
 use Rattle.requests.proofs.asking.RequestStep.Laws as S′
-use Rattle.requests.proofs.request_step as core
+use Rattle.requests.proofs.request_by_value as core
 use Rattle.conveyor.proofs.Lent.{Params, refAt, refVal, token, Reads, Writes, deskVal, desk-makes, params-makes, word-makes}
 use Rattle.conveyor.proofs.Lent.{size-makes}
-use Rattle.conveyor.proofs.engine.request.Proof.Ends.{Entry, Fits, resultVal}
+use Rattle.conveyor.proofs.engine.request.Proof.Ends.{Entry, Fits, copy, resultVal}
 
 module _ {M : Type 1} (𝓤 : URA M) (H : Heap 𝓤) (A : Atoms 𝓤) (mem : Memory → SProp 𝓤) (run : Routine → Fun 𝓤) where
   abbrev pub CoreTriple : Contract 𝓤
@@ -55,7 +53,7 @@ module _ (x : Entry) where
   coreLfts = (x .plan .lft, (x .cells .lft, tt))
 
   abbrev pub CoreArgs : Type 0
-  CoreArgs = RefT (List ℕ) × (Desk × (RefT (List ℕ) × (ℕ × (List Request × (ℕ × (ℕ × (List ℕ × Unit {0})))))))
+  CoreArgs = RefT (List ℕ) × (Desk × (RefT (List ℕ) × (ℕ × (List ℕ × (ℕ × (ℕ × (List ℕ × Unit {0})))))))
 
   abbrev pub core-args : CoreArgs
   core-args = (
@@ -64,13 +62,7 @@ module _ (x : Entry) where
       x .state,
       (
         refAt (x .cells),
-        (
-          length (x .queue .now),
-          (
-            recordsOf (x .queue .now),
-            (x .client, (x .transaction, (x .params, tt))),
-          ),
-        ),
+        (length (x .queue .now), (copy x, (x .client, (x .transaction, (x .params, tt))))),
       ),
     ),
   )
@@ -100,7 +92,7 @@ module _ (x : Entry) where
       tt,
     )
 
-    pub goes-core : Given 𝓤 H A → Fits x → (w : Val) → Is Records (recordsOf (x .queue .now)) (w ∷ [])
+    pub goes-core : Given 𝓤 H A → Fits x → (w : Val) → Is Row (copy x) (w ∷ [])
         → ent 𝓤 (⋆ 𝓤 H A (‵ (token (x .plan)) ∷ ‵ (token (x .cells)) ∷ ‵ (Reads (x .plan)) ∷ ‵ (Writes (x .cells)) ∷ []))
         (CoreTriple 𝓤 H A mem run .pre (to-core w))
     goes-core W f w is =
@@ -108,7 +100,7 @@ module _ (x : Entry) where
         nothing ! $ owned ! Params (Is Params) (params-makes 𝓤 H A W) (x .params) _ (f .params) $ fjoin ! $
         owned ! u32 (Is u32) (word-makes 𝓤 H A W) (x .transaction) _ (refl, f .transaction) $ fjoin ! $
         owned ! u32 (Is u32) (word-makes 𝓤 H A W) (x .client) _ (refl, f .client) $ fjoin ! $
-        owned ! Records (Is Records) (records-makes 𝓤 H A W) (recordsOf (x .queue .now)) _ is $ fjoin ! $
+        owned ! Row (Is Row) (row-makes 𝓤 H A W) (copy x) _ is $ fjoin ! $
         owned ! usize (Is usize) (size-makes 𝓤 H A W) (length (x .queue .now)) _ (refl, f .size) $ fjoin ! $
         move ! (4 ∷ 0 ∷ []) $ fjoin ! $ owned ! D.the-row (Is D.the-row) (desk-makes 𝓤 H A W) (x .state) _ (f .state) $ fjoin ! $
         move ! (3 ∷ 0 ∷ []) $ fjoin ! $

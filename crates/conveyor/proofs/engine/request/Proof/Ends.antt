@@ -1,6 +1,6 @@
 -- Where the walk of `conveyor::request` begins and ends: what it is handed, and from what is had at exit to the `post` of `walkOf`.
 -- Assumes nothing.
-use mathlib.Core.Path.{_≡_, refl}
+use mathlib.Core.Path.{_≡_, refl, sym}
 use Prim.Native.Nat.{ℕ, _<_, _^_}
 use mathlib.Core.List.{List, [], _∷_}
 use lib.ListN.{length, set, length-set}
@@ -25,14 +25,17 @@ use denote.Triple.Walked.{says, Stays, stay-none, stay-none-slice, gave-slice, w
 use denote.Exit.{yes}
 use denote.Signature.{plain}
 use Rattle.queue.specs.declared.record.Request.{Request}
-use Rattle.queue.specs.Queue.{recordsOf}
+use Rattle.queue.specs.Words.{queueOf, storedFirst}
+use Rattle.queue.proofs.Copying.{waiting-records}
 use Rattle.queue.proofs.record.Request as T
 use Rattle.desk.specs.declared.state.Desk.{Desk}
 use Rattle.desk.specs.Holding.{holding}
 use Rattle.requests.specs.declared.asking.RequestResult.{RequestResult}
 use Rattle.requests.specs.declared.asking.RequestStep.{RequestStep}
 use Rattle.requests.specs.Request.{recordOf, requestResult}
-use Rattle.requests.specs.Step.{steppedOf}
+use Rattle.requests.specs.Answer.{responseOf}
+use Rattle.requests.specs.Step.{steppedOf, storePlace}
+use Rattle.requests.proofs.Stored.{by-waiting-records}
 use Rattle.desk.proofs.state.Desk as D
 use Rattle.requests.proofs.asking.RequestResult as R
 use Rattle.requests.proofs.asking.RequestResult.Laws as R′
@@ -78,6 +81,14 @@ pub record Fits (x : Entry) : Type 0 where
   pub params : Is Params (x .params) (x .paramsVal ∷ [])
 
 module _ (x : Entry) where
+  -- the words of the records that wait
+  abbrev pub copy : List ℕ
+  copy = storedFirst (x .state .waiting) (x .queue .now)
+
+  -- the record that is asked for
+  abbrev asked : Request
+  asked = recordOf (x .client) (x .transaction) (x .params)
+
   abbrev pub lfts : Lft × (Lft × (Lft × Unit {0}))
   lfts = (x .plan .lft, (x .cells .lft, (x .queue .lft, tt)))
 
@@ -110,10 +121,21 @@ module _ (x : Entry) where
       vint w32 (x .transaction) ∷ x .paramsVal ∷ []
 
   -- what the core says of its step and of the store that it left
-  abbrev pub Says : RequestStep → List ℕ → Type 0
-  Says s cells′ = (zs : List Request) → length zs ≡ length (x .queue .now) → recordsOf zs ≡ recordsOf (x .queue .now)
-      → steppedOf s cells′ zs ≡ requestResult (x .plan .now) (holding (x .state) (x .cells .now) zs)
-      (recordOf (x .client) (x .transaction) (x .params))
+  abbrev pub Steps : RequestStep → List ℕ → Type 0
+  Steps s cells′ =
+      steppedOf s cells′ (queueOf (length (x .queue .now)) copy) ≡ requestResult (x .plan .now)
+      (holding (x .state) (x .cells .now) (queueOf (length (x .queue .now)) copy)) asked
+
+  abbrev pub Places : RequestStep → Type 0
+  Places s =
+      (s .request ≡ asked) × (s .place ≡ storePlace (responseOf (s .result .answer)) (x .state .waiting) (length (x .queue .now)))
+
+  -- so it is the step of the queue itself
+  stepped : (s : RequestStep) (cells′ : List ℕ) → Steps s cells′ → Places s
+      → steppedOf s cells′ (x .queue .now) ≡ requestResult (x .plan .now) (holding (x .state) (x .cells .now) (x .queue .now)) asked
+  stepped s cells′ said placed =
+      by-waiting-records (x .plan .now) (x .state) (x .cells .now) (length (x .queue .now)) copy asked s cells′ said placed
+      (x .queue .now) refl (λ long few. sym (waiting-records (x .queue .now) (x .state .waiting) long few))
 
   module _ {M : Type 1} (𝓤 : URA M) (H : Heap 𝓤) (A : Atoms 𝓤) (mem : Memory → SProp 𝓤) (run : Routine → Fun 𝓤) where
     abbrev pub bound : walkOf 𝓤 H A request.ended stayed (request.clauses 𝓤 H A mem run) .Ghost
@@ -122,18 +144,18 @@ module _ (x : Entry) where
     abbrev pub Post : Val → SProp 𝓤
     Post = walkOf 𝓤 H A request.ended stayed (request.clauses 𝓤 H A mem run) .post bound
 
-    pub exits : Given 𝓤 H A → Fits x → (c : RequestStep) (cells′ : List ℕ) → Says c cells′ → length cells′ ≡ length (x .cells .now)
-        → Is R.the-row (c .result) (resultVal (c .result) ∷ [])
+    pub exits : Given 𝓤 H A → Fits x → (c : RequestStep) (cells′ : List ℕ) → Steps c cells′ → Places c
+        → length cells′ ≡ length (x .cells .now) → Is R.the-row (c .result) (resultVal (c .result) ∷ [])
         → ent 𝓤 (⋆ 𝓤 H A (‵ (token (x .queue)) ∷ ‵ (finally T.the-row (x .queue .name) (set (x .queue .now) (c .place) (c .request))) ∷
         ‵ (finally u32 (x .cells .name) cells′) ∷ (‵ (token (x .plan)) ⊛ ‵ (token (x .cells)) ⊛ ‵ ftrue) ∷ ‵ (Reads (x .plan)) ∷ []))
         (Post (resultVal (c .result)))
-    exits W f c cells′ said same is =
+    exits W f c cells′ said placed same is =
         qed W (‵ (token (x .queue)) ∷ ‵ (finally T.the-row (x .queue .name) (set (x .queue .now) (c .place) (c .request))) ∷
         ‵ (finally u32 (x .cells .name) cells′) ∷ (‵ (token (x .plan)) ⊛ ‵ (token (x .cells)) ⊛ ‵ ftrue) ∷ ‵ (Reads (x .plan)) ∷ []) ∵
         suffices ! _ (ends-at 𝓤 H A request.ended stayed (request.clauses 𝓤 H A mem run) W bound (resultVal (c .result)) (c .result)
         (tt, (tt, (cells′, (set (x .queue .now) (c .place) (c .request), (tt, (tt, (tt, tt)))))))
         (tt, (tt, (same, (length-set (x .queue .now) (c .place) (c .request), (tt, (tt, (tt, tt)))))))) $
-        says ! (said (x .queue .now) refl refl) $
+        says ! (stepped c cells′ said placed) $
         -- the tokens, in the signature's order
         move ! (3 ∷ []) $ split ! $ move ! (1 ∷ []) $ split ! $ move ! (3 ∷ 1 ∷ []) $ join ! $ move ! (1 ∷ 0 ∷ []) $ join ! $
         move ! (1 ∷ 0 ∷ []) $ join ! $ frame ! $

@@ -21,14 +21,12 @@ use denote.Builtin.{usize}
 use denote.Steps.{owned, nothing}
 use denote.Triple.Spec.{tripleOf}
 use denote.Triple.Statement.{Contract}
-use Rattle.queue.specs.declared.record.Request.{Request}
-use Rattle.queue.specs.Queue.{recordsOf}
-use Rattle.queue.proofs.Records.{Records, records-makes}
+use Rattle.queue.proofs.Records.{Row, row-makes}
 use Rattle.desk.specs.declared.state.Desk.{Desk}
 use Rattle.desk.proofs.state.Desk as D
-use Rattle.visits.proofs.visit_core as core
+use Rattle.visits.proofs.visit_by_value as core
 use Rattle.conveyor.proofs.Lent.{refAt, refVal, token, Reads, Writes, deskVal, desk-makes, size-makes}
-use Rattle.conveyor.proofs.engine.visit.Proof.Ends.{Entry, Fits, Words}
+use Rattle.conveyor.proofs.engine.visit.Proof.Ends.{Entry, Fits, copy, Words}
 
 module _ {M : Type 1} (𝓤 : URA M) (H : Heap 𝓤) (A : Atoms 𝓤) (mem : Memory → SProp 𝓤) (run : Routine → Fun 𝓤) where
   abbrev pub CoreTriple : Contract 𝓤
@@ -39,7 +37,7 @@ module _ (x : Entry) where
   coreLfts = (x .plan .lft, (x .cells .lft, (x .frame .lft, (x .out .lft, (x .replies .lft, tt)))))
 
   abbrev pub CoreArgs : Type 0
-  CoreArgs = Words x × (Desk × (Words x × (ℕ × (List Request × (Words x × (Words x × (Words x × Unit {0})))))))
+  CoreArgs = Words x × (Desk × (Words x × (ℕ × (List ℕ × (Words x × (Words x × (Words x × Unit {0})))))))
 
   abbrev pub core-args : CoreArgs
   core-args = (
@@ -50,7 +48,7 @@ module _ (x : Entry) where
         refAt (x .cells),
         (
           length (x .queue .now),
-          (recordsOf (x .queue .now), (refAt (x .frame), (refAt (x .out), (refAt (x .replies), tt)))),
+          (copy x, (refAt (x .frame), (refAt (x .out), (refAt (x .replies), tt)))),
         ),
       ),
     ),
@@ -86,12 +84,12 @@ module _ (x : Entry) where
     Asks = ‵ (token (x .plan)) ∷ ‵ (token (x .cells)) ∷ ‵ (token (x .frame)) ∷ ‵ (token (x .out)) ∷ ‵ (token (x .replies)) ∷
         ‵ (Reads (x .plan)) ∷ ‵ (Writes (x .cells)) ∷ ‵ (Reads (x .frame)) ∷ ‵ (Writes (x .out)) ∷ ‵ (Writes (x .replies)) ∷ []
 
-    pub goes-core : Given 𝓤 H A → Fits x → (w : Val) → Is Records (recordsOf (x .queue .now)) (w ∷ [])
+    pub goes-core : Given 𝓤 H A → Fits x → (w : Val) → Is Row (copy x) (w ∷ [])
         → ent 𝓤 (⋆ 𝓤 H A Asks) (CoreTriple 𝓤 H A mem run .pre (to-core w))
     goes-core W f w is =
         qed W Asks ∵
         nothing ! $ move ! (10 ∷ 0 ∷ []) $ fjoin ! $ move ! (9 ∷ 0 ∷ []) $ fjoin ! $ move ! (8 ∷ 0 ∷ []) $ fjoin ! $
-        owned ! Records (Is Records) (records-makes 𝓤 H A W) (recordsOf (x .queue .now)) _ is $ fjoin ! $
+        owned ! Row (Is Row) (row-makes 𝓤 H A W) (copy x) _ is $ fjoin ! $
         owned ! usize (Is usize) (size-makes 𝓤 H A W) (length (x .queue .now)) _ (refl, f .size) $ fjoin ! $
         move ! (7 ∷ 0 ∷ []) $ fjoin ! $
         owned ! D.the-row (Is D.the-row) (desk-makes 𝓤 H A W) (x .state) _ (f .state) $ fjoin ! $

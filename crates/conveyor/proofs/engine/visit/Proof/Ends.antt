@@ -1,6 +1,6 @@
 -- Where the walk of `conveyor::visit` begins and ends: what it is handed, and from what is had at exit to the `post` of `walkOf`.
 -- Assumes nothing.
-use mathlib.Core.Path.{_≡_, refl}
+use mathlib.Core.Path.{_≡_, refl, sym, _∙_}
 use Prim.Native.Nat.{ℕ, _<_, _^_}
 use mathlib.Core.List.{List, [], _∷_}
 use lib.ListN.{length}
@@ -24,7 +24,8 @@ use denote.Triple.Walked.{says, Stays, stay-none, stay-none-slice, gave-slice, w
 use denote.Exit.{yes}
 use denote.Signature.{plain}
 use Rattle.queue.specs.declared.record.Request.{Request}
-use Rattle.queue.specs.Queue.{recordsOf}
+use Rattle.queue.specs.Words.{queueOf, storedFirst}
+use Rattle.queue.proofs.Copying.{waiting-records}
 use Rattle.queue.proofs.record.Request as T
 use Rattle.queue.proofs.Records.{Shared}
 use Rattle.desk.specs.declared.state.Desk.{Desk}
@@ -33,6 +34,7 @@ use Rattle.visits.specs.declared.visiting.VisitResult.{VisitResult}
 use Rattle.visits.specs.Visit.{visitResult}
 use Rattle.visits.specs.Answer.{visitedOf}
 use Rattle.desk.proofs.state.Desk as D
+use Rattle.visits.proofs.ReadsWaiting.{by-waiting-records}
 use Rattle.visits.proofs.visiting.VisitResult as Out
 use Rattle.visits.proofs.visiting.VisitResult.Laws as Out′
 use Rattle.conveyor.proofs.Lent.{Lent, refAt, refVal, token, Reads, deskVal, desk-makes}
@@ -72,6 +74,10 @@ pub record Fits (x : Entry) : Type 0 where
   pub size : length (x .queue .now) < 2 ^ 64
 
 module _ (x : Entry) where
+  -- the words of the records that wait
+  abbrev pub copy : List ℕ
+  copy = storedFirst (x .state .waiting) (x .queue .now)
+
   abbrev pub lfts : Lft × (Lft × (Lft × (Lft × (Lft × (Lft × Unit {0})))))
   lfts = (x .plan .lft, (x .cells .lft, (x .queue .lft, (x .frame .lft, (x .out .lft, (x .replies .lft, tt))))))
 
@@ -115,9 +121,8 @@ module _ (x : Entry) where
   -- what the core says of its result, and of the store, the outgoing words and the reply words that it left
   abbrev pub Says : VisitResult → List ℕ → List ℕ → List ℕ → Type 0
   Says r cells′ out′ replies′ =
-      (zs : List Request) → length zs ≡ length (x .queue .now) → recordsOf zs ≡ recordsOf (x .queue .now)
-      → visitedOf r cells′ out′ replies′ ≡ visitResult (x .plan .now) (holding (x .state) (x .cells .now) zs) (x .frame .now)
-      (x .out .now) (x .replies .now)
+      visitedOf r cells′ out′ replies′ ≡ visitResult (x .plan .now)
+      (holding (x .state) (x .cells .now) (queueOf (length (x .queue .now)) copy)) (x .frame .now) (x .out .now) (x .replies .now)
 
   module _ {M : Type 1} (𝓤 : URA M) (H : Heap 𝓤) (A : Atoms 𝓤) (mem : Memory → SProp 𝓤) (run : Routine → Fun 𝓤) where
     -- the tokens that the core hands back
@@ -144,7 +149,9 @@ module _ (x : Entry) where
         qed W (Had cells′ out′ replies′) ∵
         suffices ! _ (ends-at 𝓤 H A visit.ended stayed (visit.clauses 𝓤 H A mem run) W bound w r
         (tt, (tt, (cells′, (tt, (tt, (out′, (replies′, tt))))))) (tt, (tt, (e₂, (tt, (tt, (e₅, (e₆, tt)))))))) $
-        says ! (said (x .queue .now) refl refl) $
+        says ! (said ∙ by-waiting-records (x .plan .now) (x .state) (x .cells .now) (x .queue .now) (x .frame .now) (x .out .now)
+        (x .replies .now) (length (x .queue .now)) copy refl
+        (λ long few. sym (waiting-records (x .queue .now) (x .state .waiting) long few))) $
         -- the tokens, in the signature's order
         move ! (3 ∷ []) $ split ! $ move ! (1 ∷ []) $ split ! $ move ! (8 ∷ 1 ∷ []) $ join ! $ move ! (1 ∷ 0 ∷ []) $ join ! $
         move ! (1 ∷ 0 ∷ []) $ join ! $ frame ! $

@@ -1,0 +1,58 @@
+-- "Running a transaction": the reply and the update of a run on a store (01: a book).
+use Prim.Native.Nat.{ℕ, _+_, _-_, _^_, _%_}
+use mathlib.Core.Bool.{true, false, cond}
+use mathlib.Core.List.{List, [], _∷_, _++_}
+use lib.ListN.{getD, set}
+use lib.Dec.{leb}
+use Rattle.plan.specs.Plan.{reads, writes, Action, sets, adds, needs, takes, Step, cell, operand, Transaction, Plan}
+use Rattle.operation.specs.Operation.{Operation, transactionOf, valueOf, cellNumber}
+use Rattle.operation.specs.Store.{Store, Update}
+use Rattle.execution.specs.declared.execution.Reply as code
+
+-- "The reply is done or declined, with the working number at the end or stop.": the code's own struct
+abbrev pub Reply : Type 0
+Reply = code.Reply
+
+pub record Outcome : Type 0 where
+  pub reply : Reply
+  pub update : Update
+
+abbrev pub finished : ℕ → Update → Outcome
+finished x u = record { reply = record { done = true; number = x }; update = u }
+
+-- "A declined run writes nothing."
+abbrev pub declined : ℕ → Outcome
+declined x = record { reply = record { done = false; number = x }; update = [] }
+
+-- what an action makes of the accumulator (01: the working number), or a stop
+pub data Next : Type 0 where
+  continues : ℕ → Next
+  stops : Next
+
+-- "Set makes it the operand; add adds the operand and take subtracts it, both modulo 2^32. Need declines the run unless the
+-- working number is at least the operand; equal passes."
+unfoldable pub act : Action → ℕ → ℕ → Next
+act sets x v = continues v
+act adds x v = continues ((x + v) % 2 ^ 32)
+act takes x v = continues ((x + (2 ^ 32 - v)) % 2 ^ 32)
+act needs x v = cond (leb v x) (continues x) stops
+
+abbrev pub onward : Next → (ℕ → Outcome) → Outcome → Outcome
+onward (continues x) go stop = go x
+onward stops go stop = stop
+
+-- the steps still to run, on the store with this run's own earlier writes, with the accumulator x and the update so far.
+-- "Read loads a cell into it, seeing this run's own earlier writes. Write stores the working number in a cell."
+unfoldable pub runFrom : List ℕ → List Step → Store → ℕ → Update → Outcome
+runFrom ps [] s x u = finished x u
+runFrom ps (cell reads table column row ∷ ss) s x u = runFrom ps ss s (getD s (cellNumber table (valueOf ps row) column) 0) u
+runFrom ps (cell writes table column row ∷ ss) s x u =
+    runFrom ps ss (set s (cellNumber table (valueOf ps row) column) x) x (u ++ ((cellNumber table (valueOf ps row) column, x) ∷ []))
+runFrom ps (operand f v ∷ ss) s x u = onward (act f x (valueOf ps v)) (λ y. runFrom ps ss s y u) (declined x)
+
+-- "One working number begins at 0."
+abbrev pub runTransaction : Transaction → List ℕ → Store → Outcome
+runTransaction t ps s = runFrom ps (t .steps) s 0 []
+
+abbrev pub run : Plan → Operation → Store → Outcome
+run p o s = runTransaction (transactionOf p o) (o .params) s

@@ -1,0 +1,8 @@
+// Running an operation on a store, and applying the update of a run.
+mod execution;
+
+pub use execution::Outcome;
+pub use execution::Reply;
+pub use execution::Update;
+pub use execution::apply;
+pub use execution::run;

@@ -1,0 +1,4 @@
+pub mod Frame
+pub mod Admission
+pub mod Answer
+pub mod OneWord
