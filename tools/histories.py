@@ -11,7 +11,7 @@ import random
 import sys
 from collections import deque
 
-from model import CELLS, OUTGOING, REPLIES, ROWS, STARTING_FRAME, WORD
+from model import CELLS, OUTGOING, REPLIES, REPLY_WORDS, ROWS, STARTING_FRAME, WORD
 from model import Desk, Serial, cell_of, field, question_6
 from plans import PlanDrawing, damage, hexadecimal
 from script import Interpreter
@@ -68,6 +68,10 @@ class History:
     def holding(self, desk):
         return self.interpreter.desks[desk]
 
+    def book_of(self, desk):
+        """A copy of a desk's book."""
+        return self.holding(desk).book[:CELLS]
+
     # The opening and the course
 
     def open(self):
@@ -85,7 +89,7 @@ class History:
                 self.write("cells %d %s" % (desk, fill))
             if rng.randrange(4) == 0:
                 self.write("records %d 0 33 client %d %s" % (desk, self.client(), text_of(*self.operation())))
-        self.serial, self.book = Serial(self.plan), self.holding(0).book[:CELLS]
+        self.serial, self.book = Serial(self.plan), self.book_of(0)
         if rng.randrange(8) == 0:
             self.call("visit 0")
         if rng.randrange(8) == 0:
@@ -161,12 +165,12 @@ class History:
         self.request(own if self.rng.randrange(6) else self.rng.randrange(self.n), transaction, params)
 
     def request(self, desk, transaction, params):
-        client = self.client()
+        client, book = self.client(), self.book_of(desk)
         answer = self.call("request %d client %d %s" % (desk, client, text_of(transaction, params)))
         if answer[0] == "refused":
             return
         params, name = four(params), len(self.clients)
-        self.tally.request(self.plan, transaction, params, answer)
+        self.tally.request(self.plan, transaction, params, answer, book)
         self.premise = self.premise and desk != self.by_hand
         self.clients.append(client)
         self.serial.accepted_request(desk, name, transaction, params)
@@ -239,23 +243,26 @@ class History:
 
     def visit(self, desk, text=""):
         """A visit by the latest frame, or by the frame that the text makes of it."""
+        book = self.book_of(desk)
         self.call(("visit %d %s" % (desk, text)).rstrip())
         if self.interpreter.last.answer[0] != "refused":
-            self.accepted_visit(desk)
+            self.accepted_visit(desk, book)
 
-    def accepted_visit(self, desk):
-        """Takes account of the latest call, an accepted visit."""
+    def accepted_visit(self, desk, book):
+        """Takes account of the latest call, an accepted visit, with the desk's book before it."""
         call = self.interpreter.last
         changed = tuple(call.words) not in self.sent
-        self.tally.visit(self.plan, call, self.holding(desk).row, changed)
+        self.tally.visit(self.plan, call, self.holding(desk), book, changed)
         self.premise = self.premise and desk != self.by_hand and not changed
         self.sent.add(tuple(call.out))
         self.token, self.highest = len(self.interpreter.frames) - 1, call.words[1]
         self.visits.append((self.serial.accepted_visit(desk), call.answer[2], call.replies))
 
     def pass_on(self, steps):
-        """As many visits by `pass`. Nothing waits at their desks, but for the last one."""
+        """As many visits by `pass`. Nothing waits at their desks, but for the last one, which is visited once if something does."""
         frames, first = self.interpreter.frames, len(self.interpreter.frames)
+        desk = (frames[-1][1] + steps - 1) % self.n
+        book = self.book_of(desk)
         self.call("pass %d" % steps, steps)
         if len(frames) != first + steps:
             raise Difference("history %d: a visit was refused on the way" % self.number)
@@ -263,7 +270,7 @@ class History:
             self.sent.add(tuple(frame))
             self.visits.append((self.serial.accepted_visit((frame[1] - 1) % self.n), 0, []))
         self.tally.counts["visits accepted"] += steps - 1
-        self.accepted_visit((frames[-1][1] - 1) % self.n)
+        self.accepted_visit(desk, book)
 
     def long_pass(self):
         """The token goes round until nothing waits, and then on for some hundred visits, or past 2^16 in a few histories."""
@@ -384,7 +391,7 @@ class History:
         book = "book %d" % rng.choice((1023, 1025, rng.randrange(1041)))
         row = "row %d" % rng.choice((31, 33, rng.randrange(34)))
         out = "out %d" % rng.choice((OUTGOING - 1, rng.randrange(OUTGOING), OUTGOING + rng.randrange(17)))
-        replies = "replies %d" % rng.choice((REPLIES - 1, rng.randrange(REPLIES), REPLIES + rng.randrange(17)))
+        replies = "replies %d" % rng.choice((REPLIES - 1, REPLIES, rng.randrange(REPLIES), REPLIES + rng.randrange(17)))
         if rng.randrange(3):
             self.lent(rng.choice((book, row, out, replies, out + " " + replies)), self.token_visit)
         else:
@@ -492,6 +499,7 @@ class History:
         rng, words = self.rng, self.plan.words
         change, undo = damage(rng, words, 1 + (self.number + self.number // len(SHAPES)) % 4)
         answer = self.call("plan same " + change)
+        self.tally.damaged(self.interpreter.plan.words)
         calls = [self.usual_class, self.usual_request, self.token_visit, self.usual_read]
         for call in rng.sample(calls + [lambda: self.call("desk %d" % rng.randrange(self.n))], rng.choice((2, 3))):
             call()
@@ -513,14 +521,15 @@ class History:
         self.write("say history %d: premise %skept" % (self.number, "" if self.premise else "not "))
 
     def check_serial_run(self):
-        """Holds all replies and all cells to the serial run."""
+        """Holds all replies, with their told numbers, and all cells to the serial run."""
         due, book = self.serial.end(self.book)
         given = list(self.given)
         for names, count, replies in self.visits:
-            if count != len(names) or len(replies) != 3 * len(names):
+            if count != len(names) or len(replies) != REPLY_WORDS * len(names):
                 raise Difference("history %d: a visit has another count of replies" % self.number)
             for k, name in enumerate(names):
-                given.append((name, replies[3 * k + 1], replies[3 * k] - (12 << 28), replies[3 * k + 2]))
+                first, client, *numbers = replies[k * REPLY_WORDS : (k + 1) * REPLY_WORDS]
+                given.append((name, client, first - (12 << 28), *numbers))
         if sorted(given) != sorted((name, self.clients[name], *reply) for name, reply in due.items()):
             raise Difference("history %d: a reply is not that of the serial run" % self.number)
         for cell in range(CELLS):

@@ -2,21 +2,22 @@
 
 Words are integers below 2^32. `Plan(words)` reads a plan once; every call of the paper is then a function over it. Buffers are lists
 that are changed in place, a row of waiting requests is a list of six-tuples, and every call answers a tuple that names its case:
-('free',), ('local', desk), ('global', desk), ('replied', done, number), ('waits',), ('elsewhere', desk), ('passed', words, replies),
-('opened', state), ('written',), ('visit', number), ('accepted',), ('refused', question).
+('free',), ('local', desk), ('global', desk), ('replied', done, number, four told words), ('waits',), ('elsewhere', desk),
+('passed', words, replies), ('opened', state), ('written',), ('visit', number), ('accepted',), ('refused', question).
 """
 
 from collections import namedtuple
 
 WORD = 1 << 32
-CELLS, ROWS, OUTGOING, REPLIES = 1024, 32, 6404, 96
+CELLS, ROWS, OUTGOING, REPLIES = 1024, 32, 6404, 224
 NO_PARTITION, FIXED = 15, 7
+TELL, MOST_TOLD, REPLY_WORDS = 13, 4, 7
 
 Step = namedtuple("Step", "kind table column source fixed")
 Transaction = namedtuple("Transaction", "params partition steps")
 Request = namedtuple("Request", "client transaction p0 p1 p2 p3")
 Desk = namedtuple("Desk", "desk waiting awaited")
-Run = namedtuple("Run", "done number update")
+Run = namedtuple("Run", "done number told update")
 
 
 def field(word, high, low):
@@ -53,11 +54,14 @@ def step_well_formed(word):
     if kind in (5, 6, 7, 8):
         source = field(word, 27, 25)
         return source == FIXED or (source <= 3 and field(word, 24, 0) == 0)
-    return False
+    return kind == TELL and field(word, 27, 0) == 0
 
 
 def decode_step(word):
+    """A step of a well formed word. A tell has no source."""
     kind = field(word, 31, 28)
+    if kind == TELL:
+        return Step(kind, 0, 0, None, 0)
     if kind in (3, 4):
         return Step(kind, field(word, 27, 25), field(word, 24, 23), field(word, 22, 20), field(word, 4, 0))
     return Step(kind, 0, 0, field(word, 27, 25), field(word, 24, 0))
@@ -74,7 +78,10 @@ def walk(words):
         steps = words[at + 1 : at + 1 + field(head, 23, 20)]
         if len(steps) != field(head, 23, 20) or not all(step_well_formed(w) for w in steps):
             return None
-        transactions.append(Transaction(field(head, 27, 24), field(head, 19, 16), [decode_step(w) for w in steps]))
+        steps = [decode_step(w) for w in steps]
+        if sum(s.kind == TELL for s in steps) > MOST_TOLD:
+            return None
+        transactions.append(Transaction(field(head, 27, 24), field(head, 19, 16), steps))
         at += 1 + len(steps)
     return transactions if at == len(words) else None
 
@@ -83,7 +90,7 @@ def names_missing(t):
     """Question 4 for one transaction: it names a parameter that it does not have."""
     if t.partition != NO_PARTITION and t.partition >= t.params:
         return True
-    return any(s.source != FIXED and s.source >= t.params for s in t.steps)
+    return any(s.source not in (None, FIXED) and s.source >= t.params for s in t.steps)
 
 
 class Plan:
@@ -172,14 +179,16 @@ def cell_of(step, params):
 
 
 def run(t, params, book):
-    """One run: whether done, the working number at the end or stop, and the update. The book is only read."""
-    number, update = 0, []
+    """One run: whether done, the working number at the end or stop, the numbers told so far, and the update. The book is only read."""
+    number, told, update = 0, [], []
     for s in t.steps:
         if s.kind == 3:
             cell = cell_of(s, params)
             number = next((v for c, v in reversed(update) if c == cell), book[cell])
         elif s.kind == 4:
             update.append((cell_of(s, params), number))
+        elif s.kind == TELL:
+            told.append(number)
         else:
             operand = s.fixed if s.source == FIXED else params[s.source]
             if s.kind == 5:
@@ -189,8 +198,13 @@ def run(t, params, book):
             elif s.kind == 8:
                 number = (number - operand) % WORD
             elif number < operand:
-                return Run(False, number, [])
-    return Run(True, number, update)
+                return Run(False, number, told, [])
+    return Run(True, number, told, update)
+
+
+def reply_of(result):
+    """The reply of a run: whether done, the number, and the four told words, zero where untold."""
+    return (result.done, result.number, *result.told, *[0] * (MOST_TOLD - len(result.told)))
 
 
 def apply_update(update, book):
@@ -316,7 +330,7 @@ def request(plan, state, book, row, client, transaction, params):
     if found[0] != "global":
         result = run(plan.transactions[transaction], params, book)
         apply_update(result.update, book)
-        return ("replied", result.done, result.number), state
+        return ("replied", *reply_of(result)), state
     if state.waiting >= 32:
         return refused(9), state
     row[state.waiting] = Request(client, transaction, *params)
@@ -353,7 +367,8 @@ def visit(plan, state, book, row, frame, out, replies):
         result = run(plan.transactions[r[1]], r[2:6], book)
         apply_update(result.update, book)
         updates.append((state.desk, result.update))
-        said += [(12 << 28) | int(result.done), r[0], result.number]
+        done, *numbers = reply_of(result)
+        said += [(12 << 28) | int(done), r[0], *numbers]
     words = write_frame((frame[1] + 1) % plan.desks, frame[1] + 1, updates)
     out[: len(words)] = words
     replies[: len(said)] = said
@@ -398,7 +413,7 @@ class Serial:
         for _, name, transaction, params in sorted(self.finished):
             result = run(self.plan.transactions[transaction], params, book)
             apply_update(result.update, book)
-            due[name] = (result.done, result.number)
+            due[name] = reply_of(result)
         return due, book
 
     def desk_with(self, cell):

@@ -1,8 +1,8 @@
 """Draws plans that are accepted, and damages of plans that are then refused."""
 
-from model import FIXED, NO_PARTITION, ROWS, WORD, names_missing, walk
+from model import FIXED, MOST_TOLD, NO_PARTITION, ROWS, TELL, WORD, field, names_missing, walk
 
-MOST_FIXED = (1 << 25) - 1
+MOST_FIXED, MOST_STEPS, TELL_WORD = (1 << 25) - 1, 12, TELL << 28
 
 
 def hexadecimal(words):
@@ -73,8 +73,18 @@ class PlanDrawing:
         if params and self.shape != "no partition" and rng.randrange(6):
             partition = rng.randrange(params)
         theme = rng.choice(("own", "own", "shared", "shared", "shared", "any", "any", "reader", "constant"))
-        length = 12 if self.shape == "most words" else rng.choice((1, 2, 3, 4, 5, 6, rng.randrange(1, 13)))
-        self.add(params, partition, [self.step(theme, params, partition, k + 1 == length) for k in range(length)])
+        length = MOST_STEPS if self.shape == "most words" else rng.choice((1, 2, 3, 4, 5, 6, rng.randrange(1, 13)))
+        steps = [self.step(theme, params, partition, k + 1 == length) for k in range(length)]
+        self.add(params, partition, self.with_tells(steps) if rng.randrange(3) == 0 else steps)
+
+    def with_tells(self, steps):
+        """Some steps with 1 to 4 tells among them; where that would be more than twelve, tells stand in place of steps before the last."""
+        rng, count = self.rng, self.rng.randrange(1, MOST_TOLD + 1)
+        for k in rng.sample(range(len(steps) - 1), max(0, len(steps) + count - MOST_STEPS)):
+            steps[k] = TELL_WORD
+        for _ in range(count - steps.count(TELL_WORD)):
+            steps.insert(rng.randrange(len(steps) + 1), TELL_WORD)
+        return steps
 
     def step(self, theme, params, partition, last):
         kind = self.rng.choice((3, 3, 4, 4, 5, 6, 7, 8))
@@ -124,12 +134,36 @@ def damage(rng, words, question):
         desks = head & 0xF0FFFFFF | rng.choice((0, 9, rng.randrange(9, 16))) << 24
         transactions = head & 0xFF00FFFF | rng.choice((0, 33, rng.randrange(33, 256))) << 16
         return "word 0 %X" % rng.choice((desks, transactions)), back
-    if question == 3 and rng.randrange(3) == 0:
+    form = rng.randrange(3) if question == 3 else 2
+    if form == 0:
         forms = [("cut %d word 0 %X" % (count, head - count), end + back)]
         if len(words) + count <= 417:
             forms.append(("%s word 0 %X" % (more, head + count), "cut %d" % count + back))
         return rng.choice(forms)
-    return word_damage(rng, words, question)
+    return tell_damage(rng, words) if form == 1 else word_damage(rng, words, question)
+
+
+def step_places(words):
+    """Where the steps of each transaction stand, of a plan that is accepted."""
+    places, at = [], 1
+    while at < len(words):
+        places.append(range(at + 1, at + 1 + field(words[at], 23, 20)))
+        at = places[-1].stop
+    return places
+
+
+def tell_damage(rng, words):
+    """Steps changed so that a transaction has five tells, or a step so that it is a tell with another bit set."""
+    of_five = [places for places in step_places(words) if len(places) > MOST_TOLD]
+    if of_five and rng.randrange(2):
+        places = rng.choice(of_five)
+        others = [k for k in places if words[k] != TELL_WORD]
+        changed = {k: TELL_WORD for k in rng.sample(others, MOST_TOLD + 1 - len(places) + len(others))}
+    else:
+        tells = [k for k in range(1, len(words)) if words[k] == TELL_WORD]
+        changed = {rng.choice(tells or rng.choice(step_places(words))): TELL_WORD | 1 << rng.randrange(28)}
+    change = " ".join("word %d %X" % item for item in changed.items())
+    return change, " ".join("word %d %X" % (k, words[k]) for k in changed)
 
 
 def word_damage(rng, words, question):

@@ -10,17 +10,17 @@ from collections import Counter, namedtuple
 from functools import lru_cache
 
 import model
-from model import CELLS, FIXED, NO_PARTITION, OUTGOING, REPLIES, ROWS, WORD, Desk, Plan, Request, field, sums
+from model import CELLS, FIXED, NO_PARTITION, OUTGOING, REPLIES, REPLY_WORDS, ROWS, TELL, WORD, Desk, Plan, Request, field, sums
 
 SLOTS, KEPT_FRAMES, MOST_PASSES, MOST_WORDS, LONGEST_LINE, HIGHEST = 8, 64, 1000000, 6420, 65536, WORD - 1
 FIT = {b"book": CELLS, b"row": ROWS, b"out": OUTGOING, b"replies": REPLIES}
-HELD = {b"book": 1040, b"row": 33, b"out": MOST_WORDS, b"replies": 112}
+HELD = {b"book": 1040, b"row": 33, b"out": MOST_WORDS, b"replies": 240}
 MARKS = [0xF0F00000 + i for i in range(MOST_WORDS)]
 VERBS = {3: "read", 4: "write", 5: "set", 6: "add", 7: "need", 8: "take"}
 QUESTIONS = {
     1: "no head of kind 1 with the count of the words, 1 to 417",
     2: "desks or transactions out of range",
-    3: "a word out of place or range, or a bit that must be zero",
+    3: "a word out of place or range, a bit that must be zero, or a fifth tell",
     4: "a parameter that the transaction does not have",
     5: "a buffer of the wrong size",
     6: "a state or a waiting record that does not fit this desk",
@@ -171,16 +171,25 @@ def plan_text(plan):
 
 
 def step_text(step):
+    if step.kind == TELL:
+        return "tell"
     source = "%d" % step.fixed if step.source == FIXED else "p%d" % step.source
     place = "table %d column %d row " % (step.table, step.column) if step.kind in (3, 4) else ""
     return "%s %s%s" % (VERBS[step.kind], place, source)
 
 
+def reply_text(case, number, *told):
+    """A reply; its four told words are written if one of them is not zero."""
+    return "%s, %d" % (case, number) + (", told %d %d %d %d" % told if any(told) else "")
+
+
 def replies_text(replies):
-    text = "1 reply" if len(replies) == 3 else "%d replies" % (len(replies) // 3)
-    for first, client, number in zip(replies[0::3], replies[1::3], replies[2::3]):
+    count = len(replies) // REPLY_WORDS
+    text = "1 reply" if count == 1 else "%d replies" % count
+    for k in range(count):
+        first, client, *numbers = replies[k * REPLY_WORDS : (k + 1) * REPLY_WORDS]
         case = {0xC0000001: "done", 0xC0000000: "declined"}.get(first, "word %08X" % first)
-        text += ", client %d %s, %d" % (client, case, number)
+        text += ", client %d %s" % (client, reply_text(case, *numbers))
     return text
 
 
@@ -368,7 +377,7 @@ class Interpreter:
         case = said = answer[0]
         if case == "replied":
             case = "done" if answer[1] else "declined"
-            said = "%s, %d" % (case, answer[2])
+            said = reply_text(case, *answer[2:])
         elif case == "elsewhere":
             said = "elsewhere, desk %d" % answer[1]
         self.counts[case] += 1
@@ -401,7 +410,7 @@ class Interpreter:
             changes += others_text((out, 0), (replies, 0))
             self.answer(Call("visit", slot, words, answer), "desk %d: visit by %s" % (slot, name), "", changes, answered)
             return
-        sent, given = out[: answer[1]], replies[: 3 * answer[2]]
+        sent, given = out[: answer[1]], replies[: REPLY_WORDS * answer[2]]
         changes += others_text((out, len(sent)), (replies, len(given)))
         who, said = "desk %d: visit %d by %s" % (slot, words[1], name), replies_text(given) + "; " + self.send(sent)
         self.count_visit(words, name, sent, answer[2])

@@ -12,7 +12,7 @@ use borrow.Author.Tests.{eq-eqb, eqb-true}
 use Rattle.verdict.specs.Verdict.{accepted}
 use Rattle.lists.proofs.Laws.{every-member, member-every, member-some, some-member, by-same}
 use Rattle.lists.specs.Lists.{some}
-use Rattle.plan.specs.Plan.{Source, reads, writes, Step, cell, operand, Plan}
+use Rattle.plan.specs.Plan.{Source, reads, writes, Step, cell, operand, tells, Plan}
 use Rattle.plan.specs.Decode.{planOf}
 use Rattle.plan.specs.Admission.{planVerdict}
 use Rattle.operation.specs.Operation.{Operation, transactionOf, deskOf, readSet, writeSet, MayRead, MayWrite, MayTouch}
@@ -32,6 +32,7 @@ write-shape : (s : Step) → isWrite s ≡ true → (t : ℕ) × (k : ℕ) × (r
 write-shape (cell reads t k r) e = absurd (false≢true e)
 write-shape (cell writes t k r) e = (t, k, r, refl)
 write-shape (operand f v) e = absurd (false≢true e)
+write-shape tells e = absurd (false≢true e)
 
 module _ (p : Plan) (o : Operation) where
   writes-some : some isWrite (transactionOf p o .steps) ≡ true → (c : ℕ) × MayWrite p o c

@@ -10,11 +10,12 @@ use lib.Bits.{bitOr, or-zero-r}
 use lib.Dec.{ltb, eqb}
 use lib.ListN.{length, getD, set, length-set}
 use lib.Seq.{getD-set-same, getD-set-other}
-use borrow.Author.Tests.{eq-eqb, lt-ltb, le-ltb, le-leb, lt-leb, eqb-true, eqb-false}
+use borrow.Author.Tests.{eq-eqb, lt-ltb, le-ltb, le-leb, eqb-true, eqb-false}
 use Rattle.lists.proofs.Laws.{lt-or-ge, by-same}
 use Rattle.word.specs.Field.{kindOf, tableField, columnField}
-use Rattle.plan.specs.Plan.{Partitioning}
+use Rattle.plan.specs.Plan.{Step, Partitioning}
 use Rattle.plan.specs.Decode.{stepOf, rowOf}
+use Rattle.operation.proofs.StepKinds.{step-above-4}
 use Rattle.conflict.specs.Mask.{maskOf}
 use Rattle.conflict.specs.Touch.{rowTouched, cellTouched, stepTouches, Joined}
 use Rattle.conflict.proofs.Masks.{mask-ext, mask-none}
@@ -26,9 +27,9 @@ step-cell : (n : ℕ) (q : Partitioning) (w c d : ℕ) → kindOf w ≤ 4
 unfolding stepOf stepTouches
 step-cell n q w c d hi = rw (le-leb (kindOf w) 4 hi)
 
-step-operand : (n : ℕ) (q : Partitioning) (w c d : ℕ) → 4 < kindOf w → stepTouches n q (stepOf w) c d ≡ false
-unfolding stepOf stepTouches
-step-operand n q w c d h = rw (lt-leb (kindOf w) 4 h)
+step-touches-none : (n : ℕ) (q : Partitioning) (w c d : ℕ) → 4 < kindOf w → stepTouches n q (stepOf w) c d ≡ false
+unfolding stepTouches
+step-touches-none n q w c d h = step-above-4 (λ (s : Step). stepTouches n q s c d ≡ false) w h (λ f v. refl) refl
 
 unmarked : (n : ℕ) (q : Partitioning) (w c x : ℕ) → ((d : ℕ) → stepTouches n q (stepOf w) c d ≡ false)
     → x ≡ bitOr x (maskOf n (stepTouches n q (stepOf w) c))
@@ -36,8 +37,8 @@ unmarked n q w c x h =
     sym (ap (bitOr x) (mask-ext n (stepTouches n q (stepOf w) c) (λ d. false) h ∙ mask-none n) ∙ or-zero-r x)
 
 module _ (n : ℕ) (q : Partitioning) (w : ℕ) (l : List ℕ) (long : length l ≡ 1024) where
-  pub operand-marks-none : 4 < kindOf w → Joined l l (λ c. maskOf n (stepTouches n q (stepOf w) c))
-  operand-marks-none h = record { long = long; cells = λ c k. unmarked n q w c (getD l c 0) (λ d. step-operand n q w c d h) }
+  pub marks-none : 4 < kindOf w → Joined l l (λ c. maskOf n (stepTouches n q (stepOf w) c))
+  marks-none h = record { long = long; cells = λ c k. unmarked n q w c (getD l c 0) (λ d. step-touches-none n q w c d h) }
 
 -- ---- the rows
 

@@ -19,7 +19,7 @@ use Rattle.plan.proofs.Words.{step-kind-low}
 use Rattle.plan.proofs.Steps.{stepsFrom, steps-none, steps-cons, step-formed, every-step}
 use Rattle.operation.specs.Operation.{sameAccess, valueOf, cellNumber, cellsNamed}
 use Rattle.operation.specs.Admission.{rowInRange, parametersPass, unusedZero}
-use Rattle.operation.proofs.StepKinds.{row-bound}
+use Rattle.operation.proofs.StepKinds.{row-bound, step-above-4}
 use Rattle.conflict.specs.Class.{isWrite, oneDeskEach}
 
 -- ---- one step
@@ -51,7 +51,9 @@ module _ (k : ℕ) (low : 3 ≤ k) (high : k ≤ 4) (ps : List ℕ) (w : ℕ) (s
     where
       go : (b : Bool) → leb (kindOf w) 4 ≡ b → cellsNamed (accessBy k) ps (stepOf w ∷ ss) ≡ cellsNamed (accessBy k) ps ss
       go true h = rw (h, same-kind k (kindOf w) low high (step-kind-low w f) (leb-true (kindOf w) 4 h), ne-eqb (kindOf w) k e)
-      go false h = rw h
+      go false h =
+          step-above-4 (λ (s : Step). cellsNamed (accessBy k) ps (s ∷ ss) ≡ cellsNamed (accessBy k) ps ss) w (leb-false (kindOf w) 4 h)
+          (λ g v. refl) refl
 
 write-kind : (w : ℕ) → stepFormed w ≡ true → isWrite (stepOf w) ≡ eqb (kindOf w) 4
 unfolding stepOf accessBy
@@ -62,7 +64,9 @@ write-kind w f = go (leb (kindOf w) 4) (eqb (kindOf w) 3) refl refl
     go true false ea eb =
         simp (ea, eb)
         (sym (eq-eqb (kindOf w) 4 (omega (arith, leb-true (kindOf w) 4 ea, step-kind-low w f, eqb-false (kindOf w) 3 eb))))
-    go false b ea eb = simp ea (sym (ne-eqb (kindOf w) 4 (λ e. omega (arith, leb-false (kindOf w) 4 ea))))
+    go false b ea eb =
+        step-above-4 (λ (s : Step). isWrite s ≡ false) w (leb-false (kindOf w) 4 ea) (λ g v. refl) refl
+        ∙ sym (ne-eqb (kindOf w) 4 (λ e. omega (arith, leb-false (kindOf w) 4 ea)))
 
 -- ---- along the steps of the transaction at `at`
 

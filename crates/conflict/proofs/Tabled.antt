@@ -9,7 +9,7 @@ use lib.Dec.{eqb}
 use lib.ListN.{getD}
 use Rattle.lists.specs.Lists.{every, some}
 use Rattle.lists.proofs.Laws.{and-snd, every-same, getD-tabulate}
-use Rattle.plan.specs.Plan.{reads, writes, Step, cell, operand, Plan}
+use Rattle.plan.specs.Plan.{reads, writes, Step, cell, operand, tells, Plan}
 use Rattle.plan.specs.Place.{transactionFrom}
 use Rattle.operation.specs.Operation.{cellsNamed}
 use Rattle.operation.specs.Admission.{parametersPass, unusedZero}
@@ -35,6 +35,7 @@ no-cells ps [] e = refl
 no-cells ps (cell reads t k r ∷ ss) e = no-cells ps ss e
 no-cells ps (cell writes t k r ∷ ss) e = absurd (false≢true (sym e))
 no-cells ps (operand f v ∷ ss) e = no-cells ps ss e
+no-cells ps (tells ∷ ss) e = no-cells ps ss e
 
 -- ---- the class, by what the two tests found
 

@@ -12,7 +12,8 @@ use borrow.Author.Tests.{eq-eqb, lt-ltb, eqb-true, leb-true}
 use Rattle.verdict.specs.Verdict.{accepted}
 use Rattle.lists.proofs.Laws.{and-fst, and-snd, every-index, every-member, member-some, some-member, index-some, some-index}
 use Rattle.word.specs.Field.{headTransactions}
-use Rattle.plan.specs.Plan.{Source, param, fixed, Access, Step, cell, operand, Partitioning, byParam, unpartitioned, Transaction, Plan}
+use Rattle.plan.specs.Plan.{Source, param, fixed, Access, Step, cell, operand, tells, Partitioning, byParam, unpartitioned}
+use Rattle.plan.specs.Plan.{Transaction, Plan}
 use Rattle.plan.specs.Plan.{noTransaction, transactionAt}
 use Rattle.plan.specs.Decode.{planOf, headOf}
 use Rattle.plan.specs.Admission.{planVerdict, parametersExist, partExists, stepExists, sourceExists}
@@ -113,6 +114,7 @@ step-of n t d c (cell a tab col r) m e =
       },
     )
 step-of n t d c (operand f v) m e = absurd (false≢true e)
+step-of n t d c tells m e = absurd (false≢true e)
 
 cell-back : (c t k r : ℕ) → c / 128 ≡ t → c % 4 ≡ k → c / 4 % 32 ≡ r → c ≡ cellNumber t r k
 cell-back c t k r a b e = omega arith

@@ -13,7 +13,7 @@ use lib.Seq.{getD-drop}
 use borrow.Author.Tests.{eq-eqb, ne-eqb, eqb-true, ltb-true, le-leb}
 use Rattle.lists.specs.Lists.{every}
 use Rattle.lists.proofs.Laws.{and-fst, and-snd, and-true, member-every, lt-or-ge, by-same}
-use Rattle.plan.specs.Plan.{Source, param, fixed, Step, cell, operand, Partitioning, byParam, unpartitioned, Transaction}
+use Rattle.plan.specs.Plan.{Source, param, fixed, Step, cell, operand, tells, Partitioning, byParam, unpartitioned, Transaction}
 use Rattle.plan.specs.Admission.{sourceExists, partExists}
 use Rattle.operation.specs.Operation.{valueOf, deskBy}
 use Rattle.operation.specs.Admission.{unusedZero, rowInRange, parametersPass}
@@ -89,6 +89,7 @@ unfolding rowInRange
 rows-pass ps h (cell a t c (param i)) = le-leb (getD ps i 0) 31 (h i)
 rows-pass ps h (cell a t c (fixed v)) = refl
 rows-pass ps h (operand f v) = refl
+rows-pass ps h tells = refl
 
 pub witness-passes : (t : Transaction) (r : Source) (row d : ℕ) → sourceExists (t .params) r ≡ true → partExists (t .params) (t .part)
     ≡ true

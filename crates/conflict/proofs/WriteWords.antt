@@ -7,17 +7,17 @@ use Prim.Native.Nat.{ℕ, zero, suc, _+_, _≤_, _<_}
 use native.Mathlib.Omega.{arith}
 use lib.Dec.{leb, eqb}
 use lib.ListN.{length, getD, take, drop, take-append-drop}
-use borrow.Author.Tests.{eq-eqb, ne-eqb, eqb-true, eqb-false, leb-true}
+use borrow.Author.Tests.{eq-eqb, ne-eqb, eqb-true, eqb-false, leb-true, leb-false}
 use Rattle.verdict.specs.Verdict.{accepted}
 use Rattle.lists.specs.Lists.{every, some}
 use Rattle.lists.proofs.Laws.{and-fst, and-snd, some-here, some-past, some-append, some-swap, some-same, some-none}
 use Rattle.word.specs.Field.{kindOf, stepCount, tableField, columnField}
 use Rattle.plan.specs.Plan.{Step}
 use Rattle.plan.specs.Decode.{accessBy, stepOf, rowOf, transactionsOf, planOf}
-use Rattle.plan.specs.Admission.{wellFormed, transactionFormed, stepFormed, planVerdict}
+use Rattle.plan.specs.Admission.{wellFormed, transactionFormed, stepFormed, tellCount, mostTells, planVerdict}
 use Rattle.plan.proofs.Words.{step-kind-low}
 use Rattle.plan.proofs.Accepted.{accepted-gives}
-use Rattle.operation.proofs.StepKinds.{step-writes}
+use Rattle.operation.proofs.StepKinds.{step-writes, step-above-4}
 use Rattle.conflict.specs.Written.{cellGiven, stepWrites, written}
 
 -- ---- one word
@@ -33,7 +33,7 @@ writes-none w c f n = go (leb (kindOf w) 4) (eqb (kindOf w) 3) refl refl
     go : (a b : Bool) → leb (kindOf w) 4 ≡ a → eqb (kindOf w) 3 ≡ b → stepWrites (stepOf w) c ≡ false
     go true true ea eb = simp (ea, eb)
     go true false ea eb = absurd (n (omega (arith, leb-true (kindOf w) 4 ea, step-kind-low w f, eqb-false (kindOf w) 3 eb)))
-    go false b ea eb = simp ea
+    go false b ea eb = step-above-4 (λ (s : Step). stepWrites s c ≡ false) w (leb-false (kindOf w) 4 ea) (λ g v. refl) refl
 
 -- the word is a write step's, of a cell among these
 abbrev wordWrites : List ℕ → ℕ → Bool
@@ -69,8 +69,9 @@ transactions-words cs (suc k) [] f = absurd (false≢true f)
 transactions-words cs (suc k) (w ∷ ws) f =
     let a = and-snd (transactionFormed w) _ f in
     let b = and-snd (leb (stepCount w) (length ws)) _ a in
+    let d = and-snd (every stepFormed (take (stepCount w) ws)) _ b in
     ap₂ (λ (x y : Bool). x || y) (steps-words cs (take (stepCount w) ws) (and-fst (every stepFormed (take (stepCount w) ws)) _ b))
-    (transactions-words cs k (drop (stepCount w) ws) (and-snd (every stepFormed (take (stepCount w) ws)) _ b))
+    (transactions-words cs k (drop (stepCount w) ws) (and-snd (leb (tellCount (map stepOf (take (stepCount w) ws))) mostTells) _ d))
     ∙ sym (some-append (wordWrites cs) (take (stepCount w) ws) (drop (stepCount w) ws))
     ∙ ap (some (wordWrites cs)) (take-append-drop (stepCount w) ws)
     ∙ sym (ap (λ (x : Bool). x || some (wordWrites cs) ws) (word-head cs w (and-fst (transactionFormed w) _ f)))

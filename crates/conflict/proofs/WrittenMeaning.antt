@@ -9,7 +9,7 @@ use borrow.Author.Tests.{eq-eqb, lt-ltb, eqb-true}
 use Rattle.verdict.specs.Verdict.{accepted}
 use Rattle.lists.proofs.Laws.{and-fst, and-snd, and-true, every-member, member-some, some-member, index-some, some-index}
 use Rattle.lists.specs.Lists.{some}
-use Rattle.plan.specs.Plan.{Source, param, fixed, reads, writes, Step, cell, operand, Partitioning, byParam, unpartitioned}
+use Rattle.plan.specs.Plan.{Source, param, fixed, reads, writes, Step, cell, operand, tells, Partitioning, byParam, unpartitioned}
 use Rattle.plan.specs.Plan.{Transaction, noTransaction, transactionAt}
 use Rattle.plan.specs.Decode.{planOf}
 use Rattle.plan.specs.Admission.{planVerdict}
@@ -56,6 +56,7 @@ step-of n t c (cell writes tab col r) h m e =
       },
     )
 step-of n t c (operand f v) h m e = absurd (false≢true e)
+step-of n t c tells h m e = absurd (false≢true e)
 
 -- ---- an operation's cell is found
 

@@ -7,7 +7,7 @@ use mathlib.Core.List.{List}
 use lib.Count.{ones}
 use lib.Dec.{eqb}
 use Rattle.lists.specs.Lists.{every, some}
-use Rattle.plan.specs.Plan.{reads, writes, Step, cell, operand, Transaction, Plan}
+use Rattle.plan.specs.Plan.{reads, writes, Step, cell, operand, tells, Transaction, Plan}
 use Rattle.operation.specs.Operation.{Operation, transactionOf, deskOf, cellsNamed, MayRead, MayWrite, MayTouch}
 use Rattle.operation.specs.Admission.{IsOperation}
 use Rattle.conflict.specs.Touch.{deskMask}
@@ -70,6 +70,7 @@ abbrev pub isWrite : Step → Bool
 isWrite (cell reads table column row) = false
 isWrite (cell writes table column row) = true
 isWrite (operand f v) = false
+isWrite tells = false
 
 -- "the number of desks is the count of ones in it": each of the cells has one desk in its mask
 abbrev pub oneDeskEach : (ℕ → ℕ) → List ℕ → Bool

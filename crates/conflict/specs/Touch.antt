@@ -7,7 +7,7 @@ use lib.Bits.{bitOr}
 use lib.ListN.{length, getD}
 use lib.Dec.{ltb, eqb}
 use Rattle.lists.specs.Lists.{tabulate, some}
-use Rattle.plan.specs.Plan.{Source, param, fixed, Step, cell, operand, Partitioning, byParam, unpartitioned, Transaction, Plan}
+use Rattle.plan.specs.Plan.{Source, param, fixed, Step, cell, operand, tells, Partitioning, byParam, unpartitioned, Transaction, Plan}
 use Rattle.conflict.specs.Mask.{maskOf}
 use Rattle.operation.specs.Store.{storeSize}
 
@@ -28,6 +28,7 @@ cellTouched n part table column row c d =
 unfoldable pub stepTouches : ℕ → Partitioning → Step → ℕ → ℕ → Bool
 stepTouches n part (cell a table column row) c d = cellTouched n part table column row c d
 stepTouches n part (operand f v) c d = false
+stepTouches n part tells c d = false
 
 abbrev pub stepsTouch : ℕ → Partitioning → List Step → ℕ → ℕ → Bool
 stepsTouch n part ss c d = some (λ s. stepTouches n part s c d) ss

@@ -3,7 +3,7 @@ use Prim.Native.Nat.{ℕ, _/_, _%_}
 use mathlib.Core.Bool.{Bool, true, false, _&&_}
 use lib.Dec.{eqb}
 use Rattle.lists.specs.Lists.{some}
-use Rattle.plan.specs.Plan.{Source, param, fixed, reads, writes, Step, cell, operand, Plan}
+use Rattle.plan.specs.Plan.{Source, param, fixed, reads, writes, Step, cell, operand, tells, Plan}
 
 -- some operation gives this row to the source: to a parameter any
 abbrev pub rowGiven : Source → ℕ → Bool
@@ -18,6 +18,7 @@ unfoldable pub stepWrites : Step → ℕ → Bool
 stepWrites (cell reads table column row) c = false
 stepWrites (cell writes table column row) c = cellGiven table column row c
 stepWrites (operand f v) c = false
+stepWrites tells c = false
 
 -- some operation of the plan may write the cell
 unfoldable pub written : Plan → ℕ → Bool

@@ -1,3 +1,5 @@
 pub mod Updates
 pub mod Running
 pub mod Runs
+pub mod ToldNumbers
+pub mod Telling

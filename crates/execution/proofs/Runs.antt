@@ -11,7 +11,7 @@ use native.Mathlib.Omega.{arith}
 use lib.ListN.{length, getD, set, take, drop, length-map, length-set, length-drop}
 use lib.Seq.{length-take-le}
 use Rattle.word.specs.Field.{stepCount}
-use Rattle.plan.specs.Plan.{Access, reads, writes, Step, cell, operand, Transaction}
+use Rattle.plan.specs.Plan.{Access, reads, writes, Step, cell, operand, tells, Transaction}
 use Rattle.plan.specs.Decode.{stepOf}
 use Rattle.plan.specs.Place.{StandsAt, transactionFrom}
 use Rattle.plan.proofs.Words.{transaction-steps}
@@ -37,23 +37,24 @@ onward-alike (continues y) f g stop h = h y
 onward-alike stops f g stop h = refl
 
 module _ (P : ℕ → Type 0) (ps : List ℕ) where
-  run-alike : (ss : List Step) (a b : Store) (x : ℕ) (u : Update) → ((c : ℕ) → List·Memᴰ c (cellsNamed reads ps ss) → P c)
-      → length a ≡ length b → ((c : ℕ) → P c → getD a c 0 ≡ getD b c 0) → runFrom ps ss a x u ≡ runFrom ps ss b x u
+  run-alike : (ss : List Step) (a b : Store) (x : ℕ) (ts : List ℕ) (u : Update) → ((c : ℕ) → List·Memᴰ c (cellsNamed reads ps ss) → P c)
+      → length a ≡ length b → ((c : ℕ) → P c → getD a c 0 ≡ getD b c 0) → runFrom ps ss a x ts u ≡ runFrom ps ss b x ts u
   unfolding runFrom cellsNamed
-  run-alike [] a b x u f l s = refl
-  run-alike (cell reads t k r ∷ ss) a b x u f l s =
+  run-alike [] a b x ts u f l s = refl
+  run-alike (cell reads t k r ∷ ss) a b x ts u f l s =
       let c = cellNumber t (valueOf ps r) k in
-      rw (s c (f c (List·Memᴰ·head refl))) (run-alike ss a b (getD b c 0) u (λ d h. f d (List·Memᴰ·tail h)) l s)
-  run-alike (cell writes t k r ∷ ss) a b x u f l s =
+      rw (s c (f c (List·Memᴰ·head refl))) (run-alike ss a b (getD b c 0) ts u (λ d h. f d (List·Memᴰ·tail h)) l s)
+  run-alike (cell writes t k r ∷ ss) a b x ts u f l s =
       let c = cellNumber t (valueOf ps r) k in
-      run-alike ss (set a c x) (set b c x) x (u ++ ((c, x) ∷ [])) f (length-set a c x ∙ l ∙ sym (length-set b c x))
+      run-alike ss (set a c x) (set b c x) x ts (u ++ ((c, x) ∷ [])) f (length-set a c x ∙ l ∙ sym (length-set b c x))
       (λ d h. alike-set a b d c x l (s d h))
-  run-alike (operand g v ∷ ss) a b x u f l s =
-      onward-alike (act g x (valueOf ps v)) _ _ (declined x) (λ y. run-alike ss a b y u f l s)
+  run-alike (operand g v ∷ ss) a b x ts u f l s =
+      onward-alike (act g x (valueOf ps v)) _ _ (declined x ts) (λ y. run-alike ss a b y ts u f l s)
+  run-alike (tells ∷ ss) a b x ts u f l s = run-alike ss a b x (ts ++ (x ∷ [])) u f l s
 
 -- "It may read .. the cells of all its read .. steps": no other cell of the store decides its reply or its update
 pub reads-decide : ReadsDecide
-reads-decide t ps a b l s = run-alike (λ c. List·Memᴰ c (cellsNamed reads ps (t .steps))) ps (t .steps) a b 0 [] (λ c h. h) l s
+reads-decide t ps a b l s = run-alike (λ c. List·Memᴰ c (cellsNamed reads ps (t .steps))) ps (t .steps) a b 0 [] [] (λ c h. h) l s
 
 -- ---- the update
 
@@ -61,26 +62,28 @@ reads-decide t ps a b l s = run-alike (λ c. List·Memᴰ c (cellsNamed reads ps
 abbrev Writes : List ℕ → Outcome → Type 0
 Writes cs o = ((o .reply .done ≡ true) × (cellsOf (o .update) ≡ cs)) ⊎ ((o .reply .done ≡ false) × (o .update ≡ []))
 
-onward-writes : (cs : List ℕ) (n : Next) (f : ℕ → Outcome) (x : ℕ) → ((y : ℕ) → Writes cs (f y)) → Writes cs (onward n f (declined x))
-onward-writes cs (continues y) f x h = h y
-onward-writes cs stops f x h = inr (refl, refl)
+onward-writes : (cs : List ℕ) (n : Next) (f : ℕ → Outcome) (x : ℕ) (ts : List ℕ) → ((y : ℕ) → Writes cs (f y))
+    → Writes cs (onward n f (declined x ts))
+onward-writes cs (continues y) f x ts h = h y
+onward-writes cs stops f x ts h = inr (refl, refl)
 
-run-writes : (ps : List ℕ) (ss : List Step) (s : Store) (x : ℕ) (u : Update)
-    → Writes (cellsOf u ++ cellsNamed writes ps ss) (runFrom ps ss s x u)
+run-writes : (ps : List ℕ) (ss : List Step) (s : Store) (x : ℕ) (ts : List ℕ) (u : Update)
+    → Writes (cellsOf u ++ cellsNamed writes ps ss) (runFrom ps ss s x ts u)
 unfolding runFrom cellsNamed
-run-writes ps [] s x u = inl (refl, sym (append-nil (cellsOf u)))
-run-writes ps (cell reads t k r ∷ ss) s x u = run-writes ps ss s (getD s (cellNumber t (valueOf ps r) k) 0) u
-run-writes ps (cell writes t k r ∷ ss) s x u =
+run-writes ps [] s x ts u = inl (refl, sym (append-nil (cellsOf u)))
+run-writes ps (cell reads t k r ∷ ss) s x ts u = run-writes ps ss s (getD s (cellNumber t (valueOf ps r) k) 0) ts u
+run-writes ps (cell writes t k r ∷ ss) s x ts u =
     let c = cellNumber t (valueOf ps r) k in
     let v = u ++ ((c, x) ∷ []) in
     let e : cellsOf v ++ cellsNamed writes ps ss ≡ cellsOf u ++ (c ∷ cellsNamed writes ps ss) = rw (map-append, append-assoc) in
-    subst (λ (cs : List ℕ). Writes cs (runFrom ps ss (set s c x) x v)) e (run-writes ps ss (set s c x) x v)
-run-writes ps (operand g v ∷ ss) s x u =
-    onward-writes (cellsOf u ++ cellsNamed writes ps ss) (act g x (valueOf ps v)) (λ y. runFrom ps ss s y u) x
-    (λ y. run-writes ps ss s y u)
+    subst (λ (cs : List ℕ). Writes cs (runFrom ps ss (set s c x) x ts v)) e (run-writes ps ss (set s c x) x ts v)
+run-writes ps (operand g v ∷ ss) s x ts u =
+    onward-writes (cellsOf u ++ cellsNamed writes ps ss) (act g x (valueOf ps v)) (λ y. runFrom ps ss s y ts u) x ts
+    (λ y. run-writes ps ss s y ts u)
+run-writes ps (tells ∷ ss) s x ts u = run-writes ps ss s x (ts ++ (x ∷ [])) u
 
 run-outcome : (t : Transaction) (ps : List ℕ) (s : Store) → Writes (cellsNamed writes ps (t .steps)) (runTransaction t ps s)
-run-outcome t ps s = run-writes ps (t .steps) s 0 []
+run-outcome t ps s = run-writes ps (t .steps) s 0 [] []
 
 pub done-writes : DoneWrites
 done-writes t ps s d = ⊎-elim (λ h. h .1) (λ h. absurd (false≢true (sym (h .0) ∙ d))) (run-outcome t ps s)
@@ -104,6 +107,7 @@ pub named-few : (a : Access) (ps : List ℕ) (ss : List Step) → length (cellsN
 unfolding cellsNamed
 named-few a ps [] = omega arith
 named-few a ps (operand f v ∷ ss) = let h = named-few a ps ss in omega arith
+named-few a ps (tells ∷ ss) = let h = named-few a ps ss in omega arith
 named-few reads ps (cell reads t k r ∷ ss) = let h = named-few reads ps ss in omega arith
 named-few reads ps (cell writes t k r ∷ ss) = let h = named-few reads ps ss in omega arith
 named-few writes ps (cell reads t k r ∷ ss) = let h = named-few writes ps ss in omega arith

@@ -1,5 +1,5 @@
 -- What a run reads and what it writes.
---     ReadsDecide       a run depends on the cells of its read steps only
+--     ReadsDecide       a run depends on the cells of its read steps only, in all that it answers, tells and writes
 --     DoneWrites        one that is done writes the cells of its write steps, in order
 --     DeclinedWrites    one that is declined writes nothing
 --     WritesWithin      what it writes is in its write set
@@ -17,7 +17,7 @@ use Rattle.execution.specs.Run.{runTransaction}
 abbrev pub cellsOf : Update → List ℕ
 cellsOf u = map (λ w. w .0) u
 
--- "It may read .. the cells of all its read .. steps": no other cell has a part in reply and update
+-- "It may read .. the cells of all its read .. steps": no other cell has a part in the reply, with its told numbers, or in the update
 abbrev pub ReadsDecide : Type 0
 ReadsDecide = (t : Transaction) (ps : List ℕ) (a b : Store) → length a ≡ length b
     → ((c : ℕ) → List·Memᴰ c (cellsNamed reads ps (t .steps)) → getD a c 0 ≡ getD b c 0)

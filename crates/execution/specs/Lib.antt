@@ -1,3 +1,4 @@
 pub mod Run
 pub mod Answer
 pub mod Effect
+pub mod Telling

@@ -8,14 +8,20 @@ ghost use Rattle.plan.specs.Place.{StandsAt, transactionFrom};
 ghost use Rattle.operation.specs.Operation.{valueOf};
 ghost use Rattle.operation.specs.Admission.{parametersPass};
 ghost use Rattle.operation.specs.Store.{applyUpdate};
-ghost use Rattle.execution.specs.Run.{act as actOn, declined as declinedAt, finished as finishedWith, runTransaction};
-ghost use Rattle.execution.specs.Answer.{nextOf, pairs, updateOf, outcomeOf};
+ghost use Rattle.execution.specs.Run.{act as actOn, replyWith, declined as declinedAt, finished as finishedWith, runTransaction};
+ghost use Rattle.execution.specs.Answer.{nextOf, toldOf, ZerosBehind, pairs, updateOf, outcomeOf};
+use crate::told;
+use crate::told::Told;
 use word::fields;
 
-// Done or declined, with the accumulator at the end or stop.
+// Done or declined, with the accumulator at the end or stop; and the told numbers in order, zero where untold.
 pub struct Reply {
     pub done: bool,
     pub number: u32,
+    pub told0: u32,
+    pub told1: u32,
+    pub told2: u32,
+    pub told3: u32,
 }
 
 // The written cells and values in step order: the first `count` of each.
@@ -112,6 +118,7 @@ pub fn run(plan: &[u32], at: usize, params: [u32; 4], store: &[u32]) -> Outcome
     let mut values: [u32; 12] = [0; 12];
     let mut count: usize = 0;
     let mut number: u32 = 0;
+    let mut told = told::nothing_told();
     let steps = plan::step_count(plan, at);
     let mut s: usize = 0;
     while s < steps {
@@ -125,29 +132,45 @@ pub fn run(plan: &[u32], at: usize, params: [u32; 4], store: &[u32]) -> Outcome
             cells[count] = operation::cell_named(word, params);
             values[count] = number;
             count = count + 1;
+        } else if kind == 13 {
+            told = told::tell(told, number);
         } else {
             match act(kind, number, operand_named(word, params)) {
                 Next::Continue(after) => {
                     number = after;
                 }
                 Next::Decline => {
-                    return declined(number);
+                    return declined(number, told);
                 }
             }
         }
     }
-    finished(number, count, cells, values)
+    finished(number, told, count, cells, values)
+}
+
+// The reply of a run that told these numbers.
+fn reply_with(done: bool, number: u32, told: Told) -> Reply
+    requires { ⌜ ZerosBehind told ⌝ }
+    ensures { λ r. ⌜ r ≡ replyWith done number (toldOf told) ⌝ }
+{
+    let numbers = told.numbers;
+    Reply {
+        done: done,
+        number: number,
+        told0: numbers[0],
+        told1: numbers[1],
+        told2: numbers[2],
+        told3: numbers[3],
+    }
 }
 
 // The outcome of a run that is done.
-fn finished(number: u32, count: usize, cells: [u32; 12], values: [u32; 12]) -> Outcome
-    ensures outcome { λ r. ⌜ outcomeOf r ≡ finishedWith number (pairs count cells values) ⌝ }
+fn finished(number: u32, told: Told, count: usize, cells: [u32; 12], values: [u32; 12]) -> Outcome
+    requires { ⌜ ZerosBehind told ⌝ }
+    ensures outcome { λ r. ⌜ outcomeOf r ≡ finishedWith number (toldOf told) (pairs count cells values) ⌝ }
     ensures count { λ r. ⌜ r .update .count ≡ count ⌝ }
 {
-    let reply = Reply {
-        done: true,
-        number: number,
-    };
+    let reply = reply_with(true, number, told);
     let update = Update {
         count: count,
         cells: cells,
@@ -159,16 +182,14 @@ fn finished(number: u32, count: usize, cells: [u32; 12], values: [u32; 12]) -> O
     }
 }
 
-// The outcome of a declined run, which writes nothing.
-fn declined(number: u32) -> Outcome
-    ensures outcome { λ r. ⌜ outcomeOf r ≡ declinedAt number ⌝ }
+// The outcome of a declined run, which writes nothing. What it told before the stop stays.
+fn declined(number: u32, told: Told) -> Outcome
+    requires { ⌜ ZerosBehind told ⌝ }
+    ensures outcome { λ r. ⌜ outcomeOf r ≡ declinedAt number (toldOf told) ⌝ }
     ensures count { λ r. ⌜ r .update .count ≡ 0 ⌝ }
 {
     let none: [u32; 12] = [0; 12];
-    let reply = Reply {
-        done: false,
-        number: number,
-    };
+    let reply = reply_with(false, number, told);
     let update = Update {
         count: 0,
         cells: none,

@@ -1,5 +1,6 @@
 // Running an operation on a store, and applying the update of a run.
 mod execution;
+mod told;
 
 pub use execution::Outcome;
 pub use execution::Reply;

@@ -1,7 +1,7 @@
 -- What an accepted visit gives, whatever the desk's past: the frame that it writes reads, it answers its waiting requests in order, and
 -- a frame with one word changed is refused.
 -- Assumes nothing.
-use Prim.Native.Nat.{ℕ, zero, suc, _*_, _≤_, _<_}
+use Prim.Native.Nat.{ℕ, zero, suc, _+_, _*_, _≤_, _<_}
 use mathlib.Core.Path.{_≡_, refl, sym, _∙_, ap}
 use mathlib.Core.Logic.{inl, inr, ⊎-elim}
 use mathlib.Core.Bool.{Bool, true, _&&_}
@@ -9,7 +9,7 @@ use mathlib.Core.List.{List, [], _∷_, _++_, List·Memᴰ, List·Memᴰ·head, 
 use native.Mathlib.Omega.{arith}
 use lib.Dec.{eqb}
 use lib.ListN.{length, getD, set, take, drop}
-use lib.Seq.{take-append-seam, drop-append-seam, length-take-le, getD-take, take-take}
+use lib.Seq.{take-append-seam, drop-append-seam, drop-append-add, length-take-le, getD-take, take-take}
 use borrow.Author.Tests.{eqb-true}
 use Rattle.verdict.specs.Verdict.{Verdict, accepted, refused, isAccepted}
 use Rattle.verdict.proofs.Verdicts.{ask-then-accepted, then-accepted, isAccepted-accepted}
@@ -32,7 +32,7 @@ use Rattle.desk.specs.Queueing.{operationOf}
 use Rattle.desk.specs.Admission.{deskBuffersFit, waitsHere, deskFits}
 use Rattle.visits.specs.Admission.{visitBuffersFit}
 use Rattle.visits.specs.Visit.{forwarded, Visited, caughtUp, outgoingFrame, visitedBy, visitVerdict, visitResult}
-use Rattle.visits.specs.Waiting.{runAll, Answered, repliesOf, replyWords, repliesWords}
+use Rattle.visits.specs.Waiting.{runAll, Answered, repliesOf, replySize, replyWords, repliesWords}
 use Rattle.visits.specs.Running.{replyTo, allReplies}
 use Rattle.visits.proofs.WaitingRuns.{replies-length}
 use Rattle.visits.proofs.OwnUpdates.{replies-count}
@@ -55,8 +55,11 @@ unfolding repliesOf repliesWords runAll
 replies-at p [] s k rest l = absurd (omega arith)
 replies-at p (r ∷ q) s zero rest l = refl
 replies-at p (r ∷ q) s (suc k) rest l =
-    let e : 3 * suc k ≡ suc (suc (suc (3 * k))) = omega arith in
-    rw e (replies-at p q (applyUpdate (run p (operationOf r) s .update) s) k rest (omega arith))
+    let after = applyUpdate (run p (operationOf r) s .update) s in
+    let e : replySize * suc k ≡ replySize + replySize * k = omega arith in
+    ap (λ (n : ℕ). take replySize (drop n (repliesWords (repliesOf p (r ∷ q) s) ++ rest))) e
+    ∙ ap (take replySize) (drop-append-add (replyWords (replyTo p r s)) (repliesWords (repliesOf p q after) ++ rest) (replySize * k))
+    ∙ replies-at p q after k rest (omega arith)
 
 module _ (plan : List ℕ) (h : Holding) (frame out replies : List ℕ) where
   abbrev d : Desk
@@ -124,9 +127,9 @@ module _ (plan : List ℕ) (h : Holding) (frame out replies : List ℕ) where
     waiting-length : length waiting ≡ d .waiting
     waiting-length = length-take-le (d .waiting) (h .queue) room-of
 
-    replies-size : length (repliesWords given) ≡ 3 * d .waiting
+    replies-size : length (repliesWords given) ≡ replySize * d .waiting
     unfolding allReplies
-    replies-size = replies-length (planOf plan) waiting caught ∙ ap (λ (n : ℕ). 3 * n) waiting-length
+    replies-size = replies-length (planOf plan) waiting caught ∙ ap (λ (n : ℕ). replySize * n) waiting-length
 
     answers-each : (k : ℕ) (r : Request) → WaitsAt k r h →
         replyPart k (left .replies) ≡ replyWords (replyTo (planOf plan) r (storeBefore plan h frame k))

@@ -9,7 +9,7 @@ use lib.ListN.{getD}
 use Rattle.lists.specs.Lists.{every, some}
 use Rattle.word.specs.Reserved.{reservedZero, sourceField}
 use Rattle.plan.specs.Decode.{stepOf, partBy, accessBy, actionBy, transactionsOf, planOf}
-use Rattle.plan.specs.Admission.{hasHead, countsInRange, transactionFormed, stepFormed, sourceExists, stepExists, partExists}
+use Rattle.plan.specs.Admission.{hasHead, countsInRange, transactionFormed, stepFormed, tellCount, sourceExists, stepExists, partExists}
 use Rattle.plan.specs.Admission.{parametersExist, transactionsVerdict, planVerdict}
 use Rattle.operation.specs.Operation.{cellsNamed}
 use Rattle.operation.specs.Admission.{transactionExists, unusedZero, rowInRange, parametersPass, operationVerdict}
@@ -40,7 +40,7 @@ small a b h k (suc (suc (suc zero))) = omega arith
 small a b h k (suc (suc (suc (suc i)))) = omega arith
 
 pub course : Course
-unfolding ones planVerdict hasHead countsInRange transactionsVerdict plans.wellFormed every transactionFormed stepFormed
+unfolding ones planVerdict hasHead countsInRange transactionsVerdict plans.wellFormed every transactionFormed stepFormed tellCount
     parametersExist partExists stepExists sourceExists transactionsOf planOf stepOf partBy accessBy actionBy reservedZero sourceField
     frameVerdict frameHeaded sumsRight updatesRight wellFormed updateFormed cellFormed fewPerDesk deskCount writesFrom updatesFrom
     sumsFrom frameAround cellsNamed transactionExists unusedZero rowInRange parametersPass operationVerdict applyUpdate act runFrom

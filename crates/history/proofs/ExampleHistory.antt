@@ -7,7 +7,7 @@ use mathlib.Core.List.{List, [], _∷_, map, List·Memᴰ·head, List·Memᴰ·t
 use native.Mathlib.Omega.{arith}
 use Rattle.lists.specs.Lists.{every}
 use Rattle.operation.specs.Operation.{cellsNamed}
-use Rattle.execution.specs.Run.{Reply, act, runFrom}
+use Rattle.execution.specs.Run.{Reply, replyWith, act, runFrom}
 use Rattle.conflict.proofs.Ones.{countOf}
 use Rattle.serial.specs.Store.{Store}
 use Rattle.serial.specs.Frame.{Frame, startFrame}
@@ -23,7 +23,7 @@ abbrev ask : ℕ → ℕ → Op → Call Op Unit
 ask p client o = request p (record { client = client; op = o }) tt
 
 abbrev says : ℕ → Reply
-says x = record { done = true; number = x }
+says x = replyWith true x []
 
 abbrev store₀ : Store
 store₀ = 0 ∷ 0 ∷ 0 ∷ 7 ∷ []

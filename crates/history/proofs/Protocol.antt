@@ -45,7 +45,7 @@ module _ (ws : List ℕ) (class : Operation → Class) (records : ℕ → ℕ) w
 
   -- what is no operation does nothing
   abbrev pub ran : Operation → Store → Outcome
-  ran o s = cond (isOperation thePlan o) (run thePlan o s) (declined 0)
+  ran o s = cond (isOperation thePlan o) (run thePlan o s) (declined 0 [])
 
   -- 5 for a desk with this store and a queue of as many records as desk p's
   abbrev pub sizesFit : Store → ℕ → Bool

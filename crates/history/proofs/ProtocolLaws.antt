@@ -4,7 +4,7 @@ use Prim.Native.Nat.{ℕ}
 use mathlib.Core.Path.{_≡_, refl, ap, subst}
 use mathlib.Core.Logic.{inl, inr}
 use mathlib.Core.Bool.{Bool, true, false, cond}
-use mathlib.Core.List.{List}
+use mathlib.Core.List.{List, []}
 use lib.Dec.{eqb, eqb→eq}
 use Rattle.verdict.specs.Verdict.{accepted}
 use Rattle.lists.proofs.Laws.{and-fst, T-true, true-T, cons-in-snoc, snoc-in-cons, by-same}
@@ -51,7 +51,7 @@ module _ (ws : List ℕ) (accept : planVerdict ws ≡ accepted) (class : Operati
   ran-reads o a b s = go (isOperation (planOf ws) o) refl
     where
       go : (t : Bool) → isOperation (planOf ws) o ≡ t →
-          cond t (run (planOf ws) o a) (declined 0) ≡ cond t (run (planOf ws) o b) (declined 0)
+          cond t (run (planOf ws) o a) (declined 0 []) ≡ cond t (run (planOf ws) o b) (declined 0 [])
       go true e =
           reads-decide (transactionOf (planOf ws) o) (o .params) a b (s .0) (λ c m. s .1 c (is-of-decided (planOf ws) o e, m))
       go false e = refl
@@ -59,7 +59,7 @@ module _ (ws : List ℕ) (accept : planVerdict ws ≡ accepted) (class : Operati
   ran-writes : (o : Operation) (s : Store) → Within (Writes o) (ran ws class records o s .update)
   ran-writes o s = go (isOperation (planOf ws) o) refl
     where
-      go : (t : Bool) → isOperation (planOf ws) o ≡ t → Within (Writes o) (cond t (run (planOf ws) o s) (declined 0) .update)
+      go : (t : Bool) → isOperation (planOf ws) o ≡ t → Within (Writes o) (cond t (run (planOf ws) o s) (declined 0 []) .update)
       go true e =
           Within-part (MayWrite (planOf ws) o) (Writes o) (run (planOf ws) o s .update) (λ c m. (is-of-decided (planOf ws) o e, m))
           (run-update-writes (planOf ws) o s)

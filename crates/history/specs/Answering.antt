@@ -38,7 +38,7 @@ module _ (plan : List ℕ) (h : Holding) (frame : List ℕ) where
   -- what the visit puts out: `count` replies, over the front of these reply words
   pub record AnswersWaiting (replies : List ℕ) (count : ℕ) (left : Visited) : Type 0 where
     pub count-is : count ≡ h .state .waiting
-    -- record k's reply is reply k: "kind 12 with bit 0 set if done, the client's word, the number", of its own run
+    -- record k's reply is reply k: "kind 12 with bit 0 set if done, the client's word, the number" and "the told numbers", of its own run
     pub each : (k : ℕ) (r : Request) → WaitsAt k r h → replyPart k (left .replies) ≡ replyWords (replyTo (planOf plan) r (storeBefore k))
     -- "Words past what is written are untouched."
     pub untouched : drop (replySize * count) (left .replies) ≡ drop (replySize * count) replies

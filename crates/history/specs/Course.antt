@@ -24,7 +24,7 @@ abbrev sending : List ℕ
 sending = sentFrame 0xA0100000
 
 abbrev done : ℕ → asked.Response
-done x = asked.replied (record { done = true; number = x })
+done x = asked.replied (record { done = true; number = x; told0 = 0; told1 = 0; told2 = 0; told3 = 0 })
 
 abbrev pub zeros : List ℕ
 zeros = replicate 1024 0
@@ -32,9 +32,9 @@ zeros = replicate 1024 0
 abbrev pub blank : ℕ → List Request
 blank p = replicate 32 noRequest
 
--- the buffers have the paper's own numbers of words, "6,404" and "96", as the cells and records above have theirs
+-- the buffers have the papers' own numbers of words, "6,404" and "224", as the cells and records above have theirs
 abbrev visitWith : ℕ → List ℕ → Call
-visitWith p frame = visit p frame (replicate 6404 0) (replicate 96 0)
+visitWith p frame = visit p frame (replicate 6404 0) (replicate 224 0)
 
 -- T2(1) at desk 1, T1(0, 3) at desk 0, visit 0, T2(1) again, visit 1, a replay, and T2(1) once more; of clients 5, 7, 6 and 8
 abbrev pub calls : List Call
@@ -61,13 +61,14 @@ found os = (
   getD (storeAfter (planOf planP) (order (serialRun os)) zeros) 128 0,
 )
 
--- "T2(1) at desk 1 gives 0 before visit 1, 3 after"; "reply C0000001 00000007 00000003"; "The frame twice at desk 1: 14". "A read at one
--- desk may precede, in this order, a global already answered at another": client 6 is answered 0 after client 7's T1, and stands before it
+-- "T2(1) at desk 1 gives 0 before visit 1, 3 after"; "reply C0000001 00000007 00000003", with nothing told; "The frame twice at desk 1:
+-- 14". "A read at one desk may precede, in this order, a global already answered at another": client 6 is answered 0 after client 7's T1,
+-- and stands before it
 abbrev pub expected : Rows
 expected = (
   inl (done 0) ∷ inl asked.waits ∷ inr (visiting.forwarded 7 1) ∷ inl (done 0) ∷ inr (visiting.forwarded 7 0)
       ∷ inr (visiting.visitRefused 14) ∷ inl (done 3) ∷ [],
-  record { client = 7; reply = record { done = true; number = 3 } } ∷ [],
+  record { client = 7; reply = record { done = true; number = 3; told0 = 0; told1 = 0; told2 = 0; told3 = 0 } } ∷ [],
   5 ∷ 6 ∷ 7 ∷ 8 ∷ [],
   3,
 )

@@ -148,7 +148,8 @@ module _ (p : Plan) where
   storeAfter [] s = s
   storeAfter (e ∷ es) s = storeAfter es (ranOne (e .request) s)
 
-  -- the replies to what call i finished, in serial order and with their clients' words
+  -- the replies to what call i finished, in serial order and with their clients' words. "Serial replies are compared with their told
+  -- numbers.": a reply is the whole of what a run answers
   abbrev pub due : ℕ → List Finished → Store → List Answered
   due i [] s = []
   due i (e ∷ es) s =

@@ -11,8 +11,8 @@ use borrow.Author.Tests.{leb-true}
 use Rattle.lists.specs.Lists.{every}
 use Rattle.lists.proofs.Laws.{and-fst, and-snd}
 use Rattle.word.specs.Field.{kindOf, stepCount, tableField, columnField, rowSource, fixedRow, operandSource, fixedNumber}
-use Rattle.plan.specs.Plan.{Source, param, fixed, Access, reads, writes, Action, Step, cell, operand}
-use Rattle.plan.specs.Decode.{sourceBy, accessBy, actionBy, stepOf}
+use Rattle.plan.specs.Plan.{Source, param, fixed, Access, reads, writes, Action, Step, cell, operand, tells}
+use Rattle.plan.specs.Decode.{sourceBy, accessBy, actionBy, isTell, stepOf}
 use Rattle.plan.specs.Place.{transactionFrom}
 use Rattle.operation.specs.Operation.{valueOf, cellNumber, cellsNamed}
 use Rattle.operation.specs.Admission.{rowInRange}
@@ -25,6 +25,7 @@ FieldsFit (cell a t k (param i)) = (t < 8) × (k < 4)
 FieldsFit (cell a t k (fixed v)) = (t < 8) × (k < 4) × (v < 32)
 FieldsFit (operand f (param i)) = Unit {0}
 FieldsFit (operand f (fixed v)) = v < 2 ^ 25
+FieldsFit tells = Unit {0}
 
 abbrev pub AllFit : List Step → Type 0
 AllFit ss = (st : Step) → List·Memᴰ st ss → FieldsFit st
@@ -46,7 +47,8 @@ operand-fits f w s = go (eqb s 7)
 pub decoded-fits : (w : ℕ) → FieldsFit (stepOf w)
 unfolding stepOf
 decoded-fits w =
-    go (leb (kindOf w) 4) _ _ (cell-fits (accessBy (kindOf w)) w (rowSource w)) (operand-fits (actionBy (kindOf w)) w (operandSource w))
+    go (leb (kindOf w) 4) _ _ (cell-fits (accessBy (kindOf w)) w (rowSource w))
+    (go (isTell w) tells _ tt (operand-fits (actionBy (kindOf w)) w (operandSource w)))
   where
     go : (b : Bool) (s t : Step) → FieldsFit s → FieldsFit t → FieldsFit (cond b s t)
     go true s t p q = p
@@ -71,6 +73,7 @@ unfolding cellsNamed every
 cells-low a ps [] f e c m = absurd (List·Memᴰ·not-nil m)
 cells-low a ps (operand g v ∷ ss) f e c m =
     cells-low a ps ss (λ st h. f st (List·Memᴰ·tail h)) (and-snd (rowInRange ps (operand g v)) _ e) c m
+cells-low a ps (tells ∷ ss) f e c m = cells-low a ps ss (λ st h. f st (List·Memᴰ·tail h)) (and-snd (rowInRange ps tells) _ e) c m
 cells-low a ps (cell b t k r ∷ ss) f e c m =
     go a b m (cells-low a ps ss (λ st h. f st (List·Memᴰ·tail h)) (and-snd (rowInRange ps (cell b t k r)) _ e) c)
   where

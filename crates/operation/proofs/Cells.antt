@@ -6,7 +6,7 @@ use mathlib.Core.List.{List, [], _∷_, List·Memᴰ, List·Memᴰ·head, List·
 use mathlib.Core.Logic.{_⊎_, ⊎-elim}
 use Prim.Native.Nat.{ℕ}
 use native.Mathlib.Omega.{arith}
-use Rattle.plan.specs.Plan.{Source, Access, reads, writes, Step, cell, operand}
+use Rattle.plan.specs.Plan.{Source, Access, reads, writes, Step, cell, operand, tells}
 use Rattle.operation.specs.Operation.{valueOf, cellNumber, sameAccess, cellsNamed}
 
 -- ---- named by a step
@@ -37,6 +37,7 @@ module _ (a : Access) (ps : List ℕ) where
   unfolding cellsNamed
   names-of [] c m = absurd (List·Memᴰ·not-nil m)
   names-of (operand f v ∷ ss) c m = later (operand f v) ss c (names-of ss c m)
+  names-of (tells ∷ ss) c m = later tells ss c (names-of ss c m)
   names-of (cell b t k r ∷ ss) c m = go (sameAccess a b) refl m (names-of ss c)
     where
       go : (e : Bool) → sameAccess a b ≡ e → List·Memᴰ c (cond e (cellNumber t (valueOf ps r) k ∷ cellsNamed a ps ss) (cellsNamed a ps ss))
@@ -59,6 +60,7 @@ module _ (a : Access) (ps : List ℕ) where
   of-names (s ∷ ss) t k r (List·Memᴰ·head p) =
       subst (λ (x : Step). List·Memᴰ (cellNumber t (valueOf ps r) k) (cellsNamed a ps (x ∷ ss))) p (rw (same-self a) (List·Memᴰ·head refl))
   of-names (operand f v ∷ ss) t k r (List·Memᴰ·tail m) = of-names ss t k r m
+  of-names (tells ∷ ss) t k r (List·Memᴰ·tail m) = of-names ss t k r m
   of-names (cell b t′ k′ r′ ∷ ss) t k r (List·Memᴰ·tail m) = go (sameAccess a b) (of-names ss t k r m)
     where
       go : (e : Bool) → List·Memᴰ (cellNumber t (valueOf ps r) k) (cellsNamed a ps ss)

@@ -7,7 +7,7 @@ use lib.ListN.{length, getD, drop}
 use lib.Dec.{ltb, leb, eqb}
 use Rattle.verdict.specs.Verdict.{Verdict, accepted, ask, _then_}
 use Rattle.lists.specs.Lists.{every}
-use Rattle.plan.specs.Plan.{param, fixed, Step, cell, operand, Transaction, Plan}
+use Rattle.plan.specs.Plan.{param, fixed, Step, cell, operand, tells, Transaction, Plan}
 use Rattle.operation.specs.Operation.{Operation, transactionOf}
 
 -- 7: "Does the transaction exist?"
@@ -23,6 +23,7 @@ unfoldable pub rowInRange : List ℕ → Step → Bool
 rowInRange ps (cell a t c (param i)) = leb (getD ps i 0) 31
 rowInRange ps (cell a t c (fixed v)) = true
 rowInRange ps (operand f v) = true
+rowInRange ps tells = true
 
 unfoldable pub parametersPass : Transaction → List ℕ → Bool
 parametersPass t ps = unusedZero (t .params) ps && every (rowInRange ps) (t .steps)

@@ -4,7 +4,7 @@ use mathlib.Core.Bool.{Bool, true, false, cond}
 use mathlib.Core.List.{List, [], _∷_, List·Memᴰ}
 use mathlib.Core.Logic.{_⊎_}
 use lib.ListN.{getD}
-use Rattle.plan.specs.Plan.{Source, param, fixed, Access, reads, writes, Step, cell, operand, Partitioning, byParam, unpartitioned}
+use Rattle.plan.specs.Plan.{Source, param, fixed, Access, reads, writes, Step, cell, operand, tells, Partitioning, byParam, unpartitioned}
 use Rattle.plan.specs.Plan.{Transaction, Plan, transactionAt}
 
 -- the number of a transaction, and parameter words
@@ -47,6 +47,7 @@ cellsNamed a ps [] = []
 cellsNamed a ps (cell b table column row ∷ ss) =
     cond (sameAccess a b) (cellNumber table (valueOf ps row) column ∷ cellsNamed a ps ss) (cellsNamed a ps ss)
 cellsNamed a ps (operand f v ∷ ss) = cellsNamed a ps ss
+cellsNamed a ps (tells ∷ ss) = cellsNamed a ps ss
 
 -- the read set and the write set (002, "Operation conflicts")
 abbrev pub readSet : Plan → Operation → List ℕ

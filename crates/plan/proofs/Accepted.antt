@@ -2,7 +2,7 @@
 -- Assumes nothing.
 use mathlib.Core.Path.{_≡_, refl, ap}
 use mathlib.Core.Bool.{true, false, false≢true}
-use mathlib.Core.List.{List, [], _∷_}
+use mathlib.Core.List.{List, [], _∷_, map}
 use Prim.Native.Nat.{ℕ, zero, suc, _≤_}
 use lib.Dec.{leb}
 use lib.ListN.{length, take, drop}
@@ -12,9 +12,9 @@ use Rattle.verdict.proofs.Verdicts.{ask-accepted, ask-then-accepted}
 use Rattle.lists.specs.Lists.{every}
 use Rattle.lists.proofs.Laws.{and-fst, and-snd}
 use Rattle.word.specs.Field.{headDesks, headTransactions, stepCount}
-use Rattle.plan.specs.Decode.{headOf, transactionsOf, planOf}
-use Rattle.plan.specs.Admission.{hasHead, countsInRange, wellFormed, transactionFormed, stepFormed, parametersExist}
-use Rattle.plan.specs.Admission.{transactionsVerdict, planVerdict, longestPlan}
+use Rattle.plan.specs.Decode.{stepOf, headOf, transactionsOf, planOf}
+use Rattle.plan.specs.Admission.{hasHead, countsInRange, wellFormed, transactionFormed, stepFormed, tellCount, mostTells}
+use Rattle.plan.specs.Admission.{parametersExist, transactionsVerdict, planVerdict, longestPlan}
 
 pub record Accepted (ws : List ℕ) : Type 0 where
   -- 1
@@ -57,7 +57,8 @@ formed-count zero ws e = refl
 formed-count (suc n) [] e = absurd (false≢true e)
 formed-count (suc n) (w ∷ ws) e =
     let f = and-snd (leb (stepCount w) (length ws)) _ (and-snd (transactionFormed w) _ e) in
-    ap suc (formed-count n (drop (stepCount w) ws) (and-snd (every stepFormed (take (stepCount w) ws)) _ f))
+    let g = and-snd (every stepFormed (take (stepCount w) ws)) _ f in
+    ap suc (formed-count n (drop (stepCount w) ws) (and-snd (leb (tellCount (map stepOf (take (stepCount w) ws))) mostTells) _ g))
 
 pub transaction-count : (ws : List ℕ) → planVerdict ws ≡ accepted → length (planOf ws .transactions) ≡ headTransactions (headOf ws)
 unfolding planOf

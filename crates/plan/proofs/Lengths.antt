@@ -2,7 +2,7 @@
 -- Assumes nothing.
 use mathlib.Core.Path.{_≡_}
 use mathlib.Core.Bool.{true, false≢true}
-use mathlib.Core.List.{List, [], _∷_}
+use mathlib.Core.List.{List, [], _∷_, map}
 use Prim.Native.Nat.{ℕ, zero, suc, _*_, _≤_}
 use native.Mathlib.Omega.{arith}
 use lib.Dec.{leb, eqb}
@@ -11,7 +11,8 @@ use borrow.Author.Tests.{leb-true}
 use Rattle.lists.specs.Lists.{every}
 use Rattle.lists.proofs.Laws.{and-fst, and-snd}
 use Rattle.word.specs.Field.{kindOf, parameterCount, stepCount}
-use Rattle.plan.specs.Admission.{wellFormed, transactionFormed, stepFormed, WellFormedFits}
+use Rattle.plan.specs.Decode.{stepOf}
+use Rattle.plan.specs.Admission.{wellFormed, transactionFormed, stepFormed, tellCount, mostTells, WellFormedFits}
 
 few-steps : (w : ℕ) → transactionFormed w ≡ true → stepCount w ≤ 12
 unfolding transactionFormed
@@ -28,7 +29,8 @@ formed-length (suc n) [] e = absurd (false≢true e)
 formed-length (suc n) (w ∷ ws) e =
     let few = few-steps w (and-fst (transactionFormed w) _ e) in
     let a = and-snd (leb (stepCount w) (length ws)) _ (and-snd (transactionFormed w) _ e) in
-    let rest = formed-length n (drop (stepCount w) ws) (and-snd (every stepFormed (take (stepCount w) ws)) _ a) in
+    let b = and-snd (every stepFormed (take (stepCount w) ws)) _ a in
+    let rest = formed-length n (drop (stepCount w) ws) (and-snd (leb (tellCount (map stepOf (take (stepCount w) ws))) mostTells) _ b) in
     omega (arith, few, rest, length-drop (stepCount w) ws)
 
 pub well-formed-fits : WellFormedFits

@@ -5,3 +5,4 @@ pub mod Places
 pub mod Placing
 pub mod Steps
 pub mod Lengths
+pub mod Tells

@@ -1,8 +1,8 @@
 -- Transaction k of an accepted plan stands whole at its place, and decodes to entry k.
 -- Assumes nothing.
 use mathlib.Core.Path.{_≡_, _∙_, sym, ap, refl}
-use mathlib.Core.Bool.{true, false, false≢true}
-use mathlib.Core.List.{List, [], _∷_}
+use mathlib.Core.Bool.{true, false, _&&_, false≢true}
+use mathlib.Core.List.{List, [], _∷_, map}
 use Prim.Native.Nat.{ℕ, zero, suc, _+_, _-_, _≤_, _<_}
 use native.Mathlib.Nat.{sub-zero, add-zero}
 use native.Mathlib.Numerals.{add-one}
@@ -17,8 +17,8 @@ use Rattle.lists.specs.Lists.{every}
 use Rattle.lists.proofs.Laws.{and-fst, and-snd, left-suc, drop-cases}
 use Rattle.word.specs.Field.{stepCount, headTransactions}
 use Rattle.plan.specs.Plan.{Transaction, noTransaction, transactionAt}
-use Rattle.plan.specs.Decode.{transactionsOf, planOf, headOf}
-use Rattle.plan.specs.Admission.{wellFormed, transactionFormed, stepFormed, planVerdict}
+use Rattle.plan.specs.Decode.{stepOf, transactionsOf, planOf, headOf}
+use Rattle.plan.specs.Admission.{wellFormed, transactionFormed, stepFormed, tellCount, mostTells, planVerdict}
 use Rattle.plan.specs.Place.{transactionPlace, transactionFrom, StandsAt}
 use Rattle.plan.proofs.Accepted.{accepted-gives, transaction-count}
 
@@ -49,6 +49,14 @@ module _ (ws : List ℕ) (txs k at : ℕ) (h : k < txs) (p : Past ws txs k at) w
   unfolding transactionsOf
   rest-here = p .rest ∙ rw (left-suc txs k h, word-here .1)
 
+  -- behind the question on the form of its steps
+  behind-steps : (leb (tellCount (map stepOf (take (stepCount (getD ws at 0)) (drop (at + 1) ws)))) mostTells
+      && wellFormed (txs - (k + 1)) (drop (stepCount (getD ws at 0)) (drop (at + 1) ws))) ≡ true
+  unfolding wellFormed
+  behind-steps =
+      and-snd (every stepFormed (take (stepCount (getD ws at 0)) (drop (at + 1) ws))) _
+      (and-snd (leb (stepCount (getD ws at 0)) (length (drop (at + 1) ws))) _ (and-snd (transactionFormed (getD ws at 0)) _ form-here))
+
   stands-here : StandsAt ws at
   unfolding wellFormed
   stands-here =
@@ -59,10 +67,10 @@ module _ (ws : List ℕ) (txs k at : ℕ) (h : k < txs) (p : Past ws txs k at) w
         form = and-fst (transactionFormed (getD ws at 0)) _ form-here;
         steps = and-fst (every stepFormed (take (stepCount (getD ws at 0)) (drop (at + 1) ws))) _
             (and-snd (leb (stepCount (getD ws at 0)) (length (drop (at + 1) ws))) _ f);
+        tells-few = leb-true (tellCount (transactionFrom ws at .steps)) mostTells (and-fst _ _ behind-steps);
       }
 
   past-more : Past ws txs (suc k) (at + 1 + stepCount (getD ws at 0))
-  unfolding wellFormed
   past-more = record {
     rest = ap (λ (i : ℕ). drop i (transactionsOf txs (drop 1 ws))) (sym (add-one k))
         ∙ sym (drop-drop 1 k (transactionsOf txs (drop 1 ws))) ∙ ap (drop 1) rest-here
@@ -70,8 +78,7 @@ module _ (ws : List ℕ) (txs k at : ℕ) (h : k < txs) (p : Past ws txs k at) w
         ∙ ap (λ (i : ℕ). transactionsOf (txs - i) (drop (at + 1 + stepCount (getD ws at 0)) ws)) (add-one k);
     form = ap (λ (i : ℕ). wellFormed (txs - i) (drop (at + 1 + stepCount (getD ws at 0)) ws)) (sym (add-one k))
         ∙ ap (wellFormed (txs - (k + 1))) (sym (drop-drop (stepCount (getD ws at 0)) (at + 1) ws))
-        ∙ and-snd (every stepFormed (take (stepCount (getD ws at 0)) (drop (at + 1) ws))) _
-        (and-snd (leb (stepCount (getD ws at 0)) (length (drop (at + 1) ws))) _ (and-snd (transactionFormed (getD ws at 0)) _ form-here));
+        ∙ and-snd (leb (tellCount (map stepOf (take (stepCount (getD ws at 0)) (drop (at + 1) ws)))) mostTells) _ behind-steps;
   }
 
 past-at : (ws : List ℕ) → planVerdict ws ≡ accepted → (k : ℕ) → k ≤ headTransactions (headOf ws)

@@ -3,10 +3,10 @@
 use mathlib.Core.Path.{_≡_, refl}
 use mathlib.Core.Bool.{Bool, true, false, not, _&&_, _||_, cond, and-false}
 use mathlib.Core.Logic.{_⊎_, inl, inr, ⊎-elim}
-use borrow.Author.Tests.{ltb-true, lt-ltb}
+use borrow.Author.Tests.{ltb-true, lt-ltb, leb-false, le-leb, lt-leb}
 use mathlib.Core.List.{List, [], _∷_, map}
 use Prim.Native.Nat.{ℕ, suc, _+_, _-_, _≤_, _<_}
-use native.Mathlib.Nat.{sub-zero}
+use native.Mathlib.Nat.{sub-zero, add-zero, zero-add, add-assoc}
 use native.Mathlib.Omega.{arith}
 use lib.Dec.{ltb, leb, leb·zero, leb·suc-suc, leb·suc-zero}
 use lib.ListN.{length, getD, take, drop, drop-of-length-le}
@@ -17,6 +17,7 @@ use Rattle.lists.proofs.Laws.{and-fst, and-snd, left-suc, drop-here, drop-cases
 use Rattle.word.specs.Field.{parameterCount, stepCount, partitioningField}
 use Rattle.plan.specs.Decode.{transactionsOf, stepOf, partBy}
 use Rattle.plan.specs.Admission.{wellFormed, parametersExist, transactionFormed, stepFormed}
+use Rattle.plan.specs.Admission.{oneIfTells, tellCount, mostTells, stepFits}
 use Rattle.plan.specs.Admission.{stepExists, partExists}
 use Rattle.plan.specs.Admission.{transactionsVerdict}
 
@@ -24,10 +25,11 @@ use Rattle.plan.specs.Admission.{transactionsVerdict}
 rest : ℕ → List ℕ → Bool → Verdict
 rest n ws m = ask 3 (wellFormed n ws) then ask 4 (not m && every parametersExist (transactionsOf n ws))
 
--- the same inside a transaction with p parameters, of which k steps are still to come, and n transactions behind it
-restIn : ℕ → ℕ → ℕ → List ℕ → Bool → Verdict
-restIn k p n ws m =
-    ask 3 (leb k (length ws) && (every stepFormed (take k ws) && wellFormed n (drop k ws)))
+-- the same inside a transaction with p parameters, of which k steps are still to come behind some that tell, and n transactions behind it
+restIn : ℕ → ℕ → ℕ → ℕ → List ℕ → Bool → Verdict
+restIn k p n tells ws m =
+    ask 3 (leb k (length ws) && (every stepFormed (take k ws)
+    && (leb (tells + tellCount (map stepOf (take k ws))) mostTells && wellFormed n (drop k ws))))
     then ask 4 (not m && (every (stepExists p) (map stepOf (take k ws)) && every parametersExist (transactionsOf n (drop k ws))))
 
 -- ---- one word of a list
@@ -55,27 +57,36 @@ unfolding rest wellFormed
 rest-bad n w ws m e = simp e
 
 rest-good : (n w : ℕ) (ws : List ℕ) (m : Bool) → transactionFormed w ≡ true
-    → rest (suc n) (w ∷ ws) m ≡ restIn (stepCount w) (parameterCount w) n ws
+    → rest (suc n) (w ∷ ws) m ≡ restIn (stepCount w) (parameterCount w) n 0 ws
     (m || not (partExists (parameterCount w) (partBy (partitioningField w))))
 unfolding rest restIn wellFormed transactionsOf every parametersExist
-rest-good n w ws m e = simp (e, noted)
+rest-good n w ws m e = simp (e, noted, zero-add)
 
-in-zero : (p n : ℕ) (ws : List ℕ) (m : Bool) → restIn 0 p n ws m ≡ rest n ws m
-unfolding rest restIn every
-in-zero p n ws m = simp leb·zero
+in-zero : (p n tells : ℕ) (ws : List ℕ) (m : Bool) → tells ≤ mostTells → restIn 0 p n tells ws m ≡ rest n ws m
+unfolding rest restIn every tellCount
+in-zero p n tells ws m h = simp (leb·zero, add-zero, le-leb tells mostTells h)
 
-in-nil : (k p n : ℕ) (m : Bool) → restIn (suc k) p n [] m ≡ refused 3
+in-nil : (k p n tells : ℕ) (m : Bool) → restIn (suc k) p n tells [] m ≡ refused 3
 unfolding restIn
-in-nil k p n m = simp leb·suc-zero
+in-nil k p n tells m = simp leb·suc-zero
 
-in-bad : (k p n w : ℕ) (ws : List ℕ) (m : Bool) → stepFormed w ≡ false → restIn (suc k) p n (w ∷ ws) m ≡ refused 3
-unfolding restIn every
-in-bad k p n w ws m e = simp (e, and-false)
+-- a word that is not well formed, or tells and is one too many
+in-bad : (k p n tells w : ℕ) (ws : List ℕ) (m : Bool) → stepFits tells w ≡ false → restIn (suc k) p n tells (w ∷ ws) m ≡ refused 3
+unfolding restIn every tellCount
+in-bad k p n tells w ws m e = go (stepFormed w) refl
+  where
+    go : (b : Bool) → stepFormed w ≡ b → restIn (suc k) p n tells (w ∷ ws) m ≡ refused 3
+    go false f = simp (f, and-false)
+    go true f =
+        let h : mostTells < tells + oneIfTells (stepOf w) = leb-false (tells + oneIfTells (stepOf w)) mostTells (simp f at e) in
+        simp (f, lt-leb (tells + (oneIfTells (stepOf w) + tellCount (map stepOf (take k ws)))) mostTells (omega arith), and-false)
 
-in-good : (k p n w : ℕ) (ws : List ℕ) (m : Bool) → stepFormed w ≡ true
-    → restIn (suc k) p n (w ∷ ws) m ≡ restIn k p n ws (m || not (stepExists p (stepOf w)))
-unfolding restIn every
-in-good k p n w ws m e = simp (e, noted, leb·suc-suc)
+in-good : (k p n tells w : ℕ) (ws : List ℕ) (m : Bool) → stepFits tells w ≡ true
+    → restIn (suc k) p n tells (w ∷ ws) m ≡ restIn k p n (tells + oneIfTells (stepOf w)) ws (m || not (stepExists p (stepOf w)))
+unfolding restIn every tellCount
+in-good k p n tells w ws m e =
+    let behind = tellCount (map stepOf (take k ws)) in
+    simp (and-fst (stepFormed w) _ e, noted, leb·suc-suc, ← add-assoc tells (oneIfTells (stepOf w)) behind)
 
 -- ---- the word at a place of the plan
 
@@ -105,8 +116,8 @@ stands form plan at f =
 pub restAt : (txs t : ℕ) (plan : List ℕ) (at : ℕ) (m : Bool) → Verdict
 restAt txs t plan at m = rest (txs - t) (drop at plan) m
 
-pub restInAt : (steps s p txs t : ℕ) (plan : List ℕ) (at : ℕ) (m : Bool) → Verdict
-restInAt steps s p txs t plan at m = restIn (steps - s) p (txs - (t + 1)) (drop at plan) m
+pub restInAt : (steps s p txs t tells : ℕ) (plan : List ℕ) (at : ℕ) (m : Bool) → Verdict
+restInAt steps s p txs t tells plan at m = restIn (steps - s) p (txs - (t + 1)) tells (drop at plan) m
 
 module _ (txs t : ℕ) (plan : List ℕ) (at : ℕ) (m : Bool) where
   pub tx-fault : t < txs → formedAt transactionFormed plan at ≡ false → restAt txs t plan at m ≡ refused 3
@@ -118,7 +129,7 @@ module _ (txs t : ℕ) (plan : List ℕ) (at : ℕ) (m : Bool) where
 
   pub tx-step : t < txs → formedAt transactionFormed plan at ≡ true
       → restAt txs t plan at m
-      ≡ restInAt (stepCount (getD plan at 0)) 0 (parameterCount (getD plan at 0)) txs t plan (at + 1)
+      ≡ restInAt (stepCount (getD plan at 0)) 0 (parameterCount (getD plan at 0)) txs t 0 plan (at + 1)
       (m || not (partExists (parameterCount (getD plan at 0)) (partBy (partitioningField (getD plan at 0)))))
   unfolding restAt restInAt
   tx-step h f = rw (sub-zero, left-suc txs t h, stands transactionFormed plan at f .1)
@@ -136,22 +147,24 @@ pub walk-start : (txs : ℕ) (plan : List ℕ) → restAt txs 0 plan 1 false ≡
 unfolding restAt rest transactionsVerdict
 walk-start txs plan = simp sub-zero
 
-module _ (steps s p txs t : ℕ) (plan : List ℕ) (at : ℕ) (m : Bool) where
-  pub step-fault : s < steps → formedAt stepFormed plan at ≡ false → restInAt steps s p txs t plan at m ≡ refused 3
+module _ (steps s p txs t tells : ℕ) (plan : List ℕ) (at : ℕ) (m : Bool) where
+  pub step-fault : s < steps → formedAt (stepFits tells) plan at ≡ false → restInAt steps s p txs t tells plan at m ≡ refused 3
   unfolding restInAt
   step-fault h f =
-      ⊎-elim (λ (e : drop at plan ≡ []). rw (left-suc steps s h, e) (in-nil (steps - (s + 1)) p (txs - (t + 1)) m))
-      (λ e. rw (left-suc steps s h, e .0) (in-bad (steps - (s + 1)) p (txs - (t + 1)) (getD plan at 0) (drop (at + 1) plan) m (e .1)))
-      (not-formed stepFormed plan at f)
+      ⊎-elim (λ (e : drop at plan ≡ []). rw (left-suc steps s h, e) (in-nil (steps - (s + 1)) p (txs - (t + 1)) tells m))
+      (λ e. rw (left-suc steps s h, e .0)
+      (in-bad (steps - (s + 1)) p (txs - (t + 1)) tells (getD plan at 0) (drop (at + 1) plan) m (e .1)))
+      (not-formed (stepFits tells) plan at f)
 
-  pub step-step : s < steps → formedAt stepFormed plan at ≡ true
-      → restInAt steps s p txs t plan at m ≡ restInAt steps (s + 1) p txs t plan (at + 1)
+  pub step-step : s < steps → formedAt (stepFits tells) plan at ≡ true
+      → restInAt steps s p txs t tells plan at m
+      ≡ restInAt steps (s + 1) p txs t (tells + oneIfTells (stepOf (getD plan at 0))) plan (at + 1)
       (m || not (stepExists p (stepOf (getD plan at 0))))
   unfolding restInAt
   step-step h f =
-      rw (left-suc steps s h, stands stepFormed plan at f .1)
-      (in-good (steps - (s + 1)) p (txs - (t + 1)) (getD plan at 0) (drop (at + 1) plan) m (stands stepFormed plan at f .2))
+      rw (left-suc steps s h, stands (stepFits tells) plan at f .1)
+      (in-good (steps - (s + 1)) p (txs - (t + 1)) tells (getD plan at 0) (drop (at + 1) plan) m (stands (stepFits tells) plan at f .2))
 
-  pub steps-done : steps ≤ s → restInAt steps s p txs t plan at m ≡ restAt txs (t + 1) plan at m
+  pub steps-done : tells ≤ mostTells → steps ≤ s → restInAt steps s p txs t tells plan at m ≡ restAt txs (t + 1) plan at m
   unfolding restInAt restAt
-  steps-done h = rw (left-none steps s h) (in-zero p (txs - (t + 1)) (drop at plan) m)
+  steps-done few h = rw (left-none steps s h) (in-zero p (txs - (t + 1)) tells (drop at plan) m few)

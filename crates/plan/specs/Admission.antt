@@ -2,15 +2,16 @@
 use Prim.Native.Nat.{ℕ, zero, suc, _+_, _≤_}
 use mathlib.Core.Path.{_≡_}
 use mathlib.Core.Bool.{Bool, true, false, _&&_, _||_}
-use mathlib.Core.List.{List, [], _∷_}
+use mathlib.Core.List.{List, [], _∷_, map}
 use lib.ListN.{length, take, drop}
 use lib.Dec.{ltb, leb, eqb}
-use Rattle.verdict.specs.Verdict.{Verdict, ask, _then_}
+use Rattle.verdict.specs.Verdict.{Verdict, accepted, ask, _then_}
 use Rattle.lists.specs.Lists.{every}
 use Rattle.word.specs.Field.{kindOf, headDesks, headTransactions, headWords, parameterCount, stepCount, partitioningField}
 use Rattle.word.specs.Reserved.{sourceField, reservedZero}
-use Rattle.plan.specs.Plan.{Source, param, fixed, Step, cell, operand, Partitioning, byParam, unpartitioned, Transaction}
-use Rattle.plan.specs.Decode.{headOf, transactionsOf}
+use Rattle.plan.specs.Plan.{Source, param, fixed, Step, cell, operand, tells, Partitioning, byParam, unpartitioned}
+use Rattle.plan.specs.Plan.{Transaction, transactionAt}
+use Rattle.plan.specs.Decode.{isTell, stepOf, headOf, transactionsOf, planOf}
 
 -- "words in the plan (at most 417)"
 abbrev pub longestPlan : ℕ
@@ -30,20 +31,39 @@ transactionFormed w =
     eqb (kindOf w) 2 && (leb (parameterCount w) 4 && (leb 1 (stepCount w) && (leb (stepCount w) 12
     && ((ltb (partitioningField w) 4 || eqb (partitioningField w) 15) && reservedZero w))))
 
--- 3, of a step's word: kind 3–8, source 0–3 or 7, zero bits
+-- 3, of a step's word: kind 3–8 or 13, source 0–3 or 7, zero bits
 unfoldable pub stepFormed : ℕ → Bool
 stepFormed w =
-    leb 3 (kindOf w) && (leb (kindOf w) 8 && ((ltb (sourceField w) 4 || eqb (sourceField w) 7) && reservedZero w))
+    ((leb 3 (kindOf w) && leb (kindOf w) 8) || isTell w) && ((ltb (sourceField w) 4 || eqb (sourceField w) 7) && reservedZero w)
+
+-- how many steps tell: 1 for each
+abbrev pub oneIfTells : Step → ℕ
+oneIfTells (cell a t c r) = 0
+oneIfTells (operand a o) = 0
+oneIfTells tells = 1
+
+unfoldable pub tellCount : List Step → ℕ
+tellCount [] = 0
+tellCount (s ∷ ss) = oneIfTells s + tellCount ss
+
+-- "It refuses with 3 a transaction with more than four such steps."
+abbrev pub mostTells : ℕ
+mostTells = 4
+
+-- 3, of a step behind so many that tell
+abbrev pub stepFits : ℕ → ℕ → Bool
+stepFits before w = stepFormed w && leb (before + oneIfTells (stepOf w)) mostTells
 
 -- 3: "Does each further word have its place, kind, ranges and zero bits, and does the last step end the plan?"
--- The words are n well-formed transactions, each with all its steps, and nothing more
+-- The words are n well-formed transactions, each with all its steps, at most four of which tell, and nothing more
 unfoldable pub wellFormed : ℕ → List ℕ → Bool
 wellFormed zero [] = true
 wellFormed zero (w ∷ ws) = false
 wellFormed (suc n) [] = false
 wellFormed (suc n) (w ∷ ws) =
     transactionFormed w && (leb (stepCount w) (length ws)
-    && (every stepFormed (take (stepCount w) ws) && wellFormed n (drop (stepCount w) ws)))
+    && (every stepFormed (take (stepCount w) ws)
+    && (leb (tellCount (map stepOf (take (stepCount w) ws))) mostTells && wellFormed n (drop (stepCount w) ws))))
 
 -- 4: "Does every parameter named in a step or for partitioning exist?" Parameter i exists if i is below the count
 unfoldable pub sourceExists : ℕ → Source → Bool
@@ -53,6 +73,7 @@ sourceExists count (fixed v) = true
 unfoldable pub stepExists : ℕ → Step → Bool
 stepExists count (cell a t c r) = sourceExists count r
 stepExists count (operand a o) = sourceExists count o
+stepExists count tells = true
 
 unfoldable pub partExists : ℕ → Partitioning → Bool
 partExists count (byParam i) = ltb i count
@@ -73,6 +94,10 @@ planVerdict ws =
     ask 1 (hasHead ws)
     then ask 2 (countsInRange (headOf ws))
     then transactionsVerdict (headTransactions (headOf ws)) (drop 1 ws)
+
+-- "It refuses with 3 a transaction with more than four such steps.": no transaction of a plan that is accepted has more
+abbrev pub TellsFew : Type 0
+TellsFew = (ws : List ℕ) → planVerdict ws ≡ accepted → (k : ℕ) → tellCount (transactionAt (planOf ws) k .steps) ≤ mostTells
 
 -- "words in the plan (at most 417)": 32 transactions of 12 steps each, behind the head
 abbrev pub WellFormedFits : Type 0

@@ -1,12 +1,12 @@
 -- The plan that a list of words stands for. Every list decodes to something; whether it is well formed is question 3.
 use Prim.Native.Nat.{ℕ, zero, suc}
-use mathlib.Core.Bool.{cond}
+use mathlib.Core.Bool.{Bool, cond}
 use mathlib.Core.List.{List, [], _∷_, map}
 use lib.ListN.{getD, take, drop}
 use lib.Dec.{leb, eqb}
 use Rattle.word.specs.Field.{kindOf, headDesks, headTransactions, parameterCount, stepCount, partitioningField}
 use Rattle.word.specs.Field.{tableField, columnField, rowSource, fixedRow, operandSource, fixedNumber}
-use Rattle.plan.specs.Plan.{Source, param, fixed, Access, reads, writes, Action, sets, adds, needs, takes, Step, cell, operand}
+use Rattle.plan.specs.Plan.{Source, param, fixed, Access, reads, writes, Action, sets, adds, needs, takes, Step, cell, operand, tells}
 use Rattle.plan.specs.Plan.{Partitioning, byParam, unpartitioned, Transaction, Plan}
 
 -- "0–3 that parameter, 7 the fixed" number v
@@ -27,10 +27,15 @@ accessBy k = cond (eqb k 3) reads writes
 unfoldable pub actionBy : ℕ → Action
 actionBy k = cond (eqb k 5) sets (cond (eqb k 6) adds (cond (eqb k 7) needs takes))
 
+-- "Kind 13 .. is a new step that tells the working number."
+abbrev pub isTell : ℕ → Bool
+isTell w = eqb (kindOf w) 13
+
 unfoldable pub stepOf : ℕ → Step
 stepOf w =
     cond (leb (kindOf w) 4) (cell (accessBy (kindOf w)) (tableField w) (columnField w) (rowOf w))
-    (operand (actionBy (kindOf w)) (operandOf w))
+    (cond (isTell w) tells
+    (operand (actionBy (kindOf w)) (operandOf w)))
 
 -- "partitioning parameter (0–3, or 15 for none)"
 unfoldable pub partBy : ℕ → Partitioning

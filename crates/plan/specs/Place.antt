@@ -9,7 +9,7 @@ use Rattle.lists.specs.Lists.{tabulate, every}
 use Rattle.word.specs.Field.{stepCount, headTransactions}
 use Rattle.plan.specs.Plan.{Transaction}
 use Rattle.plan.specs.Decode.{transactionOf, headOf}
-use Rattle.plan.specs.Admission.{transactionFormed, stepFormed}
+use Rattle.plan.specs.Admission.{transactionFormed, stepFormed, tellCount, mostTells}
 
 -- the first stands behind the head, each next one behind the steps of the one before
 unfoldable pub transactionPlace : List ℕ → ℕ → ℕ
@@ -36,3 +36,4 @@ pub record StandsAt (ws : List ℕ) (at : ℕ) : Type 0 where
   pub room : at + 1 + stepsAt ws at ≤ length ws
   pub form : transactionFormed (getD ws at 0) ≡ true
   pub steps : every stepFormed (take (stepsAt ws at) (drop (at + 1) ws)) ≡ true
+  pub tells-few : tellCount (transactionFrom ws at .steps) ≤ mostTells

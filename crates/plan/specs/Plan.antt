@@ -16,10 +16,11 @@ pub data Access : Type 0 where
 pub data Action : Type 0 where
   sets adds needs takes : Action
 
--- a step names a cell by table, column and row, or an operand
+-- a step names a cell by table, column and row, or an operand; or it tells the accumulator: kind 13, which names nothing
 pub data Step : Type 0 where
   cell : Access → ℕ → ℕ → Source → Step
   operand : Action → Source → Step
+  tells : Step
 
 -- the parameter that decides the desk, or none
 pub data Partitioning : Type 0 where

@@ -1,10 +1,15 @@
 // Questions 2, 3 and 4 of a single word.
 ghost use mathlib.Core.Path.{_≡_};
-ghost use mathlib.Core.Bool.{true, not, _||_};
+ghost use mathlib.Core.Bool.{true, not, _&&_, _||_};
+ghost use lib.Dec.{ltb, leb, eqb};
+ghost use Prim.Native.Nat.{_+_, _≤_};
 ghost use Rattle.word.specs.Field.{parameterCount, partitioningField};
 ghost use Rattle.plan.specs.Decode.{stepOf, partBy};
-ghost use Rattle.plan.specs.Admission.{countsInRange, transactionFormed, stepFormed, stepExists, partExists};
+ghost use Rattle.plan.specs.Admission.{countsInRange, transactionFormed, stepFormed, oneIfTells, mostTells, stepExists, partExists};
 use word::fields;
+
+// How many steps of a transaction may tell.
+pub const MOST_TELLS: usize = 4;
 
 // Question 2: 1 to 8 desks, 1 to 32 transactions.
 pub(crate) fn counts_in_range(head: u32) -> bool
@@ -52,25 +57,51 @@ pub(crate) fn transaction_formed(word: u32) -> bool
     word::reserved_zero(word)
 }
 
+// The kinds of a step: 3 to 8, and 13.
+fn step_kind(kind: u32) -> bool
+    ensures { λ r. ⌜ r ≡ ((leb 3 kind && leb kind 8) || eqb kind 13) ⌝ }
+{
+    if kind == 13 {
+        return true;
+    }
+    if kind < 3 {
+        return false;
+    }
+    kind <= 8
+}
+
+// A source: parameter 0 to 3, or 7 for what is fixed.
+fn source_formed(source: u32) -> bool
+    ensures { λ r. ⌜ r ≡ (ltb source 4 || eqb source 7) ⌝ }
+{
+    if source < 4 {
+        return true;
+    }
+    source == 7
+}
+
 // Question 3 of a step's word.
 pub(crate) fn step_formed(word: u32) -> bool
     ensures { λ r. ⌜ r ≡ stepFormed word ⌝ }
 {
-    let kind = word / fields::KIND;
-    if kind < 3 {
+    if !step_kind(word / fields::KIND) {
         return false;
     }
-    if 8 < kind {
-        return false;
-    }
-    let source = word::source(word);
-    if source < 4 {
-        return word::reserved_zero(word);
-    }
-    if source != 7 {
+    if !source_formed(word::source(word)) {
         return false;
     }
     word::reserved_zero(word)
+}
+
+// How many steps tell, with the step in this word behind so many that do.
+pub(crate) fn tells_with(word: u32, tells: usize) -> usize
+    requires { ⌜ tells ≤ mostTells ⌝ }
+    ensures { λ r. ⌜ r ≡ tells + oneIfTells (stepOf word) ⌝ }
+{
+    if word / fields::KIND == 13 {
+        return tells + 1;
+    }
+    tells
 }
 
 // Question 4: whether the partitioning parameter is missing, or a parameter was missing before.
@@ -93,6 +124,9 @@ pub(crate) fn step_missing(word: u32, parameters: u32, missing: bool) -> bool
     requires { ⌜ stepFormed word ≡ true ⌝ }
     ensures { λ r. ⌜ r ≡ (missing || not (stepExists parameters (stepOf word))) ⌝ }
 {
+    if word / fields::KIND == 13 {
+        return missing;
+    }
     let source = word::source(word);
     if source == 7 {
         return missing;

@@ -3,6 +3,7 @@ mod form;
 mod place;
 mod reader;
 
+pub use form::MOST_TELLS;
 pub use place::step_count;
 pub use place::step_word;
 pub use place::transaction_place;

@@ -1,10 +1,11 @@
 // The plan reader: questions 1 to 4, all of one before the next.
 ghost use mathlib.Core.Path.{_≡_};
 ghost use mathlib.Core.Bool.{_&&_};
+ghost use Prim.Native.Nat.{_≤_};
 ghost use lib.ListN.{length, getD, drop};
 ghost use lib.Dec.{ltb};
 ghost use Rattle.verdict.specs.Verdict.{verdictOf};
-ghost use Rattle.plan.specs.Admission.{planVerdict, transactionsVerdict, transactionFormed, stepFormed};
+ghost use Rattle.plan.specs.Admission.{planVerdict, transactionsVerdict, transactionFormed, stepFits, mostTells};
 use crate::form;
 use verdict::Verdict;
 use word::fields;
@@ -49,12 +50,15 @@ fn read_transactions(plan: &[u32], transactions: u32) -> Verdict
         let steps = word / fields::STEPS % 16;
         missing = form::partitioning_missing(word, missing);
         at = at + 1;
+        let mut tells: usize = 0;
         let mut s: u32 = 0;
         while s < steps {
-            if !step_at(plan, at) {
+            if !step_at(plan, at, tells) {
                 break 'transactions;
             }
-            missing = form::step_missing(plan[at], parameters, missing);
+            let step = plan[at];
+            tells = form::tells_with(step, tells);
+            missing = form::step_missing(step, parameters, missing);
             at = at + 1;
             s = s + 1;
         }
@@ -67,10 +71,9 @@ fn read_transactions(plan: &[u32], transactions: u32) -> Verdict
         return Verdict::Refused(3);
     }
     if missing {
-        Verdict::Refused(4)
-    } else {
-        Verdict::Accepted
+        return Verdict::Refused(4);
     }
+    Verdict::Accepted
 }
 
 // Whether a well-formed transaction's word stands at this place.
@@ -84,13 +87,17 @@ fn transaction_at(plan: &[u32], at: usize) -> bool
     }
 }
 
-// Whether a well-formed step's word stands at this place.
-fn step_at(plan: &[u32], at: usize) -> bool
-    ensures { λ r. ⌜ r ≡ (ltb at (length (now (plan .entry))) && stepFormed (getD (now (plan .entry)) at 0)) ⌝ }
+// Whether a well-formed step's word stands at this place, and is no fifth that tells.
+fn step_at(plan: &[u32], at: usize, tells: usize) -> bool
+    requires { ⌜ tells ≤ mostTells ⌝ }
+    ensures { λ r. ⌜ r ≡ (ltb at (length (now (plan .entry))) && stepFits tells (getD (now (plan .entry)) at 0)) ⌝ }
 {
-    if at < plan.len() {
-        form::step_formed(plan[at])
-    } else {
-        false
+    if plan.len() <= at {
+        return false;
     }
+    let word = plan[at];
+    if !form::step_formed(word) {
+        return false;
+    }
+    form::tells_with(word, tells) <= form::MOST_TELLS
 }

@@ -21,7 +21,8 @@ use Rattle.desk.specs.Queueing.{operationOf, joinQueue}
 use Rattle.desk.specs.Admission.{deskBuffersFit, deskFits}
 use Rattle.queue.specs.Queue.{queueSize}
 
--- replied (done or declined, with the number), waiting, elsewhere with the operation's desk, or refused with the question's number
+-- replied (done or declined, with the number and the told ones), waiting, elsewhere with the operation's desk, or refused with the
+-- question's number
 pub data Response : Type 0 where
   replied : Reply → Response
   waits : Response

@@ -38,7 +38,8 @@ use queue::QUEUE_WORDS;
 use queue::Request;
 use verdict::Verdict;
 
-// Replied (done or declined, with the number), waiting, elsewhere with the operation's desk, or refused with the question's number.
+// Replied (done or declined, with the number and the told ones), waiting, elsewhere with the operation's desk, or refused with the
+// question's number.
 pub enum RequestAnswer {
     Replied(Reply),
     Waits,

@@ -7,6 +7,7 @@ use crate::layout::AFTER;
 use crate::layout::BEFORE;
 use crate::layout::CLIENT;
 use crate::layout::FOURTH_PARAMETER;
+use crate::layout::FOURTH_TOLD;
 use crate::layout::HAND;
 use crate::layout::HAND_WORDS;
 use crate::layout::LENT_CELLS;
@@ -24,7 +25,10 @@ use crate::layout::RECORDS_BEFORE;
 use crate::layout::REPLIES;
 use crate::layout::REPLIES_SIZE;
 use crate::layout::SECOND_PARAMETER;
+use crate::layout::SECOND_TOLD;
 use crate::layout::THIRD_PARAMETER;
+use crate::layout::THIRD_TOLD;
+use crate::layout::TOLD;
 use crate::layout::TRANSACTION;
 use crate::memory::Memory;
 use crate::memory::copy;
@@ -89,6 +93,8 @@ fn ask(m: &Memory, cells: &mut [u32], row: &mut [u32]) -> RequestResult {
 fn note_request(m: &mut Memory, answer: RequestAnswer) -> &mut Memory {
     match answer {
         RequestAnswer::Replied(said) => {
+            let m = put(put(m, TOLD, said.told0), SECOND_TOLD, said.told1);
+            let m = put(put(m, THIRD_TOLD, said.told2), FOURTH_TOLD, said.told3);
             if said.done {
                 note(m, texts::DONE, said.number)
             } else {
@@ -142,7 +148,7 @@ fn note_visit(m: &mut Memory, answer: VisitAnswer) -> &mut Memory {
 pub fn visit(m: &mut Memory) -> &mut Memory {
     let mut cells = [0u32; 1040];
     let mut out = [0u32; 6420];
-    let mut replies = [0u32; 112];
+    let mut replies = [0u32; REPLIES_SIZE];
     let result = pass(m, &mut cells, &mut out, &mut replies);
     let given = result.answer;
     let m = store(store(m, AFTER, &cells), OUTGOING_WORDS, &out);

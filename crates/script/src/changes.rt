@@ -18,6 +18,7 @@ use crate::layout::RECORDS_AFTER;
 use crate::layout::RECORDS_BEFORE;
 use crate::layout::REPLIES;
 use crate::layout::REPLIES_SIZE;
+use crate::layout::REPLY_SIZE;
 use crate::layout::VALUE;
 use crate::memory;
 use crate::memory::Memory;
@@ -45,7 +46,7 @@ fn say_cells(m: &mut Memory) -> &mut Memory {
 // Notes how many words changed behind the outgoing ones and the replies.
 pub fn note_behind(m: &mut Memory) -> &mut Memory {
     let words = differences(m, OUTGOING_WORDS, MARKS, size(m, OUTGOING), MOST_WORDS);
-    let replies = size(m, VALUE) % 64 * 3;
+    let replies = size(m, VALUE) % 64 * REPLY_SIZE;
     let reply_words = differences(m, REPLIES, MARKS, replies, REPLIES_SIZE);
     memory::add(put(m, OTHER_WORDS, words), OTHER_WORDS, reply_words)
 }

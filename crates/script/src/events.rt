@@ -18,6 +18,7 @@ use crate::layout::OTHER_WORDS;
 use crate::layout::OUTGOING;
 use crate::layout::QUESTION;
 use crate::layout::REPLIES;
+use crate::layout::REPLY_SIZE;
 use crate::layout::REQUESTS;
 use crate::layout::SEVERAL_REPLIES;
 use crate::layout::TO;
@@ -59,7 +60,7 @@ fn accept(m: &mut Memory) -> &mut Memory {
         say(m, texts::REPLIES),
         texts::REPLY,
         REPLIES,
-        3,
+        REPLY_SIZE,
         replies as usize,
     );
     frames::send(m, texts::VISIT_SENDS)

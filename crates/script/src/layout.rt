@@ -34,7 +34,7 @@ pub const LONGEST_TAKEN: usize = 77;
 pub const LONGEST_SENT: usize = 78;
 
 // Registers 1 to 4: whether the line writes a parameter. U: how many forms changed the words of the line. V: whether these come from no
-// kept frame. a to f: the operation at hand, as a record holds it: client, transaction and four parameters. n: changed cells. o: other
+// kept frame. a to f: the operation at hand, as a record holds it: client, transaction and four parameters. g: changed cells. o: other
 // changed words. q: the question that refused a call, 0 for none. r: a number that a call answers. s: the desk at hand. t and u: a frame
 // taken and one sent. v: a visit. w: a number of words. x and y: two sums. z and {: the last two of many words.
 pub const GIVEN: usize = 49;
@@ -57,7 +57,7 @@ pub const THIRD_PARAMETER: usize = 101;
 
 pub const FOURTH_PARAMETER: usize = 102;
 
-pub const CHANGED_CELLS: usize = 110;
+pub const CHANGED_CELLS: usize = 103;
 
 pub const OTHER_WORDS: usize = 111;
 
@@ -196,10 +196,21 @@ pub const ITEM_WAITING: usize = ITEM + 2;
 
 pub const ITEM_AWAITED: usize = ITEM + 3;
 
-// The reply words that a call left.
+// Registers k to n, of the item at hand: the told numbers of a reply.
+pub const TOLD: usize = ITEM + 3;
+
+pub const SECOND_TOLD: usize = ITEM + 4;
+
+pub const THIRD_TOLD: usize = ITEM + 5;
+
+pub const FOURTH_TOLD: usize = ITEM + 6;
+
+// The reply words that a call left, so many a reply.
 pub const REPLIES: usize = 528224;
 
-pub const REPLIES_SIZE: usize = 112;
+pub const REPLIES_SIZE: usize = 240;
+
+pub const REPLY_SIZE: usize = 7;
 
 // What the lent buffers hold before a call: each word is the one before and 1.
 pub const MARKS: usize = 532480;

@@ -13,7 +13,7 @@ use crate::texts;
 // Sizes as the paper asks for them.
 pub fn put_all(m: &mut Memory) -> &mut Memory {
     let m = put(put(m, LENT_NEXT, 1024), NEXT_ROW, 192);
-    put(put(m, NEXT_OUTGOING, 6404), NEXT_REPLIES, 96)
+    put(put(m, NEXT_OUTGOING, 6404), NEXT_REPLIES, 224)
 }
 
 // A size by its name.
@@ -31,7 +31,7 @@ fn read_size(m: &mut Memory) -> &mut Memory {
         // out
         0x6f_7574 => number_to(m, NEXT_OUTGOING, 6420),
         // replies
-        0x72_6570_6c69_6573 => number_to(m, NEXT_REPLIES, 112),
+        0x72_6570_6c69_6573 => number_to(m, NEXT_REPLIES, 240),
         _ => scanner::fault(m, texts::NOTHING_TO_LEND),
     }
 }

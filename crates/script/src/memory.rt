@@ -65,7 +65,7 @@ pub const FAULT_WORD: usize = 82;
 
 pub const MOST: usize = 83;
 
-// Registers h to m: the words of the item at hand. p: its index. And where the items end that were said last.
+// Registers h to n: the words of the item at hand. p: its index. And where the items end that were said last.
 pub const ITEM: usize = 104;
 
 pub const INDEX: usize = 112;

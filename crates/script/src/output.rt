@@ -10,6 +10,7 @@
 //
 //     ?r     the word of register r is not 0
 //     {r     it is 0
+//     !r     one of four words from register r on is not 0
 //     |rs    the words of registers r and s are not the same
 //     <rbwn  the field $rbw is below n, a letter too
 //     >rbwn  it is not
@@ -104,7 +105,7 @@ fn write_item(m: &mut Memory, place: usize) -> &mut Memory {
     match letter {
         35 => hexadecimal(m, (number % 0x1_0000_0000) as u32),
         36..=38 => decimal(m, number),
-        60..=64 | 123..=126 => m,
+        33 | 60..=64 | 123..=126 => m,
         _ => byte(m, (letter % 256) as u8),
     }
 }
@@ -122,6 +123,13 @@ fn behind(m: &Memory, place: usize, bytes: usize, holds: bool) -> usize {
     0
 }
 
+// Whether one of four words from a register on is not 0.
+fn any_of_four(m: &Memory, register: usize) -> bool {
+    let first = get(m, register) | get(m, on(register, 1));
+    let last = get(m, on(register, 2)) | get(m, on(register, 3));
+    0 < (first | last)
+}
+
 // Where a text goes on behind what stands at a place; 0 behind its end.
 fn next(m: &Memory, place: usize) -> usize {
     let word = named(m, on(place, 1));
@@ -129,6 +137,7 @@ fn next(m: &Memory, place: usize) -> usize {
     let bound = letter(m, on(place, 4));
     let written = get(m, WRITTEN);
     match get(m, place) {
+        33 => behind(m, place, 2, any_of_four(m, size(m, on(place, 1)))),
         35 | 37 | 38 => on(place, 2),
         36 => on(place, 4),
         60 => behind(m, place, 5, field < bound),

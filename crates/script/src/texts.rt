@@ -118,7 +118,7 @@ pub const UPDATED_CELL: u32 = 75;
 
 pub const REFUSED: u32 = 76;
 
-const TEXTS: [u8; 2681] = *b"\
+const TEXTS: [u8; 2788] = *b"\
 @\
 no such command\n@\
 a number from 0 to &S is expected\n@\
@@ -138,7 +138,7 @@ book, row, out or replies is expected\n@\
 @\
 no head of kind 1 with the count of the words, 1 to 417\n@\
 desks or transactions out of range\n@\
-a word out of place or range, or a bit that must be zero\n@\
+a word out of place or range, a bit that must be zero, or a fifth tell\n@\
 a parameter that the transaction does not have\n@\
 a buffer of the wrong size\n@\
 a state or a waiting record that does not fit this desk\n@\
@@ -164,19 +164,19 @@ T%b(?1%c}?2, %d}?3, %e}?4, %f})@\
 : local at desk %r\n@\
 : global at desk %r\n@\
 \x20\x20T%p(>hYEBp0}>hYEC, p1}>hYED, p2}>hYEE, p3})<hQEP by p$hQE}@\
-{p: }?p; }<h]EEread}>h]EE<h]EFwrite}>h]EF<h]EGset}>h]EG<h]EHadd}>h]EH<h]EIneed}>h]EItake}\
-<h]EF table $hZD column $hXC row }>h]EF }<h]EF>hUDE$hAF}<h]EF<hUDEp$hUD}>h]EF>hZDE$hAZ}>h]EF<hZDEp$hZD}@\
+{p: }?p; }<h]EEread}>h]EE<h]EFwrite}>h]EF<h]EGset}>h]EG<h]EHadd}>h]EH<h]EIneed}>h]EI<h]EJtake}>h]EJtell}\
+<h]EF table $hZD column $hXC row }>h]EF<h]EJ }<h]EF>hUDE$hAF}<h]EF<hUDEp$hUD}>h]EF<h]EJ>hZDE$hAZ}>h]EF<h]EJ<hZDEp$hZD}@\
 desk %s@\
 desk %s: %j waiting, awaits visit &k|is, as desk %i}\n@\
 \x20\x20record %p: client %h T%i(%j, %k, %l, %m)\n@\
 ?h\x20\x20cell %p is %h\n}@\
 desk %s: T%b(?1%c}?2, %d}?3, %e}?4, %f}) of client %a@\
-: done, %r@\
-: declined, %r@\
+: done, %r!k, told %k %l %m %n}@\
+: declined, %r!k, told %k %l %m %n}@\
 : waits@\
 : elsewhere, desk %r@\
 ; cell %p is now %h@\
-; %n cells changed, sums #x #y@\
+; %g cells changed, sums #x #y@\
 ; record %p is now client %h T%i(%j, %k, %l, %m)@\
 ; %j waiting, awaits visit &k|is, as desk %i}@\
 ?o; %o other word~s}?o changed}\n@\
@@ -193,7 +193,7 @@ read {Vframe %t}{V?U, changed}?Vwords}@\
 : visit %r, part@\
 desk %s: visit {q%v }by {Vframe %t}{V?U, changed}?Vwords}@\
 : %r repl=y}~ies}@\
-, client %i >h_CD<hB^B>hABBdone}>h_CD<hB^B<hABBdeclined}<h_CDword #h}>h_CD>hB^Bword #h}, %j@\
+, client %i >h_CD<hB^B>hABBdone}>h_CD<hB^B<hABBdeclined}<h_CDword #h}>h_CD>hB^Bword #h}, %j!k, told %k %l %m %n}@\
 frame %u: %h word~s}, visit %j to desk $iYE\n@\
 \x20\x20update of desk $hYE:<hUEB no cells}@\
 ?p,} cell $hAK is %i@\

@@ -5,7 +5,7 @@ use lib.Count.{ones}
 use Rattle.lists.specs.Lists.{every, some}
 use Rattle.word.specs.Reserved.{sourceField, reservedZero}
 use Rattle.plan.specs.Decode.{accessBy, actionBy, stepOf, partBy, transactionsOf, planOf}
-use Rattle.plan.specs.Admission.{hasHead, countsInRange, transactionFormed, stepFormed, wellFormed, sourceExists, stepExists}
+use Rattle.plan.specs.Admission.{hasHead, countsInRange, transactionFormed, stepFormed, tellCount, wellFormed, sourceExists, stepExists}
 use Rattle.plan.specs.Admission.{partExists}
 use Rattle.plan.specs.Admission.{parametersExist, transactionsVerdict, planVerdict}
 use Rattle.operation.specs.Operation.{cellsNamed}
@@ -30,7 +30,7 @@ use Rattle.starred.specs.Table.{Starred}
 
 pub starred : Starred
 unfolding ones sourceField reservedZero accessBy actionBy stepOf partBy transactionsOf planOf every hasHead countsInRange
-    transactionFormed stepFormed wellFormed sourceExists stepExists partExists parametersExist transactionsVerdict planVerdict
+    transactionFormed stepFormed tellCount wellFormed sourceExists stepExists partExists parametersExist transactionsVerdict planVerdict
     cellsNamed transactionExists unusedZero rowInRange parametersPass operationVerdict maskOf some rowTouched cellTouched
     stepTouches deskMask cellGiven stepWrites written classBy classifyResult
     readVerdict frameVerdict frameHeaded sumsRight updatesRight frames.wellFormed updateFormed cellFormed fewPerDesk deskCount writesFrom

@@ -57,7 +57,7 @@ pub data Input : Type 0 where
   -- buffers too
   visits : Desk → List Request → List (List ℕ) → Input
 
--- what is shown of a visit: the answer, the state that it leaves, the first seven outgoing words and the first three reply words
+-- what is shown of a visit: the answer, the state that it leaves, the first seven outgoing words and the seven words of the first reply
 pub record Left : Type 0 where
   pub answer : visiting.Forwarding
   pub state : Desk
@@ -129,15 +129,16 @@ table =
     ∷ row (readFrame (sentFrame 0xA0100000)) (frame (visitNumber 1) (sent 0 ((128, 3) ∷ []) ∷ []))
     -- "Word 2 as A1100000: 11."
     ∷ row (readFrame (sentFrame 0xA1100000)) (frame (refusal 11) [])
-    -- "Desk 0 with T1(0, 3) of client 7 waiting, visit 0, sends ..; reply C0000001 00000007 00000003." The frame sent "at desk 0: 13"
+    -- "Desk 0 with T1(0, 3) of client 7 waiting, visit 0, sends ..; reply C0000001 00000007 00000003."; "the starred reply gains four zero
+    -- words". The frame sent "at desk 0: 13"
     ∷ row (visits (desk 0 1 0) (recordOf 7 1 (0 ∷ 3 ∷ 0 ∷ 0 ∷ []) ∷ []) (startingFrame ∷ sentFrame 0xA0100000 ∷ []))
-    (visited (left (visiting.forwarded 7 1) (desk 0 0 2) (sentFrame 0xA0100000) (0xC0000001 ∷ 0x00000007 ∷ 0x00000003 ∷ [])
-    ∷ left (visiting.visitRefused 13) (desk 0 0 2) (replicate 7 0) (replicate 3 0) ∷ []))
+    (visited (left (visiting.forwarded 7 1) (desk 0 0 2) (sentFrame 0xA0100000) (0xC0000001 ∷ 0x00000007 ∷ 0x00000003 ∷ 0 ∷ 0 ∷ 0 ∷ 0 ∷ [])
+    ∷ left (visiting.visitRefused 13) (desk 0 0 2) (replicate 7 0) (replicate 7 0) ∷ []))
     -- "Word 2 as A1100000: 11. The frame twice at desk 1: 14"
     ∷ row (visits (desk 1 0 1) [] (sentFrame 0xA1100000 ∷ sentFrame 0xA0100000 ∷ sentFrame 0xA0100000 ∷ []))
-    (visited (left (visiting.visitRefused 11) (desk 1 0 1) (replicate 7 0) (replicate 3 0)
-    ∷ left (visiting.forwarded 7 0) (desk 1 0 3) sentOn (replicate 3 0)
-    ∷ left (visiting.visitRefused 14) (desk 1 0 3) (replicate 7 0) (replicate 3 0) ∷ []))
+    (visited (left (visiting.visitRefused 11) (desk 1 0 1) (replicate 7 0) (replicate 7 0)
+    ∷ left (visiting.forwarded 7 0) (desk 1 0 3) sentOn (replicate 7 0)
+    ∷ left (visiting.visitRefused 14) (desk 1 0 3) (replicate 7 0) (replicate 7 0) ∷ []))
     ∷ []
 
 -- "one proof shows that the definitions give every row of it"

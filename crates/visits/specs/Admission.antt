@@ -12,7 +12,7 @@ use Rattle.desk.specs.declared.state.Desk.{Desk}
 use Rattle.frame.specs.Frame.{longestFrame}
 use Rattle.visits.specs.Waiting.{repliesSize}
 
--- 5: "for a visit, outgoing at least 6,404 and replies at least 96 words"
+-- 5: "for a visit, outgoing at least 6,404"; "a visit's reply buffer at least 224"
 unfoldable pub visitBuffersFit : List ℕ → List ℕ → Bool
 visitBuffersFit out replies = leb longestFrame (length out) && leb repliesSize (length replies)
 

@@ -37,15 +37,15 @@ repliesOf p (r ∷ rs) s =
     answered (r .client) (run p (operationOf r) s .reply) ∷ repliesOf p rs
     (applyUpdate (run p (operationOf r) s .update) s)
 
--- "Replies go out as three words each"
+-- "A reply is then seven words"
 abbrev pub replySize : ℕ
-replySize = 3
+replySize = 7
 
--- as many as may wait are answered: "replies at least 96 words"
+-- as many as may wait are answered: "a visit's reply buffer at least 224"
 abbrev pub repliesSize : ℕ
 repliesSize = replySize * queueSize
 
--- "three words each: kind 12 with bit 0 set if done, the client's word, the number"
+-- "kind 12 with bit 0 set if done, the client's word, the number"
 abbrev pub replyHead : Bool → ℕ
 replyHead done = ofKind 12 (placed 0 1 (cond done 1 0))
 
@@ -54,8 +54,10 @@ abbrev pub ReplyHeadFormed : Type 0
 ReplyHeadFormed = (done : Bool) → (kindOf (replyHead done) ≡ 12) × (reservedZero (replyHead done) ≡ true)
     × (field 0 1 (replyHead done) ≡ cond done 1 0)
 
+-- "A reply gains four words, the told numbers in order"
 abbrev pub replyWords : Answered → List ℕ
-replyWords a = replyHead (a .reply .done) ∷ a .client ∷ a .reply .number ∷ []
+replyWords a =
+    replyHead (a .reply .done) ∷ a .client ∷ a .reply .number ∷ a .reply .told0 ∷ a .reply .told1 ∷ a .reply .told2 ∷ a .reply .told3 ∷ []
 
 unfoldable pub repliesWords : List Answered → List ℕ
 repliesWords [] = []

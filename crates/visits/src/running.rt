@@ -17,7 +17,7 @@ use queue::QUEUE_SIZE;
 use queue::Request;
 
 // The words of a reply, and of the replies to as many requests as may wait.
-const REPLY_SIZE: usize = 3;
+const REPLY_SIZE: usize = 7;
 
 pub(crate) const REPLIES_SIZE: usize = REPLY_SIZE * QUEUE_SIZE;
 
@@ -36,6 +36,10 @@ fn write_reply(replies: &mut [u32], client: u32, reply: Reply)
     replies[0] = reply_head(reply.done);
     replies[1] = client;
     replies[2] = reply.number;
+    replies[3] = reply.told0;
+    replies[4] = reply.told1;
+    replies[5] = reply.told2;
+    replies[6] = reply.told3;
 }
 
 // Runs one request, whose transaction stands at this place: its update goes to the front of what is left of the outgoing words, its

@@ -1,4 +1,5 @@
--- "Bits not named are zero; so is a fixed field whose source is a parameter." Every set of reserved bits is one field.
+-- "Bits not named are zero; so is a fixed field whose source is a parameter."; "Kind 13, all other bits zero". Every set of reserved bits
+-- is one field.
 use Prim.Native.Nat.{ℕ}
 use mathlib.Core.Bool.{Bool, _&&_, _||_, cond}
 use lib.Dec.{ltb, leb, eqb}
@@ -29,7 +30,8 @@ reservedBits k s =
     (cond (eqb k 10) (bits 0 20)
     (cond (eqb k 11) (bits 10 18)
     (cond (eqb k 12) (bits 1 27)
-    (bits 0 0)))))))
+    (cond (eqb k 13) (bits 0 28)
+    (bits 0 0))))))))
 
 -- the reserved bits of a word of kind k and source s are zero
 abbrev pub zeroBits : ℕ → ℕ → ℕ → Bool

@@ -33,7 +33,7 @@ const OPERAND: [u32; 8] = [
     0,
 ];
 
-// Kind 9: bits 23-16. Kind 10: 19-0. Kind 11: 27-10. Kind 12: 27-1.
+// Kind 9: bits 23-16. Kind 10: 19-0. Kind 11: 27-10. Kind 12: 27-1. Kind 13: 27-0.
 const FRAME: [u32; 8] = [0xff_0000; 8];
 
 const UPDATE: [u32; 8] = [0xf_ffff; 8];
@@ -41,6 +41,8 @@ const UPDATE: [u32; 8] = [0xf_ffff; 8];
 const WRITTEN: [u32; 8] = [0xfff_fc00; 8];
 
 const REPLY: [u32; 8] = [0xfff_fffe; 8];
+
+const TELL: [u32; 8] = [0xfff_ffff; 8];
 
 // By kind, then by source. Source 7 is the fixed one; kinds with no source have one value in all columns.
 const RESERVED: [[u32; 8]; 16] = [
@@ -57,7 +59,7 @@ const RESERVED: [[u32; 8]; 16] = [
     UPDATE,
     WRITTEN,
     REPLY,
-    NONE,
+    TELL,
     NONE,
     NONE,
 ];

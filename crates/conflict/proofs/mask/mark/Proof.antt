@@ -3,7 +3,7 @@
 use Prim.Native.Nat.{_-_}
 use native.Mathlib.Omega.{arith}
 use Rattle.plan.specs.Decode.{partBy}
-use Rattle.conflict.proofs.Marks.{Marked, operand-marks-none, marked-none, marked-all, marked-more}
+use Rattle.conflict.proofs.Marks.{Marked, marks-none, marked-none, marked-all, marked-more}
 use borrow.Author.Needs.{needs}
 use Rattle.conflict.proofs.mask.mark.Statement.{statement}
 use Rattle.conflict.proofs.mask.mark.Tie as tie
@@ -15,7 +15,7 @@ abbrev μ-loop : tie.MeasureT-loop
 μ-loop table₀ word partitioning desks base row₀ table row = 32 - row
 
 returns : tie.Need-returns Inv-loop μ-loop
-returns c = operand-marks-none _ _ _ _ (c .before .before .pre .2) (c .if1 .taken)
+returns c = marks-none _ _ _ _ (c .before .before .pre .2) (c .if1 .taken)
 
 mul-base : tie.Need-mul-base Inv-loop μ-loop
 mul-base c = omega arith

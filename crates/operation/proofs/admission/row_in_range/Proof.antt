@@ -1,18 +1,23 @@
 -- Question 8, "those used as rows at most 31", of one step.
 -- Assumes nothing.
-use mathlib.Core.Path.{ap}
+use mathlib.Core.Path.{_≡_, refl, sym, ap}
+use mathlib.Core.Bool.{true}
 use Prim.Native.Nat.{ℕ}
 use lib.Dec.{leb}
-use borrow.Author.Tests.{le-leb, lt-leb, eq-eqb, ne-eqb}
+use borrow.Author.Tests.{le-leb, eq-eqb, ne-eqb}
+use Rattle.plan.specs.Plan.{Step}
 use Rattle.plan.specs.Decode.{stepOf}
+use Rattle.operation.proofs.StepKinds.{step-above-4}
 use Rattle.operation.specs.Admission.{rowInRange}
 use borrow.Author.Needs.{needs}
 use Rattle.operation.proofs.admission.row_in_range.Statement.{statement}
 use Rattle.operation.proofs.admission.row_in_range.Tie as tie
 
 returns : tie.Need-returns
-unfolding stepOf rowInRange
-returns c = simp (lt-leb _ _ (c .if1 .taken))
+unfolding rowInRange
+returns c =
+    let a = c .before .args in
+    sym (step-above-4 (λ (s : Step). rowInRange (a .params) s ≡ true) (a .word) (c .if1 .taken) (λ f v. refl) refl)
 
 returns-2 : tie.Need-returns-2
 unfolding stepOf rowInRange

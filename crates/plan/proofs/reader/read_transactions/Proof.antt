@@ -2,13 +2,16 @@
 -- Assumes nothing.
 use mathlib.Core.Path.{_≡_, _∙_, sym, ap, ap₂}
 use mathlib.Core.Bool.{Bool, true, cond}
-use Prim.Native.Nat.{_-_, _<_}
-use borrow.Author.Tests.{not-true, not-false}
+use mathlib.Core.List.{List}
+use Prim.Native.Nat.{ℕ, _+_, _-_, _≤_, _<_}
+use borrow.Author.Tests.{not-true, not-false, leb-true}
 use mathlib.Core.Logic.{⊎-elim}
 use native.Mathlib.Omega.{arith}
-use lib.ListN.{length, drop}
+use lib.ListN.{length, getD, drop}
+use Rattle.lists.proofs.Laws.{and-fst, and-snd}
 use Rattle.verdict.specs.Verdict.{accepted, refused}
-use Rattle.plan.specs.Admission.{transactionsVerdict, transactionFormed, stepFormed}
+use Rattle.plan.specs.Decode.{stepOf}
+use Rattle.plan.specs.Admission.{transactionsVerdict, transactionFormed, stepFormed, stepFits, oneIfTells, mostTells}
 use Rattle.plan.proofs.Rest.{formedAt, stands, restAt, restInAt, walk-start, tx-fault, tx-step, end-more, end-done, step-fault}
 use Rattle.plan.proofs.Rest.{step-step, steps-done}
 use borrow.Author.Needs.{needs}
@@ -16,11 +19,12 @@ use Rattle.plan.proofs.reader.read_transactions.Statement.{statement}
 use Rattle.plan.proofs.reader.read_transactions.Tie as tie
 
 abbrev Inv-loop : tie.InvT-loop
-Inv-loop plan transactions at₀ t missing₀ word parameters steps s₀ at missing s =
-    restInAt steps s parameters transactions t plan at missing ≡ transactionsVerdict transactions (drop 1 plan)
+Inv-loop plan transactions at₀ t missing₀ word parameters steps tells₀ s₀ at missing tells s =
+    (tells ≤ mostTells)
+    × (restInAt steps s parameters transactions t tells plan at missing ≡ transactionsVerdict transactions (drop 1 plan))
 
 abbrev μ-loop : tie.MeasureT-loop
-μ-loop plan transactions at₀ t missing₀ word parameters steps s₀ at missing s = steps - s
+μ-loop plan transactions at₀ t missing₀ word parameters steps tells₀ s₀ at missing tells s = steps - s
 
 abbrev Inv-transactions : tie.InvT-transactions
 Inv-transactions plan transactions at₀ t₀ missing₀ at t missing =
@@ -63,42 +67,53 @@ add-at c = let h = tx-here (c .before .before) in omega arith
 
 loop-holds : tie.Need-loop-holds Inv-loop μ-loop Inv-transactions μ-transactions
 loop-holds c =
-    let d = c .before .before in
-    rw (c .partitioning-missing .ensures) (sym (tx-step _ _ _ _ _ (d .before .before .transactions-test .taken) (tx-formedAt d))
-    ∙ d .before .before .before .transactions .inv)
+    let d = c .before .before in (
+      omega arith,
+      rw (c .partitioning-missing .ensures) (sym (tx-step _ _ _ _ _ (d .before .before .transactions-test .taken) (tx-formedAt d))
+          ∙ d .before .before .before .transactions .inv),
+    )
 
 step-at-requires : tie.Need-step-at-requires Inv-loop μ-loop Inv-transactions μ-transactions
 step-at-requires c κs = search needs
 
+-- in a turn over the steps, the words of the plan
+abbrev words : tie.Else2 Inv-loop μ-loop Inv-transactions μ-transactions → List ℕ
+words c = c .before .before .before .before .before .before .before .before .before .before .before .args .plan .now
+
 step-formedAt : (c : tie.Else2 Inv-loop μ-loop Inv-transactions μ-transactions)
-    → formedAt stepFormed (c .before .before .before .before .before .before .before .before .before .before .before .args .plan .now)
-    (c .before .before .before .loop .at) ≡ true
+    → let l = c .before .before .before .loop in formedAt (stepFits (l .tells)) (words c) (l .at) ≡ true
 step-formedAt c = sym (c .before .step-at .ensures) ∙ not-false _ (c .if2 .left)
 
-step-here : (c : tie.Else2 Inv-loop μ-loop Inv-transactions μ-transactions)
-    → c .before .before .before .loop .at < length
-    (c .before .before .before .before .before .before .before .before .before .before .before .args .plan .now)
-step-here c =
-    stands stepFormed (c .before .before .before .before .before .before .before .before .before .before .before .args .plan .now)
-    (c .before .before .before .loop .at)
-    (step-formedAt c) .0
+step-here : (c : tie.Else2 Inv-loop μ-loop Inv-transactions μ-transactions) → c .before .before .before .loop .at < length (words c)
+step-here c = let l = c .before .before .before .loop in stands (stepFits (l .tells)) (words c) (l .at) (step-formedAt c) .0
 
-mul-step-missing : tie.Need-mul-step-missing Inv-loop μ-loop Inv-transactions μ-transactions
-mul-step-missing c = let h = step-here c in search needs
+mul-step : tie.Need-mul-step Inv-loop μ-loop Inv-transactions μ-transactions
+mul-step c = let h = step-here c in search needs
 
-shared-slice-read-step-missing :
-    tie.Need-shared-slice-read-step-missing Inv-loop μ-loop Inv-transactions μ-transactions
-shared-slice-read-step-missing c = step-here (c .before)
+shared-slice-read-step :
+    tie.Need-shared-slice-read-step Inv-loop μ-loop Inv-transactions μ-transactions
+shared-slice-read-step c = step-here (c .before)
+
+tells-with-requires : tie.Need-tells-with-requires Inv-loop μ-loop Inv-transactions μ-transactions
+tells-with-requires c κs = c .before .before .before .before .loop .inv .0
+
+-- the step that stands there, and how many tell with it
+step-fits : (c : tie.Else2 Inv-loop μ-loop Inv-transactions μ-transactions)
+    → let l = c .before .before .before .loop in
+    let w = getD (words c) (l .at) 0 in
+    (stepFormed w ≡ true) × (l .tells + oneIfTells (stepOf w) ≤ mostTells)
+step-fits c =
+    let l = c .before .before .before .loop in
+    let w = getD (words c) (l .at) 0 in
+    let f = stands (stepFits (l .tells)) (words c) (l .at) (step-formedAt c) .2 in
+    (and-fst (stepFormed w) _ f, leb-true _ mostTells (and-snd (stepFormed w) _ f))
 
 step-missing-requires :
     tie.Need-step-missing-requires Inv-loop μ-loop Inv-transactions μ-transactions
-step-missing-requires c κs =
-    stands stepFormed (c .before .before .before .before .before .before .before .before .before .before .before .before .args .plan .now)
-    (c .before .before .before .before .loop .at)
-    (step-formedAt (c .before)) .2
+step-missing-requires c κs = step-fits (c .before .before) .0
 
 add-at-2 : tie.Need-add-at-2 Inv-loop μ-loop Inv-transactions μ-transactions
-add-at-2 c = let h = step-here (c .before .before) in omega arith
+add-at-2 c = let h = step-here (c .before .before .before) in omega arith
 
 add-s : tie.Need-add-s Inv-loop μ-loop Inv-transactions μ-transactions
 add-s c = omega arith
@@ -108,9 +123,12 @@ loop-less c = omega arith
 
 loop-again : tie.Need-loop-again Inv-loop μ-loop Inv-transactions μ-transactions
 loop-again c =
-    let d = c .before .before in
-    rw (c .step-missing .ensures) (sym (step-step _ _ _ _ _ _ _ _ (d .before .before .loop-test .taken) (step-formedAt d))
-    ∙ d .before .before .before .loop .inv)
+    let d = c .before .before .before in
+    let counted = c .before .tells-with .ensures in (
+      omega (arith, counted, step-fits d .1),
+      rw (c .step-missing .ensures, counted) (sym (step-step _ _ _ _ _ _ _ _ _ (d .before .before .loop-test .taken) (step-formedAt d))
+          ∙ d .before .before .before .loop .inv .1),
+    )
 
 add-t : tie.Need-add-t Inv-loop μ-loop Inv-transactions μ-transactions
 add-t c = omega arith
@@ -119,14 +137,14 @@ transactions-less : tie.Need-transactions-less Inv-loop μ-loop Inv-transactions
 transactions-less c = omega arith
 
 transactions-again : tie.Need-transactions-again Inv-loop μ-loop Inv-transactions μ-transactions
-transactions-again c = sym (steps-done _ _ _ _ _ _ _ _ (c .loop-test .left)) ∙ c .before .loop .inv
+transactions-again c = sym (steps-done _ _ _ _ _ _ _ _ _ (c .before .loop .inv .0) (c .loop-test .left)) ∙ c .before .loop .inv .1
 
 returns : tie.Need-returns Inv-loop μ-loop Inv-transactions μ-transactions
 returns c =
     ⊎-elim (λ w. absurd (omega arith))
     (⊎-elim (λ w. sym (tx-fault _ _ _ _ _ (w .0 .taken) (sym (w .1 .ensures) ∙ not-true _ (w .2 .taken)))
     ∙ c .before .before .transactions .inv)
-    (λ w. sym (step-fault _ _ _ _ _ _ _ _ (w .6 .taken) (sym (w .7 .ensures) ∙ not-true _ (w .8 .taken))) ∙ w .5 .inv))
+    (λ w. sym (step-fault _ _ _ _ _ _ _ _ _ (w .6 .taken) (sym (w .7 .ensures) ∙ not-true _ (w .8 .taken))) ∙ w .5 .inv .1))
     (c .before .transactions-test .came)
 
 -- past both loops with no fault
@@ -170,8 +188,9 @@ read-transactions-spec =
     add-at
     loop-holds
     step-at-requires
-    mul-step-missing
-    shared-slice-read-step-missing
+    mul-step
+    shared-slice-read-step
+    tells-with-requires
     step-missing-requires
     add-at-2
     add-s

@@ -26,13 +26,15 @@ returns : tie.Need-returns
 returns c =
     let s = c .before .before .before in
     let v = s .before .before .before .before .before in
-    let row = v .before .before .before .before .before .before .args .row .now in
+    let d = v .before .before .before .before .before .before in
+    let row = d .args .row .now in
     let step = v .request-step .result in
+    let place = storePlace (responseOf (step .result .answer)) (d .args .state .waiting) 32 in
     let cells = v .request-step .last .1 .1 .0 in (
       ap (requestedOf (step .result) cells) (ap queueIn (s .store-in .ensures) ∙ queueIn-storedIn row (step .place) (step .request))
           ∙ v .request-step .ensures .0,
       s .store-in .ensures ∙ ap (λ (at : ℕ). storedIn row at (step .request)) (v .request-step .ensures .1 .1)
-          ∙ ap (storedIn row (storePlace (responseOf (step .result .answer)) (v .before .before .before .before .before .before .args .state .waiting) 32)) (v .request-step .ensures .1 .0),
+          ∙ ap (storedIn row place) (v .request-step .ensures .1 .0),
     )
 
 pub request-on-words-spec : {M : Type 1} → statement M

@@ -1,7 +1,7 @@
--- The three words of a reply, one after another.
+-- The seven words of a reply, one after another.
 -- Assumes nothing.
 use mathlib.Core.Path.{_∙_, ap}
-use mathlib.Core.List.{_∷_, []}
+use mathlib.Core.List.{_∷_, [], _++_}
 use native.Mathlib.Omega.{arith}
 use lib.ListN.{length-set, drop}
 use borrow.Author.Needs.{needs}
@@ -21,6 +21,18 @@ slice-write-replies-2 c = simp length-set (omega arith)
 slice-write-replies-3 : tie.Need-slice-write-replies-3
 slice-write-replies-3 c = simp length-set (omega arith)
 
+slice-write-replies-4 : tie.Need-slice-write-replies-4
+slice-write-replies-4 c = simp length-set (omega arith)
+
+slice-write-replies-5 : tie.Need-slice-write-replies-5
+slice-write-replies-5 c = simp length-set (omega arith)
+
+slice-write-replies-6 : tie.Need-slice-write-replies-6
+slice-write-replies-6 c = simp length-set (omega arith)
+
+slice-write-replies-7 : tie.Need-slice-write-replies-7
+slice-write-replies-7 c = simp length-set (omega arith)
+
 same-length : tie.Need-same-length
 same-length c = search needs
 
@@ -28,9 +40,12 @@ returns : tie.Need-returns
 returns c =
     let a = c .before .before .args in
     let o = a .replies .now in
-    let words = c .reply-head .result ∷ a .client ∷ a .reply .number ∷ [] in
-    fill-done (fill-word (fill-word (fill-word (fill-none words o) (omega arith)) (omega arith)) (omega arith)) .0
-    ∙ ap (λ h. h ∷ a .client ∷ a .reply .number ∷ drop 3 o) (c .reply-head .ensures)
+    let r = a .reply in
+    let behind = a .client ∷ r .number ∷ r .told0 ∷ r .told1 ∷ r .told2 ∷ r .told3 ∷ [] in
+    let two = fill-word (fill-word (fill-none (c .reply-head .result ∷ behind) o) (omega arith)) (omega arith) in
+    let four = fill-word (fill-word two (omega arith)) (omega arith) in
+    let six = fill-word (fill-word four (omega arith)) (omega arith) in
+    fill-done (fill-word six (omega arith)) .0 ∙ ap (λ h. h ∷ (behind ++ drop 7 o)) (c .reply-head .ensures)
 
 pub write-reply-spec : {M : Type 1} → statement M
 write-reply-spec =
@@ -40,5 +55,9 @@ write-reply-spec =
     slice-write-replies
     slice-write-replies-2
     slice-write-replies-3
+    slice-write-replies-4
+    slice-write-replies-5
+    slice-write-replies-6
+    slice-write-replies-7
     same-length
     returns)
