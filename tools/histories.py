@@ -11,9 +11,9 @@ import random
 import sys
 from collections import deque
 
-from model import CELLS, OUTGOING, REPLIES, REPLY_WORDS, ROWS, STARTING_FRAME, WORD
-from model import Desk, Serial, cell_of, field, question_6
-from plans import PlanDrawing, damage, hexadecimal
+from model import CELLS, MOST_OPEN, OUTGOING, REPLIES, REPLY_WORDS, ROWS, STARTING_FRAME, WORD
+from model import Desk, Serial, cell_of, field, question_6, refused
+from plans import PlanDrawing, changes, damage, hexadecimal, opened, transaction_damage, transaction_places
 from script import Interpreter
 from tally import Difference, Tally
 
@@ -21,6 +21,8 @@ HISTORIES, SEED, CALLS = 500, 97, 60
 # The shape of a history by its number; it decides on the plan and on how the calls begin.
 SHAPES = ["one desk", "no partition", "many transactions", "most words", "full frame", "long pass"]
 SHAPES += ["own cells"] * 3 + ["burst"] * 2 + ["plain"] * 9
+# How many fields of a plan are open at first, and by which questions a damaged plan is refused.
+OPENED, DAMAGES = [0, 0, 0, 1, 2, 3, 4, 4, 5, 5, 6, 7, 7], [1, 2, 3, 4, 17]
 
 
 def four(params):
@@ -39,7 +41,8 @@ def any_word(rng):
 
 class History:
     """One history. `premise` says whether it keeps the premise so far; a forging one is drawn so that it mostly does not. The token is
-    the number of the frame that the latest accepted visit sent, and `by_hand` the desk whose state is not as the calls left it, if any."""
+    the number of the frame that the latest accepted visit sent, and `by_hand` the desk whose state is not as the calls left it, if any.
+    `chosen` are the places of the transactions whose fields were chosen."""
 
     def __init__(self, number, seed, interpreter, lines, tally):
         self.number, self.rng = number, random.Random("%d %d" % (seed, number))
@@ -77,11 +80,8 @@ class History:
     def open(self):
         """The plan, the desks with equal books and rows that hold anything, and the starting frame."""
         rng = self.rng
-        drawing = PlanDrawing(rng, self.shape)
         self.write("reset")
-        self.call("plan " + hexadecimal(drawing.draw()))
-        self.plan, self.rows, self.n = self.interpreter.plan, drawing.rows, self.interpreter.plan.desks
-        self.tally.plan(self.plan)
+        self.draw_plan()
         fill = rng.choice(("", "%d" % any_word(rng), "seed %d" % rng.randrange(1000)))
         for desk in range(self.n):
             self.call("desk %d" % desk)
@@ -96,6 +96,35 @@ class History:
             self.lent("out %d" % rng.randrange(4), lambda: self.call("start"))
         self.call("start")
         self.sent = {tuple(STARTING_FRAME)}
+
+    def draw_plan(self):
+        """The plan, often with open fields, which are then chosen. With more than six one is closed as it was drawn."""
+        rng, count = self.rng, 0 if self.shape == "no partition" else self.rng.choice(OPENED)
+        drawing = PlanDrawing(rng, self.shape, count)
+        words = drawing.draw()
+        places, paired = transaction_places(words)[drawing.kept :], drawing.paired
+        self.chosen = places[:paired] + rng.sample(places[paired:], count - paired)
+        self.call("plan " + hexadecimal(opened(words, self.chosen)))
+        self.plan, self.rows, self.n = self.interpreter.plan, drawing.rows, self.interpreter.plan.desks
+        if count > MOST_OPEN or count and rng.randrange(3) == 0:
+            self.fault_beside_open()
+        if count > MOST_OPEN:
+            self.choose()
+            place = self.chosen.pop()
+            self.call("plan same word %d %X" % (place, words[place]))
+        if count:
+            self.refused_calls(self.first_calls(), rng.randrange(2), refused(17))
+        if count or rng.randrange(4) == 0:
+            self.choose()
+        self.plan = self.interpreter.plan
+        self.tally.counts["histories on a chosen plan"] += count > 0
+        self.tally.plan(self.plan)
+
+    def choose(self):
+        before = self.interpreter.plan
+        answer = self.call("choose")
+        if answer[0] == "chosen":
+            self.tally.choice(before, answer[1], self.interpreter.plan.words)
 
     def run(self):
         """The opening and 60 calls, which begin in some shapes with a course of their own; the longest of these has 300 calls more."""
@@ -128,6 +157,7 @@ class History:
         else:
             odd = [self.odd_request] * 2 + [self.odd_frame] * 5 + [self.forged_frame] * 3 + [self.lent_call] * 2 + [self.odd_state] * 2
             odd += [self.last_number, self.past_a_word, self.usual_class, self.usual_read, self.outside_desk, self.other_start]
+            odd += [self.chosen_again] * 2 + [self.damaged_transaction]
             odd += [self.forged_frame] * 6 + [self.odd_frame, self.made_by_hand, self.made_by_hand] if self.forging else []
             self.rng.choice(odd)()
 
@@ -494,20 +524,72 @@ class History:
         """A starting frame on the way, often in a buffer that is too short."""
         self.lent("out %d" % self.rng.choice((0, 3, 3, 4, self.rng.randrange(OUTGOING))), lambda: self.call("start"))
 
-    def damaged_plan(self):
-        """A plan that is refused, some calls on it, and the plan as it was."""
-        rng, words = self.rng, self.plan.words
-        change, undo = damage(rng, words, 1 + (self.number + self.number // len(SHAPES)) % 4)
-        answer = self.call("plan same " + change)
-        self.tally.damaged(self.interpreter.plan.words)
-        calls = [self.usual_class, self.usual_request, self.token_visit, self.usual_read]
-        for call in rng.sample(calls + [lambda: self.call("desk %d" % rng.randrange(self.n))], rng.choice((2, 3))):
+    def refused_calls(self, calls, count, answer):
+        """Some of these calls, which must all have the plan's own answer."""
+        for call in self.rng.sample(calls, count):
             call()
             if answer[0] != "refused" or self.interpreter.last.answer != answer:
-                raise Difference("history %d: a damaged plan is not refused" % self.number)
-        self.call("plan same " + undo)
-        if self.interpreter.plan.words != words:
+                raise Difference("history %d: a call on a plan that is refused has another answer" % self.number)
+            self.tally.counts["calls on an open plan"] += answer == refused(17)
+
+    def same_plan(self):
+        if self.interpreter.plan.words != self.plan.words:
             raise Difference("history %d: the plan is not as it was" % self.number)
+
+    def first_calls(self):
+        """Calls that are refused as the plan is, and need no desk."""
+        return [self.usual_class, lambda: self.call("desk 0"), lambda: self.call("read words 90000004 0 seal")]
+
+    def plan_calls(self):
+        """The calls that are refused as the plan is, but for the chooser."""
+        return [self.usual_class, self.usual_request, self.token_visit, self.usual_read, self.made_again]
+
+    def made_again(self):
+        """A new desk in place of one of the plan's desks, on a plan that is refused."""
+        self.call("desk %d" % self.rng.randrange(self.n))
+
+    def damaged_plan(self):
+        """A plan that is refused, some calls on it, and the plan as it was. What the chooser fills in on the way is undone as well."""
+        question = DAMAGES[(self.number + self.number // len(SHAPES)) % len(DAMAGES)]
+        self.damaged(*damage(self.rng, self.plan.words, question), self.rng.choice((2, 3)))
+
+    def damaged_transaction(self):
+        """The same for a transaction's word with a bit or a field that is refused with 3."""
+        change, undo = transaction_damage(self.rng, self.plan.words)
+        self.damaged(change, undo, 1)
+        self.tally.damaged_transaction(int(change.split()[2], 16))
+
+    def damaged(self, change, undo, count):
+        answer = self.call("plan same " + change)
+        self.tally.damaged(self.interpreter.plan.words)
+        choose = [] if answer == refused(17) else [self.choose]
+        self.refused_calls(self.plan_calls() + choose, count, answer)
+        if answer == refused(17):
+            self.choose()
+        self.call("plan same " + undo)
+        self.same_plan()
+
+    def fault_beside_open(self):
+        """The plan with open fields and a fault beside them, by which it is refused, and the plan as it was."""
+        before = self.plan.words
+        change, undo = damage(self.rng, before, self.rng.choice((1, 2, 3, 3, 4, 4)))
+        answer, words = self.call("plan same " + change), self.interpreter.plan.words
+        self.tally.damaged(words)
+        self.tally.fault(answer[1], sum(words[k : k + 1] == [before[k]] for k in self.chosen))
+        self.refused_calls([self.choose], 1, answer)
+        self.refused_calls(self.first_calls(), self.rng.randrange(2), answer)
+        self.call("plan same " + undo)
+        self.same_plan()
+
+    def chosen_again(self):
+        """Some of the fields that were chosen open again, or none. They are chosen as before: no filling of them costs less with the others
+        as they are, and none that costs the same has smaller fields."""
+        places = self.rng.sample(self.chosen, self.rng.randrange(len(self.chosen) + 1))
+        if places:
+            answer = self.call("plan same " + changes(self.plan.words, opened(self.plan.words, places))[0])
+            self.refused_calls(self.plan_calls(), self.rng.randrange(3), answer)
+        self.choose()
+        self.same_plan()
 
     # The end
 

@@ -3,18 +3,23 @@
 Words are integers below 2^32. `Plan(words)` reads a plan once; every call of the paper is then a function over it. Buffers are lists
 that are changed in place, a row of waiting requests is a list of six-tuples, and every call answers a tuple that names its case:
 ('free',), ('local', desk), ('global', desk), ('replied', done, number, four told words), ('waits',), ('elsewhere', desk),
-('passed', words, replies), ('opened', state), ('written',), ('visit', number), ('accepted',), ('refused', question).
+('passed', words, replies), ('opened', state), ('written',), ('visit', number), ('accepted',), ('chosen', cost), ('refused', question).
 """
 
 from collections import namedtuple
+from functools import lru_cache, reduce
+from itertools import product
+from operator import or_
 
 WORD = 1 << 32
 CELLS, ROWS, OUTGOING, REPLIES = 1024, 32, 6404, 224
-NO_PARTITION, FIXED = 15, 7
+OPEN, NO_PARTITION, FIXED = 14, 15, 7
 TELL, MOST_TOLD, REPLY_WORDS = 13, 4, 7
+MOST_OPEN, MOST_TRIED = 6, 3
 
 Step = namedtuple("Step", "kind table column source fixed")
-Transaction = namedtuple("Transaction", "params partition steps")
+# The place is the index of the transaction's word in the plan.
+Transaction = namedtuple("Transaction", "place params partition weight steps")
 Request = namedtuple("Request", "client transaction p0 p1 p2 p3")
 Desk = namedtuple("Desk", "desk waiting awaited")
 Run = namedtuple("Run", "done number told update")
@@ -38,8 +43,8 @@ def transaction_well_formed(word):
         field(word, 31, 28) == 2
         and field(word, 27, 24) <= 4
         and 1 <= field(word, 23, 20) <= 12
-        and (field(word, 19, 16) <= 3 or field(word, 19, 16) == NO_PARTITION)
-        and field(word, 15, 0) == 0
+        and (field(word, 19, 16) <= 3 or field(word, 19, 16) in (OPEN, NO_PARTITION))
+        and field(word, 7, 0) == 0
     )
 
 
@@ -78,28 +83,62 @@ def walk(words):
         steps = words[at + 1 : at + 1 + field(head, 23, 20)]
         if len(steps) != field(head, 23, 20) or not all(step_well_formed(w) for w in steps):
             return None
-        steps = [decode_step(w) for w in steps]
+        steps = tuple(decode_step(w) for w in steps)
         if sum(s.kind == TELL for s in steps) > MOST_TOLD:
             return None
-        transactions.append(Transaction(field(head, 27, 24), field(head, 19, 16), steps))
+        transactions.append(Transaction(at, field(head, 27, 24), field(head, 19, 16), field(head, 15, 8), steps))
         at += 1 + len(steps)
     return transactions if at == len(words) else None
 
 
 def names_missing(t):
-    """Question 4 for one transaction: it names a parameter that it does not have."""
-    if t.partition != NO_PARTITION and t.partition >= t.params:
+    """Question 4 for one transaction: it names a parameter that it does not have. An open field names none."""
+    if t.partition not in (OPEN, NO_PARTITION) and t.partition >= t.params:
         return True
     return any(s.source not in (None, FIXED) and s.source >= t.params for s in t.steps)
 
 
+def operations(t, step, desks):
+    """Parameters by which a step is tried: all rows of the step, and all residues of the partitioning parameter; the other parameters
+    change neither the cell nor the desk."""
+    rows = [0] if step.source == FIXED else range(ROWS)
+    residues = [0] if t.partition in (NO_PARTITION, step.source) else range(desks)
+    for row, residue in product(rows, residues):
+        params = [0, 0, 0, 0]
+        if t.partition != NO_PARTITION:
+            params[t.partition] = residue
+        if step.source != FIXED:
+            params[step.source] = row
+        yield params
+
+
+def desk_of(t, params, desks):
+    """The desk of an operation."""
+    return 0 if t.partition == NO_PARTITION else params[t.partition] % desks
+
+
+@lru_cache(maxsize=1024)
+def tried(t, desks):
+    """What the operations of a transaction may touch and may write, each as pairs of a cell and a desk, by trying them."""
+    touched, written = set(), set()
+    for step in t.steps:
+        if step.kind in (3, 4):
+            pairs = {(cell_of(step, params), desk_of(t, params, desks)) for params in operations(t, step, desks)}
+            touched |= pairs
+            written |= pairs if step.kind == 4 else set()
+    return touched, written
+
+
 class Plan:
-    """A plan's verdict (0 if accepted), and for an accepted one its desks, transactions and who may touch and write each cell."""
+    """A plan's verdict (0 if accepted). `form` is that of questions 1 to 4 alone, as the chooser asks them; where it is 0 the desks, the
+    transactions and those with an open field are known, and for an accepted plan who may touch and write each cell."""
 
     def __init__(self, words):
         self.words = list(words)
         self.desks, self.transactions = 0, []
-        self.verdict = self.read()
+        self.form = self.read()
+        self.opened = [t for t in self.transactions if t.partition == OPEN]
+        self.verdict = self.form or (17 if self.opened else 0)
         self.touchers = [set() for _ in range(CELLS)]
         self.writers = [set() for _ in range(CELLS)]
         if self.verdict == 0:
@@ -120,31 +159,16 @@ class Plan:
         return 0
 
     def try_operations(self):
-        """Marks each cell with the desks whose operations may touch it, and may write it, by trying operations."""
+        """Marks each cell with the desks whose operations may touch it, and may write it."""
         for t in self.transactions:
-            for step in t.steps:
-                if step.kind in (3, 4):
-                    self.try_step(t, step)
-
-    def try_step(self, t, step):
-        """All rows of the step, and all residues of the partitioning parameter; the other parameters change neither."""
-        row_values = [0] if step.source == FIXED else range(ROWS)
-        partition_values = [0] if t.partition in (NO_PARTITION, step.source) else range(self.desks)
-        for r in row_values:
-            for p in partition_values:
-                params = [0, 0, 0, 0]
-                if t.partition != NO_PARTITION:
-                    params[t.partition] = p
-                if step.source != FIXED:
-                    params[step.source] = r
-                cell, desk = cell_of(step, params), self.desk_of(t, params)
+            touched, written = tried(t, self.desks)
+            for cell, desk in touched:
                 self.touchers[cell].add(desk)
-                if step.kind == 4:
-                    self.writers[cell].add(desk)
+            for cell, desk in written:
+                self.writers[cell].add(desk)
 
     def desk_of(self, t, params):
-        """The desk of an operation."""
-        return 0 if t.partition == NO_PARTITION else params[t.partition] % self.desks
+        return desk_of(t, params, self.desks)
 
     def question_8(self, t, params):
         """Unused parameters are zero, and those used as rows at most 31."""
@@ -167,6 +191,89 @@ class Plan:
         if all(self.touchers[c] <= {desk} for c in writes):
             return ("local", desk)
         return ("global", desk)
+
+    def has_global(self, number):
+        """Whether a transaction has some global operation, by trying those of each write step."""
+        t = self.transactions[number]
+        each = (params for step in t.steps if step.kind == 4 for params in operations(t, step, self.desks))
+        return any(self.class_of(number, params)[0] == "global" for params in each)
+
+
+# ---- Choosing the partitioning
+
+
+def candidates(t):
+    """What an open field can be filled with: one of the transaction's parameters, or none."""
+    return [*range(t.params), NO_PARTITION]
+
+
+def fillings(plan):
+    """All that the open fields of a plan can be filled with, as tuples in plan order."""
+    return product(*[candidates(t) for t in plan.opened])
+
+
+def filled(plan, fields):
+    """The words of a plan with these fields in its open transactions."""
+    words = list(plan.words)
+    for t, chosen in zip(plan.opened, fields):
+        words[t.place] = words[t.place] & ~(15 << 16) | chosen << 16
+    return words
+
+
+def globals_by_trying(plan):
+    """For every filling its fields, and the numbers of the transactions that have some global operation then."""
+    for fields in fillings(plan):
+        full = Plan(filled(plan, fields))
+        yield fields, [number for number in range(len(full.transactions)) if full.has_global(number)]
+
+
+def step_cells(step):
+    """The cells that a read or write step may name, each with its row."""
+    return [(step.table * 128 + row * 4 + step.column, row) for row in ([step.fixed] if step.source == FIXED else range(ROWS))]
+
+
+def desk_masks(t, desks):
+    """For each desk the cells that operations of a transaction may touch there, as the bits of a number: without partitioning all at
+    desk 0; where the partitioning parameter is the row, each row at the desk of its number; else all at every desk."""
+    masks = [0] * desks
+    for step in t.steps:
+        for cell, row in step_cells(step) if step.kind in (3, 4) else []:
+            own = 0 if t.partition == NO_PARTITION else row % desks
+            for desk in [own] if t.partition in (NO_PARTITION, step.source) else range(desks):
+                masks[desk] |= 1 << cell
+    return masks
+
+
+def write_mask(t):
+    """The cells that operations of a transaction may write, as the bits of a number."""
+    return reduce(or_, (1 << cell for s in t.steps if s.kind == 4 for cell, _ in step_cells(s)), 0)
+
+
+def shared_cells(tables):
+    """The cells that two or more desks may touch, by masks of some transactions."""
+    once = twice = 0
+    for masks in zip(*tables):
+        cells = reduce(or_, masks)
+        twice |= once & cells
+        once |= cells
+    return twice
+
+
+def globals_by_masks(plan):
+    """The same in less time: a transaction has a global operation exactly if it may write a cell that two or more desks may touch."""
+    writes = [write_mask(t) for t in plan.transactions]
+    closed = [desk_masks(t, plan.desks) for t in plan.transactions if t.partition != OPEN]
+    closed = [reduce(or_, masks) for masks in zip([0] * plan.desks, *closed)]
+    opened = [{f: desk_masks(t._replace(partition=f), plan.desks) for f in candidates(t)} for t in plan.opened]
+    for fields in fillings(plan):
+        shared = shared_cells([closed] + [tables[f] for tables, f in zip(opened, fields)])
+        yield fields, [number for number, cells in enumerate(writes) if cells & shared]
+
+
+def costs(plan, globals_by):
+    """The cost of every filling, with its fields: the weights of all transactions that have some global operation then."""
+    weights = [t.weight for t in plan.transactions]
+    return [(sum(weights[number] for number in numbers), fields) for fields, numbers in globals_by(plan)]
 
 
 # ---- Running a transaction
@@ -282,6 +389,18 @@ def frame_verdict(desks, frame):
 
 def read_plan(plan):
     return refused(plan.verdict) if plan.verdict else ("accepted",)
+
+
+def choose(words):
+    """The chooser: fills the open fields of the lent words so that the cost is the least, and among equals the fields the smallest in
+    plan order. Every filling is tried; operations are tried where few fields are open, for the time that it takes."""
+    plan = Plan(words)
+    question = plan.form or (16 if len(plan.opened) > MOST_OPEN else 0)
+    if question:
+        return refused(question)
+    cost, fields = min(costs(plan, globals_by_trying if len(plan.opened) <= MOST_TRIED else globals_by_masks))
+    words[:] = filled(plan, fields)
+    return ("chosen", cost)
 
 
 def classify(plan, transaction, params):

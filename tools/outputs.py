@@ -3,13 +3,14 @@ With `write` it writes the files instead: python3 tools/outputs.py write
 
 The expected outputs are the answers of script.py: to each example alone, to what `belt` is run on (all examples, then questions.txt) and
 to what `histories` is run on (random histories). The values that the paper states of its own course stand below as they are printed
-there, and the run of `belt` is held to them first.
+there, and the run of `belt` is held to them first, then to the claims of choices.py.
 """
 
 import sys
 from pathlib import Path
 
 import histories
+from choices import CLAIMS, Choice, same_globals
 from script import Interpreter, answers
 
 ROOT = Path(__file__).resolve().parent.parent
@@ -47,23 +48,54 @@ STATED = [
 ]
 
 
-def hold_to_paper(script):
-    """Ends with a message unless the lines stand in the script in this order and are answered as the paper says."""
-    pending, written = list(STATED), []
+def followed(script):
+    """Each line of a script, without its comment: the command, the plan before it, its answer, the call that it made, or None, and the
+    interpreter after it."""
+    written = []
     interpreter = Interpreter(written.append)
     for line in script.split(b"\n"):
         written.clear()
+        before, last = interpreter.plan, interpreter.last
         interpreter.line(line)
-        command = b" ".join(line.split(b"#")[0].split()).decode("latin-1")
+        command, said = b" ".join(line.split(b"#")[0].split()), b"".join(written)
+        call = interpreter.last if interpreter.last is not last else None
+        yield command.decode("latin-1"), before, said.decode("latin-1"), call, interpreter
+
+
+def hold_to_paper(script):
+    """Ends with a message unless the lines stand in the script in this order and are answered as the paper says."""
+    pending = list(STATED)
+    for command, _, said, _, interpreter in followed(script):
         if not pending or command != pending[0][0]:
             continue
-        said, stated = b"".join(written).decode("latin-1"), pending.pop(0)[1]
+        stated = pending.pop(0)[1]
         if interpreter.plan.words != [int(word, 16) for word in PLAN.split()]:
             sys.exit("%s: the plan is not the paper's" % command)
         if not said.startswith(stated):
             sys.exit("%s: the answer is '%s', the paper says '%s'" % (command, said.strip(), stated.strip()))
     if pending:
         sys.exit("not in the script, or not in this order: %s" % pending[0][0])
+
+
+def hold_to_claims(script):
+    """Ends with a message unless each claim stands in the script and the choice behind it is as it says, or if trying operations and masks
+    differ: on what is global in an accepted plan, or on a choice."""
+    pending, claimed = dict(CLAIMS), None
+    for command, before, _, call, interpreter in followed(script):
+        if interpreter.plan.verdict == 0 and not same_globals(tuple(interpreter.plan.words)):
+            sys.exit("%s: trying operations and masks differ on the plan behind it" % command)
+        if command.startswith("say Choose: "):
+            claimed = command.removeprefix("say Choose: ")
+            if claimed not in pending:
+                sys.exit("%s: no such claim, or twice" % command)
+        elif call and call.answer[0] == "chosen":
+            choice = Choice(before, call.answer[1], interpreter.plan.words)
+            if (choice.costs[choice.fields], choice.fields) != (choice.cost, choice.best()[0]):
+                sys.exit("a choice behind '%s' is not the best by masks" % claimed)
+            if claimed in pending and not pending.pop(claimed)(choice):
+                sys.exit("'%s' does not hold" % claimed)
+    if pending:
+        sys.exit("claimed by no case: %s" % ", ".join(pending))
 
 
 def expected():
@@ -77,6 +109,7 @@ def expected():
         belt += script + b"reset\n"
     belt += (ROOT / "tools/questions.txt").read_bytes()
     hold_to_paper(belt)
+    hold_to_claims(belt)
     drawn = histories.script(HISTORIES, SEED)
     for name, script in (("belt", belt), ("histories", drawn)):
         made["crates/%s/stdin" % name] = script

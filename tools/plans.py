@@ -1,6 +1,6 @@
-"""Draws plans that are accepted, and damages of plans that are then refused."""
+"""Draws plans that are accepted, opens fields of plans, and draws damages of plans that are then refused."""
 
-from model import FIXED, MOST_TOLD, NO_PARTITION, ROWS, TELL, WORD, field, names_missing, walk
+from model import FIXED, MOST_TOLD, NO_PARTITION, OPEN, ROWS, TELL, WORD, field, names_missing, walk
 
 MOST_FIXED, MOST_STEPS, TELL_WORD = (1 << 25) - 1, 12, TELL << 28
 
@@ -20,35 +20,51 @@ def number_word(kind, source, number=0):
 class PlanDrawing:
     """A plan that is accepted. A place is a table and a column, and each has its use in a plan: `own` places are touched only in the row
     that the partitioning parameter names, `first` ones only by transactions without partitioning, `shared` ones by all, and `constant` ones
-    are only read; a few steps keep to no use. The rows are mostly of a few that are drawn for the plan."""
+    are only read; a few steps keep to no use. The `tied` ones, where two are left, are only for a tie. The rows are mostly of a few that
+    are drawn for the plan. The first `kept` transactions are not to be opened afterwards, the next `paired` ones are if so many are opened,
+    and there are enough behind them."""
 
-    def __init__(self, rng, shape):
-        self.rng, self.shape = rng, shape
+    def __init__(self, rng, shape, opened):
+        self.rng, self.shape, self.opened, self.kept, self.paired = rng, shape, opened, 0, 0
         places = [(table, column) for table in range(8) for column in range(4)]
         rng.shuffle(places)
         size = rng.choice((1, 1, 2, 8))
         self.places = {use: places[k * size : (k + 1) * size] for k, use in enumerate(("own", "first", "shared", "constant"))}
+        self.tied = places[4 * size :][:2]
         self.rows = rng.sample(range(ROWS), rng.choice((3, 4, 8)))
         self.desks = {"one desk": 1, "full frame": 8, "full round": 8}.get(shape, rng.choice((rng.randrange(2, 5), rng.randrange(1, 9))))
         if shape in ("own cells", "burst"):
             self.desks = max(2, self.desks)
-        self.words, self.count = [0], 0
+        self.words, self.count, self.weights = [0], 0, rng.choice(("none", "few", "any", "any", "any", "any"))
 
     def draw(self):
         """The words of the plan."""
-        count = 32 if self.shape in ("many transactions", "most words") else self.rng.randrange(2, 8)
+        count = max(self.rng.randrange(2, 8), self.opened + self.rng.randrange(3))
+        count = 32 if self.shape in ("many transactions", "most words") else count
         if self.shape == "own cells":
             self.add_own_cells()
         elif self.shape in ("full frame", "full round"):
             self.add_twelve_writes()
+        self.kept = self.count
+        form = self.rng.randrange(4) if self.opened > 1 and count < 32 else 0
+        if form == 1 and self.tied:
+            self.add_tie()
+        elif form:
+            self.add_pair()
         for _ in range(count):
             self.add_transaction()
         self.words[0] = 1 << 28 | self.desks << 24 | self.count << 16 | len(self.words)
         return self.words
 
-    def add(self, params, partition, steps):
-        self.words += [2 << 28 | params << 24 | len(steps) << 20 | partition << 16] + steps
+    def add(self, params, partition, steps, weight=None):
+        weight = self.weight() if weight is None else weight
+        self.words += [2 << 28 | params << 24 | len(steps) << 20 | partition << 16 | weight << 8] + steps
         self.count += 1
+
+    def weight(self):
+        """A weight: over the full range, or in some plans one of a few, so that costs are often equal, or 0."""
+        weights = {"none": (0,), "few": (0, 1, 1, 2, 255), "any": range(256)}
+        return self.rng.choice(weights[self.weights])
 
     def row(self):
         return self.rng.choice(self.rows) if self.rng.randrange(4) else self.rng.randrange(ROWS)
@@ -65,6 +81,30 @@ class PlanDrawing:
         """A global of the longest update; the last write is of a cell that all desks write."""
         steps = [cell_word(4, self.rng.choice(self.places["shared"]), 1) for _ in range(11)]
         self.add(2, 0, steps + [cell_word(4, self.places["shared"][0], FIXED, self.row())])
+
+    def add_pair(self):
+        """Two transactions to be opened that write an own place in the row of a later parameter, behind one that is kept. While one of the
+        two goes by another parameter or by none, it makes no difference by which the other goes."""
+        place = self.places["own"][0]
+        self.add(1, 0, [cell_word(self.rng.choice((3, 4)), place, 0)])
+        self.kept, self.paired = self.count, 2
+        for _ in range(2):
+            params = self.rng.randrange(2, 5)
+            row = self.rng.randrange(1, params)
+            self.add(params, row, [self.number_step(self.rng.choice((5, 6)), params), cell_word(4, place, row)])
+
+    def add_tie(self):
+        """Two transactions to be opened that read both tied places, behind two that are kept, weigh the same and write one place each. By
+        one parameter a reader makes the one writer global, by another the other, by any further one and by none both. So one writer is
+        global if the readers agree, which takes the smaller of two parameters in one reader and the larger in the other."""
+        rng, weight, swapped = self.rng, self.rng.choice((1, 255, self.rng.randrange(1, 256))), self.rng.randrange(2)
+        for place in self.tied:
+            self.add(1, 0, [cell_word(4, place, 0)], weight)
+        self.kept, self.paired = self.count, 2
+        for number in range(2):
+            params = rng.randrange(2, 5)
+            rows = sorted(rng.sample(range(params), 2), reverse=number == swapped)
+            self.add(params, rows[0], [cell_word(3, place, row) for place, row in zip(self.tied, rows)])
 
     def add_transaction(self):
         """A transaction of one of the uses, or of all, or one that only reads. All but the readers end with a write."""
@@ -121,7 +161,7 @@ class PlanDrawing:
 
 
 def damage(rng, words, question):
-    """A change of a plan that is then refused with this question, 1 to 4, and what undoes the change, as the script has them."""
+    """A change of a plan that is then refused with this question, 1 to 4 or 17, and what undoes the change, as the script has them."""
     head, back, count = words[0], " word 0 %X" % words[0], rng.randrange(1, min(len(words), 9))
     end, more = hexadecimal(words[-count:]), hexadecimal([rng.choice((words[-1], rng.randrange(WORD))) for _ in range(count)])
     if question == 1:
@@ -134,6 +174,9 @@ def damage(rng, words, question):
         desks = head & 0xF0FFFFFF | rng.choice((0, 9, rng.randrange(9, 16))) << 24
         transactions = head & 0xFF00FFFF | rng.choice((0, 33, rng.randrange(33, 256))) << 16
         return "word 0 %X" % rng.choice((desks, transactions)), back
+    if question == 17:
+        places = transaction_places(words)
+        return changes(words, opened(words, rng.sample(places, rng.randrange(1, min(len(places), 9) + 1))))
     form = rng.randrange(3) if question == 3 else 2
     if form == 0:
         forms = [("cut %d word 0 %X" % (count, head - count), end + back)]
@@ -141,6 +184,32 @@ def damage(rng, words, question):
             forms.append(("%s word 0 %X" % (more, head + count), "cut %d" % count + back))
         return rng.choice(forms)
     return tell_damage(rng, words) if form == 1 else word_damage(rng, words, question)
+
+
+def changes(words, others):
+    """What changes words into others, as many, and what undoes it, as the script has them."""
+    places = [k for k, word in enumerate(words) if word != others[k]]
+    return tuple(" ".join("word %d %X" % (k, of[k]) for k in places) for of in (others, words))
+
+
+def transaction_places(words):
+    """Where the word of each transaction stands, of a plan that is accepted."""
+    return [places.start - 1 for places in step_places(words)]
+
+
+def opened(words, places):
+    """The words of a plan with the fields of the transactions at these places open."""
+    return [word & ~(15 << 16) | OPEN << 16 if k in places else word for k, word in enumerate(words)]
+
+
+def transaction_damage(rng, words):
+    """One of the lowest eight bits of a transaction's word set, or its partitioning field 4 to 13: question 3."""
+    others, place = list(words), rng.choice(transaction_places(words))
+    if rng.randrange(2):
+        others[place] |= 1 << rng.randrange(8)
+    else:
+        others[place] = words[place] & ~(15 << 16) | rng.randrange(4, OPEN) << 16
+    return changes(words, others)
 
 
 def step_places(words):
@@ -162,8 +231,7 @@ def tell_damage(rng, words):
     else:
         tells = [k for k in range(1, len(words)) if words[k] == TELL_WORD]
         changed = {rng.choice(tells or rng.choice(step_places(words))): TELL_WORD | 1 << rng.randrange(28)}
-    change = " ".join("word %d %X" % item for item in changed.items())
-    return change, " ".join("word %d %X" % (k, words[k]) for k in changed)
+    return changes(words, [changed.get(k, word) for k, word in enumerate(words)])
 
 
 def word_damage(rng, words, question):

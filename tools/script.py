@@ -10,7 +10,7 @@ from collections import Counter, namedtuple
 from functools import lru_cache
 
 import model
-from model import CELLS, FIXED, NO_PARTITION, OUTGOING, REPLIES, REPLY_WORDS, ROWS, TELL, WORD, Desk, Plan, Request, field, sums
+from model import CELLS, FIXED, NO_PARTITION, OPEN, OUTGOING, REPLIES, REPLY_WORDS, ROWS, TELL, WORD, Desk, Plan, Request, field, sums
 
 SLOTS, KEPT_FRAMES, MOST_PASSES, MOST_WORDS, LONGEST_LINE, HIGHEST = 8, 64, 1000000, 6420, 65536, WORD - 1
 FIT = {b"book": CELLS, b"row": ROWS, b"out": OUTGOING, b"replies": REPLIES}
@@ -33,6 +33,8 @@ QUESTIONS = {
     13: "addressed to another desk",
     14: "not the visit that this desk awaits",
     15: "the last visit number",
+    16: "more than six open fields",
+    17: "a partitioning field is open",
 }
 
 # What a call was, at which desk, the plan or frame handed in, the model's answer, and what an accepted call wrote.
@@ -43,6 +45,13 @@ Call = namedtuple("Call", "kind desk words answer out replies", defaults=(None, 
 def plan_of(words):
     """The plan of a tuple of words. Reading one takes time, so the latest are kept."""
     return Plan(words)
+
+
+@lru_cache(maxsize=1024)
+def choice_of(words):
+    """The chooser's answer to a tuple of words, and the words after it. Trying every filling takes time, so the latest are kept."""
+    lent = list(words)
+    return model.choose(lent), tuple(lent)
 
 
 # ---- Reading a line
@@ -168,6 +177,36 @@ def plan_text(plan):
     if plan.verdict:
         return "plan of " + words, refusal_text(plan.verdict)
     return "plan", "accepted, %s, %s, %s" % (counted(plan.desks, "desk"), counted(len(plan.transactions), "transaction"), words)
+
+
+def partition_text(partition):
+    return {OPEN: "open", NO_PARTITION: "by none"}.get(partition, "by p%d" % partition)
+
+
+def choice_text(plan, words):
+    """What the words of a plan are now, where they are others than before: transactions with their fields, then how many others."""
+    text = ""
+    changed = {k for k, word in enumerate(words) if word != plan.words[k]}
+    for number, t in enumerate(plan.transactions):
+        if t.place in changed:
+            by = partition_text(field(words[t.place], 19, 16))
+            text += "; T%d %s, word %d is now %08X" % (number, by, t.place, words[t.place])
+    others = len(changed - {t.place for t in plan.transactions})
+    return text + ("; %s changed" % counted(others, "other word") if others else "")
+
+
+def changed_words_text(plan, words):
+    """How many words of a plan a refusal changed; it may change none."""
+    changed = sum(word != other for word, other in zip(words, plan.words))
+    return ": %s changed" % counted(changed, "other word") if changed else ""
+
+
+def transaction_text(number, t):
+    """A transaction as `show plan` has it."""
+    by = "" if t.partition == NO_PARTITION else " " + partition_text(t.partition)
+    weight = ", weight %d" % t.weight if t.weight else ""
+    name = operation_text(number, ["p%d" % k for k in range(t.params)])
+    return "%s%s%s: %s" % (name, by, weight, "; ".join(step_text(s) for s in t.steps))
 
 
 def step_text(step):
@@ -340,6 +379,16 @@ class Interpreter:
         self.plan = plan_of(tuple(words))
         self.answer(Call("plan", None, words, model.read_plan(self.plan)), *plan_text(self.plan))
 
+    def do_choose(self, line):
+        line.end()
+        before = self.plan
+        answer, words = choice_of(tuple(before.words))
+        self.plan = plan_of(words)
+        said, changes = "", changed_words_text(before, words)
+        if answer[0] == "chosen":
+            said, changes = "cost %d" % answer[1], choice_text(before, words)
+        self.answer(Call("choose", None, before.words, answer, words), "choose", said, changes)
+
     def do_class(self, line):
         text, transaction, params = line.operation()
         answer = model.classify(self.plan, transaction, params)
@@ -439,10 +488,8 @@ class Interpreter:
     def show_plan(self, line):
         line.end()
         self.say("%s: %s" % plan_text(self.plan))
-        for i, t in enumerate(self.plan.transactions):
-            by = "" if t.partition == NO_PARTITION else " by p%d" % t.partition
-            params = ["p%d" % k for k in range(t.params)]
-            self.say("  %s%s: %s" % (operation_text(i, params), by, "; ".join(step_text(s) for s in t.steps)))
+        for number, t in enumerate(self.plan.transactions):
+            self.say("  " + transaction_text(number, t))
 
     def show_desk(self, line):
         slot = self.slot(line)

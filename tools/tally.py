@@ -2,21 +2,34 @@
 
 from collections import Counter, defaultdict
 
-from model import CELLS, FIXED, MOST_TOLD, OUTGOING, REPLY_WORDS, ROWS, apply_update, cell_of, reply_of, run, updates_of
+from choices import Choice, same_globals
+from model import CELLS, FIXED, MOST_OPEN, MOST_TOLD, NO_PARTITION, OUTGOING, REPLY_WORDS, ROWS
+from model import apply_update, cell_of, field, reply_of, run, updates_of
 from plans import MOST_FIXED, TELL_WORD, step_places
 
 TOLD = ["one number", "two numbers", "three numbers", "four numbers"]
-# What is counted, each at least 50 times in 500 histories; what is seen, each so many numbers; the largest numbers, each so large.
-COUNTS = ["histories", "with the premise", "without the premise", "calls", "free runs", "local runs", "waits", "elsewhere"]
+# What is counted, each at least 50 times in 500 histories, or as FEWER says; what is seen, each so many numbers; the largest numbers, each
+# so large.
+COUNTS = ["histories", "with the premise", "without the premise", "calls", "histories on a chosen plan", "choices"]
+COUNTS += ["choices with %d open" % count for count in range(MOST_OPEN + 1)]
+COUNTS += ["choices of none", "choices of a parameter above 0", "choices among equals", "choices that cost more field by field"]
+COUNTS += ["choices that cost more with the rest left out", "choices where plan order decides"]
+COUNTS += ["calls on an open plan", "faults beside open fields"]
+FAULTS = ["faults by %d beside open fields" % q for q in range(1, 5)] + ["faults by %d beside seven open fields" % q for q in range(1, 5)]
+COUNTS += FAULTS + ["free runs", "local runs", "waits", "elsewhere"]
 COUNTS += ["declined at a request", "declined at a visit", "runs that told", "declined after telling", "runs that told at a visit"]
 COUNTS += ["told %s" % count for count in TOLD] + ["visits accepted", "visits with several replies"]
-COUNTS += ["operations finished by visits", "changed frames accepted"] + ["refused by %d" % q for q in range(1, 16)]
+COUNTS += ["operations finished by visits", "changed frames accepted"] + ["refused by %d" % q for q in range(1, 18)]
 COUNTS += ["serial replies checked", "serial cells checked"]
+FEWER = {"choices that cost more with the rest left out": 10, "choices where plan order decides": 20}
+FEWER.update({name: 5 if "seven" in name else 10 for name in FAULTS})
 RANGES = {name + where: count for where in (" in plans", " in runs") for name, count in (("tables", 8), ("columns", 4), ("rows", ROWS))}
+RANGES.update({"low bits of damaged transactions": 8, "fields of damaged transactions": 10})
 LARGEST = {"largest fixed number in plans": MOST_FIXED, "largest fixed number in runs": MOST_FIXED}
 LARGEST.update({"largest cell in an accepted forged frame": CELLS - 1, "longest frame taken": OUTGOING, "longest frame sent": OUTGOING})
 LARGEST["highest visit accepted with the premise"] = 1 << 16
 LARGEST["most tells in a transaction of a damaged plan"] = MOST_TOLD + 1
+LARGEST.update({"largest weight in plans": 255, "highest cost of a choice": 1 << 10, "most fillings of a choice": 1 << 10})
 
 
 class Difference(Exception):
@@ -38,13 +51,50 @@ class Tally:
             self.seen["largest fixed number" + where].add(step.fixed)
 
     def plan(self, plan):
+        """Notes a plan that is accepted."""
+        self.seen["largest weight in plans"] |= {t.weight for t in plan.transactions}
         for step in (s for t in plan.transactions for s in t.steps):
             self.step(step, " in plans", step.fixed if step.source == FIXED else None)
+        self.compare(plan.words)
+
+    def compare(self, words):
+        """Compares trying operations with masks on the words of a plan that is accepted."""
+        if not same_globals(tuple(words)):
+            raise Difference("trying operations and masks differ on what is global")
+
+    def choice(self, plan, cost, words):
+        """Notes an accepted choice, with the plan before it, its cost and the words after it."""
+        choice = Choice(plan, cost, words)
+        if (choice.costs[choice.fields], choice.fields) != (cost, choice.best()[0]):
+            raise Difference("a choice is not the best by masks")
+        self.compare(words)
+        chosen = [f for f, t in zip(choice.fields, plan.opened) if t.params]
+        self.counts["choices"] += 1
+        self.counts["choices with %d open" % len(plan.opened)] += 1
+        self.counts["choices of none"] += NO_PARTITION in chosen
+        self.counts["choices of a parameter above 0"] += any(0 < f < NO_PARTITION for f in chosen)
+        self.counts["choices among equals"] += len(choice.best()) > 1
+        self.counts["choices that cost more field by field"] += choice.costs_more_field_by_field()
+        self.counts["choices that cost more with the rest left out"] += choice.costs_more_without_the_rest()
+        self.counts["choices where plan order decides"] += choice.plan_order_decides()
+        self.seen["highest cost of a choice"].add(cost)
+        self.seen["most fillings of a choice"].add(len(choice.costs))
 
     def damaged(self, words):
         """Notes how many steps of a transaction tell, in the words of a plan that is refused."""
         tells = [words[places.start : places.stop].count(TELL_WORD) for places in step_places(words)]
         self.seen["most tells in a transaction of a damaged plan"].add(max(tells, default=0))
+
+    def fault(self, question, opened):
+        """Notes a plan that is refused by this question, with so many open fields beside the fault."""
+        self.counts["faults beside open fields"] += opened > 0
+        self.counts["faults by %d beside open fields" % question] += opened > 0
+        self.counts["faults by %d beside seven open fields" % question] += opened > MOST_OPEN
+
+    def damaged_transaction(self, word):
+        """Notes the word of a transaction that has one of its lowest eight bits set, or a field 4 to 13."""
+        self.seen["low bits of damaged transactions"] |= {bit for bit in range(8) if word >> bit & 1}
+        self.seen["fields of damaged transactions"] |= {field(word, 19, 16)} & set(range(4, 14))
 
     def run(self, t, params, book, reply, where):
         """Notes a run with its reply. It is run again on the book before it, for a told word of 0 does not say whether it was told. If it
@@ -96,7 +146,7 @@ class Tally:
 
     def check(self):
         """Raises an exception if something is rare or a range was not reached."""
-        rare = [name for name in COUNTS if self.counts[name] < 50]
+        rare = [name for name in COUNTS if self.counts[name] < FEWER.get(name, 50)]
         rare += [name for name, count in RANGES.items() if len(self.seen[name]) < count]
         rare += [name for name, number in LARGEST.items() if max(self.seen[name], default=0) < number]
         if rare:

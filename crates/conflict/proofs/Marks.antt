@@ -16,18 +16,19 @@ use Rattle.word.specs.Field.{kindOf, tableField, columnField}
 use Rattle.plan.specs.Plan.{Step, Partitioning}
 use Rattle.plan.specs.Decode.{stepOf, rowOf}
 use Rattle.operation.proofs.StepKinds.{step-above-4}
+use Rattle.operation.proofs.CellNumbers.{parts-cell}
 use Rattle.conflict.specs.Mask.{maskOf}
 use Rattle.conflict.specs.Touch.{rowTouched, cellTouched, stepTouches, Joined}
 use Rattle.conflict.proofs.Masks.{mask-ext, mask-none}
 
 -- ---- what a step touches, by its kind
 
-step-cell : (n : ℕ) (q : Partitioning) (w c d : ℕ) → kindOf w ≤ 4
+pub step-touches-cell : (n : ℕ) (q : Partitioning) (w c d : ℕ) → kindOf w ≤ 4
     → stepTouches n q (stepOf w) c d ≡ cellTouched n q (tableField w) (columnField w) (rowOf w) c d
 unfolding stepOf stepTouches
-step-cell n q w c d hi = rw (le-leb (kindOf w) 4 hi)
+step-touches-cell n q w c d hi = rw (le-leb (kindOf w) 4 hi)
 
-step-touches-none : (n : ℕ) (q : Partitioning) (w c d : ℕ) → 4 < kindOf w → stepTouches n q (stepOf w) c d ≡ false
+pub step-touches-none : (n : ℕ) (q : Partitioning) (w c d : ℕ) → 4 < kindOf w → stepTouches n q (stepOf w) c d ≡ false
 unfolding stepTouches
 step-touches-none n q w c d h = step-above-4 (λ (s : Step). stepTouches n q s c d ≡ false) w h (λ f v. refl) refl
 
@@ -69,16 +70,12 @@ marked-all l₀ l n q w row hi r m = record {
       m .cells c h
       ∙ ap (bitOr (getD l₀ c 0))
       (mask-ext n _ _ (λ d. simp (lt-ltb (c / 4 % 32) row (omega arith))
-      (sym (step-cell n q w c d hi))));
+      (sym (step-touches-cell n q w c d hi))));
 }
 
 -- the cell of this row
 abbrev pub cellAt : ℕ → ℕ → ℕ
 cellAt w row = tableField w * 128 + columnField w + row * 4
-
--- a cell's number from its table, column and row
-pub cell-back : (c t k r : ℕ) → c / 128 ≡ t → c % 4 ≡ k → c / 4 % 32 ≡ r → c ≡ t * 128 + k + r * 4
-cell-back c t k r a b e = omega arith
 
 module _ (n : ℕ) (q : Partitioning) (w row c : ℕ) (small : row < 32) (in-table : c < 1024) where
   -- at the cell of the row: nothing before, and then the row's own mask
@@ -115,8 +112,9 @@ module _ (n : ℕ) (q : Partitioning) (w row c : ℕ) (small : row < 32) (in-tab
           ≡ (ltb (c / 4 % 32) row && (eqb (c / 128)
           (tableField w) && (eqb (c % 4) (columnField w) && rowTouched n q (rowOf w) (c / 4 % 32) d)))
       go d true true true ex ea eb =
-          absurd (ne (cell-back c (tableField w) (columnField w) row (eqb-true (c / 128) (tableField w) ea)
-          (eqb-true (c % 4) (columnField w) eb) (eqb-true (c / 4 % 32) row ex)))
+          let s = parts-cell c (tableField w) row (columnField w) (eqb-true (c / 128) (tableField w) ea)
+          (eqb-true (c % 4) (columnField w) eb) (eqb-true (c / 4 % 32) row ex) in
+          absurd (ne (omega (arith, s)))
       go d true true false ex ea eb = simp (ea, eb, and-false)
       go d true false b ex ea eb = simp (ea, and-false)
       go d false a b ex ea eb =

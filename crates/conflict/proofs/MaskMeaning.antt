@@ -3,14 +3,14 @@
 use mathlib.Core.Path.{_≡_, refl, _∙_, sym, ap, subst}
 use mathlib.Core.Bool.{Bool, true, false}
 use mathlib.Core.List.{List, List·Memᴰ}
-use mathlib.Core.Logic.{_⊎_, inl, inr, ⊎-elim, _↔_}
+use mathlib.Core.Logic.{inl, inr, ⊎-elim, _↔_}
 use Prim.Native.Nat.{ℕ, _/_, _%_, _^_, _≤_, _<_}
 use native.Mathlib.Nat.{mod-lt}
 use native.Mathlib.Omega.{arith}
 use lib.Count.{ones}
 use lib.ListN.{getD}
 use Rattle.verdict.specs.Verdict.{accepted}
-use Rattle.plan.specs.Plan.{Access, reads, writes, Partitioning, byParam, unpartitioned, Plan}
+use Rattle.plan.specs.Plan.{Access, reads, writes, Partitioning, byParam, unpartitioned, undecided, Plan}
 use Rattle.plan.specs.Decode.{planOf}
 use Rattle.plan.specs.Admission.{planVerdict}
 use Rattle.operation.specs.Operation.{Operation, transactionOf, deskBy, deskOf, cellsNamed, MayRead, MayWrite, MayTouch}
@@ -48,6 +48,7 @@ desk-low p o h = go (transactionOf p o .part)
     go : (q : Partitioning) → deskBy (p .desks) q (o .params) < p .desks
     go (byParam q) = mod-lt (getD (o .params) q 0) h
     go unpartitioned = h
+    go undecided = h
 
 module _ (ws : List ℕ) (e : planVerdict ws ≡ accepted) (c : ℕ) where
   found-toucher : (d : ℕ) → touched (planOf ws) c d ≡ true → Toucher (planOf ws) d c

@@ -1,18 +1,23 @@
--- Masks of desks as numbers: `|` joins them.
+-- Masks as numbers: `|` joins them, `&` meets them.
 -- Assumes nothing.
 use mathlib.Core.Path.{_≡_, refl, _∙_, sym, ap, ap₂, fun-ext}
-use mathlib.Core.Bool.{Bool, true, false, _||_}
+use mathlib.Core.Bool.{Bool, true, false, _&&_, _||_}
 use mathlib.Core.Logic.{_⊎_, inl, inr}
 use Prim.Native.Nat.{ℕ, zero, suc, _+_, _-_, _*_, _/_, _%_, _^_, _<_, max}
 use native.Mathlib.Nat.{pow-suc, zero-mul, not-suc-le-zero, le-of-suc-le-suc, eq-or-lt-of-le, add-comm, mul-assoc, add-mul-div-right}
 use native.Mathlib.Omega.{arith}
 use lib.Arith.{bin-ind}
-use lib.Bits.{bitOr, or-step, or-zero-l, or-zero-r, or-self, or-block}
+use lib.Bits.{bitAnd, and-block, and-self, and-zero-l, and-zero-r, bitOr, or-step, or-zero-l, or-zero-r, or-self, or-block}
 use lib.Pow.{pow-pos, pow-add, high}
 use Rattle.conflict.specs.Mask.{bit, maskOf}
 
 pub mask-ext : (n : ℕ) (f g : ℕ → Bool) → ((d : ℕ) → f d ≡ g d) → maskOf n f ≡ maskOf n g
 mask-ext n f g h = ap (maskOf n) (fun-ext h)
+
+pub mask-same : (n : ℕ) (f g : ℕ → Bool) → ((r : ℕ) → r < n → f r ≡ g r) → maskOf n f ≡ maskOf n g
+unfolding maskOf
+mask-same zero f g h = refl
+mask-same (suc n) f g h = ap₂ (λ (b : Bool) (x : ℕ). bit b * 2 ^ n + x) (h n (omega arith)) (mask-same n f g (λ r l. h r (omega arith)))
 
 pub mask-none : (n : ℕ) → maskOf n (λ d. false) ≡ 0
 unfolding maskOf
@@ -39,6 +44,22 @@ mask-or zero f g = refl
 mask-or (suc n) f g =
     or-block n (bit (f n)) (bit (g n)) (maskOf n f) (maskOf n g) (mask-lt n f) (mask-lt n g)
     ∙ ap₂ (λ (x y : ℕ). x * 2 ^ n + y) (or-bit (f n) (g n)) (mask-or n f g)
+
+-- ---- `&` of two
+
+and-bit : (a b : Bool) → bitAnd (bit a) (bit b) ≡ bit (a && b)
+and-bit true true = and-self 1
+and-bit true false = and-zero-r 1
+and-bit false b = and-zero-l (bit b)
+
+pub mask-and : (n : ℕ) (f g : ℕ → Bool) → bitAnd (maskOf n f) (maskOf n g) ≡ maskOf n (λ r. f r && g r)
+unfolding maskOf
+mask-and zero f g = refl
+mask-and (suc n) f g =
+    and-block n (bit (f n)) (bit (g n)) (maskOf n f) (maskOf n g) (mask-lt n f) (mask-lt n g)
+    ∙ ap₂ (λ (x y : ℕ). x * 2 ^ n + y) (and-bit (f n) (g n)) (mask-and n f g)
+
+-- ---- more of `|`
 
 -- `|` is associative: by its lowest digit and the rest
 or-low : (a b : ℕ) → bitOr a b % 2 ≡ max (a % 2) (b % 2)

@@ -9,7 +9,9 @@ use lib.Dec.{T, ltb, leb, eqb, eqb→eq}
 use lib.ListN.{getD}
 use borrow.Author.Tests.{eq-eqb, ne-eqb, lt-leb}
 use Rattle.lists.proofs.Laws.{below, below-at}
-use Rattle.plan.specs.Plan.{Partitioning, byParam, unpartitioned, param, fixed}
+use Rattle.plan.specs.Plan.{Source, param, fixed, Partitioning, byParam, unpartitioned, undecided}
+use Rattle.plan.specs.Decode.{namesNoParameter, partBy}
+use Rattle.plan.proofs.Partitionings.{no-parameter-elim}
 use Rattle.conflict.specs.Mask.{maskOf}
 use Rattle.conflict.specs.Touch.{rowTouched}
 use Rattle.conflict.proofs.Masks.{mask-ext, mask-none}
@@ -46,22 +48,39 @@ desk-law tab t n r hi h =
 
 -- ---- what a row's mask is, by the partitioning and the source
 
+-- both stand for desk 0 alone
+none-touches : (n f : ℕ) (r : Source) (row d : ℕ) → namesNoParameter f ≡ true
+    → rowTouched n unpartitioned r row d ≡ rowTouched n (partBy f) r row d
+unfolding rowTouched
+none-touches n f r row d h =
+    no-parameter-elim (λ (q : Partitioning). rowTouched n unpartitioned r row d ≡ rowTouched n q r row d) f h refl (same r)
+  where
+    same : (r : Source) → rowTouched n unpartitioned r row d ≡ rowTouched n undecided r row d
+    same (fixed v) = refl
+    same (param i) = refl
+
+none-mask : (n f : ℕ) (r : Source) (row : ℕ) → namesNoParameter f ≡ true
+    → maskOf n (rowTouched n unpartitioned r row) ≡ maskOf n (rowTouched n (partBy f) r row)
+none-mask n f r row h = mask-ext n _ _ (λ d. none-touches n f r row d h)
+
 pub fixed-none : (n : ℕ) (q : Partitioning) (v row : ℕ) → (row ≡ v → ⊥) → 0 ≡ maskOf n (rowTouched n q (fixed v) row)
 unfolding rowTouched
 fixed-none n (byParam q) v row h = sym (mask-ext n _ (λ d. false) (λ d. simp (ne-eqb row v h)) ∙ mask-none n)
 fixed-none n unpartitioned v row h = sym (mask-ext n _ (λ d. false) (λ d. simp (ne-eqb row v h)) ∙ mask-none n)
+fixed-none n undecided v row h = sym (mask-ext n _ (λ d. false) (λ d. simp (ne-eqb row v h)) ∙ mask-none n)
 
-pub fixed-unsplit : (n v row : ℕ) → row ≡ v → maskOf n (λ d. eqb d 0) ≡ maskOf n (rowTouched n unpartitioned (fixed v) row)
+pub fixed-unsplit : (n f v row : ℕ) → namesNoParameter f ≡ true → row ≡ v
+    → maskOf n (λ d. eqb d 0) ≡ maskOf n (rowTouched n (partBy f) (fixed v) row)
 unfolding rowTouched
-fixed-unsplit n v row h = mask-ext n (λ d. eqb d 0) _ (λ d. simp (eq-eqb row v h))
+fixed-unsplit n f v row e h = mask-ext n (λ d. eqb d 0) _ (λ d. simp (eq-eqb row v h)) ∙ none-mask n f (fixed v) row e
 
 pub fixed-along : (n q v row : ℕ) → row ≡ v → maskOf n (λ d. ltb d n) ≡ maskOf n (rowTouched n (byParam q) (fixed v) row)
 unfolding rowTouched
 fixed-along n q v row h = mask-ext n (λ d. ltb d n) _ (λ d. simp (eq-eqb row v h))
 
-pub param-unsplit : (n i row : ℕ) → maskOf n (λ d. eqb d 0) ≡ maskOf n (rowTouched n unpartitioned (param i) row)
+pub param-unsplit : (n f i row : ℕ) → namesNoParameter f ≡ true → maskOf n (λ d. eqb d 0) ≡ maskOf n (rowTouched n (partBy f) (param i) row)
 unfolding rowTouched
-param-unsplit n i row = refl
+param-unsplit n f i row e = none-mask n f (param i) row e
 
 pub param-same : (n q i row : ℕ) → i ≡ q → maskOf n (λ d. eqb d (row % n)) ≡ maskOf n (rowTouched n (byParam q) (param i) row)
 unfolding rowTouched

@@ -12,8 +12,8 @@ use borrow.Author.Tests.{eq-eqb, lt-ltb, eqb-true, leb-true}
 use Rattle.verdict.specs.Verdict.{accepted}
 use Rattle.lists.proofs.Laws.{and-fst, and-snd, every-index, every-member, member-some, some-member, index-some, some-index}
 use Rattle.word.specs.Field.{headTransactions}
-use Rattle.plan.specs.Plan.{Source, param, fixed, Access, Step, cell, operand, tells, Partitioning, byParam, unpartitioned}
-use Rattle.plan.specs.Plan.{Transaction, Plan}
+use Rattle.plan.specs.Plan.{Source, param, fixed, Access, Step, cell, operand, tells}
+use Rattle.plan.specs.Plan.{Partitioning, byParam, unpartitioned, undecided, Transaction, Plan}
 use Rattle.plan.specs.Plan.{noTransaction, transactionAt}
 use Rattle.plan.specs.Decode.{planOf, headOf}
 use Rattle.plan.specs.Admission.{planVerdict, parametersExist, partExists, stepExists, sourceExists}
@@ -25,6 +25,7 @@ use Rattle.operation.specs.Operation.{Operation, operation, transactionOf, valu
 use Rattle.operation.specs.Admission.{IsOperation, rowInRange}
 use Rattle.operation.proofs.Admitted.{transaction-below, rows-passed, is-operation}
 use Rattle.operation.proofs.Cells.{names-of, of-names}
+use Rattle.operation.proofs.CellNumbers.{cell-parts, parts-cell}
 use Rattle.operation.proofs.Bounds.{FieldsFit, AllFit, transaction-fits}
 use Rattle.conflict.specs.Touch.{rowTouched, cellTouched, stepTouches, stepsTouch, transactionsTouch}
 use Rattle.conflict.proofs.Witness.{witness, witness-four, witness-low, witness-passes, desk-below, witness-row, witness-desk}
@@ -57,10 +58,6 @@ sound-at ws e k h =
 
 -- ---- an operation's cell is found by the test
 
-pub cell-parts : (t v k : ℕ) → v < 32 → k < 4
-    → (cellNumber t v k / 128 ≡ t) × (cellNumber t v k % 4 ≡ k) × (cellNumber t v k / 4 % 32 ≡ v)
-cell-parts t v k hv hk = (omega arith, omega arith, omega arith)
-
 row-found : (n : ℕ) (q : Partitioning) (r : Source) (ps : List ℕ) (d : ℕ) → 1 ≤ n → deskBy n q ps ≡ d
     → rowTouched n q r (valueOf ps r) d ≡ true
 unfolding rowTouched
@@ -72,6 +69,8 @@ row-found n (byParam q) (param i) ps d h e = go (eqb i q) refl
     go false s = simp s (lt-ltb d n (subst (λ (x : ℕ). x < n) e (mod-lt (getD ps q 0) h)))
 row-found n unpartitioned (fixed v) ps d h e = simp (eq-eqb v v refl) (eq-eqb d 0 (sym e))
 row-found n unpartitioned (param i) ps d h e = eq-eqb d 0 (sym e)
+row-found n undecided (fixed v) ps d h e = simp (eq-eqb v v refl) (eq-eqb d 0 (sym e))
+row-found n undecided (param i) ps d h e = eq-eqb d 0 (sym e)
 
 pub value-low : (ps : List ℕ) (a : Access) (t k : ℕ) (r : Source) → FieldsFit (cell a t k r) → rowInRange ps (cell a t k r) ≡ true
     → (k < 4) × (valueOf ps r < 32)
@@ -116,9 +115,6 @@ step-of n t d c (cell a tab col r) m e =
 step-of n t d c (operand f v) m e = absurd (false≢true e)
 step-of n t d c tells m e = absurd (false≢true e)
 
-cell-back : (c t k r : ℕ) → c / 128 ≡ t → c % 4 ≡ k → c / 4 % 32 ≡ r → c ≡ cellNumber t r k
-cell-back c t k r a b e = omega arith
-
 source-exists : (t : Transaction) (a : Access) (tab col : ℕ) (r : Source) → parametersExist t ≡ true
     → List·Memᴰ (cell a tab col r) (t .steps)
     → sourceExists (t .params) r ≡ true
@@ -145,10 +141,16 @@ module _ (p : Plan) (k d c : ℕ) (lo : 1 ≤ p .desks) (hi : p .desks ≤ 8) (b
             (witness-passes t (m .row) (c / 4 % 32) d rn pn (omega arith) l);
         desk = witness-desk (p .desks) (t .params) (t .part) (m .row) (c / 4 % 32) d (s .few) pn lo (m .in-row);
         names = subst (λ (x : ℕ). List·Memᴰ x (cellsNamed a ps (t .steps)))
-            (sym (cell-back c (m .table) (m .column) (valueOf ps (m .row)) (m .in-table) (m .in-column)
+            (sym (parts-cell c (m .table) (valueOf ps (m .row)) (m .column) (m .in-table) (m .in-column)
             (sym (witness-row (p .desks) (t .params) (t .part) (m .row) (c / 4 % 32) d (s .few) rn (m .in-row)))))
             (of-names a ps (t .steps) (m .table) (m .column) (m .row) (m .step));
       }
+
+  -- it is one of transaction k
+  pub made-transaction : (a : Access) (s : Sound (transactionAt p k)) (m : CellStep a (p .desks) (transactionAt p k) d c)
+      → made a s m .op .transaction ≡ k
+  unfolding made
+  made-transaction a s m = refl
 
 -- ---- the theorem
 

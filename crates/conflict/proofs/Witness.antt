@@ -13,7 +13,8 @@ use lib.Seq.{getD-drop}
 use borrow.Author.Tests.{eq-eqb, ne-eqb, eqb-true, ltb-true, le-leb}
 use Rattle.lists.specs.Lists.{every}
 use Rattle.lists.proofs.Laws.{and-fst, and-snd, and-true, member-every, lt-or-ge, by-same}
-use Rattle.plan.specs.Plan.{Source, param, fixed, Step, cell, operand, tells, Partitioning, byParam, unpartitioned, Transaction}
+use Rattle.plan.specs.Plan.{Source, param, fixed, Step, cell, operand, tells}
+use Rattle.plan.specs.Plan.{Partitioning, byParam, unpartitioned, undecided, Transaction}
 use Rattle.plan.specs.Admission.{sourceExists, partExists}
 use Rattle.operation.specs.Operation.{valueOf, deskBy}
 use Rattle.operation.specs.Admission.{unusedZero, rowInRange, parametersPass}
@@ -26,6 +27,7 @@ isRow (fixed v) j = false
 isPart : Partitioning → ℕ → Bool
 isPart (byParam q) j = eqb j q
 isPart unpartitioned j = false
+isPart undecided j = false
 
 -- the row where the parameter is the row, the desk where it decides the desk, else 0
 valueAt : Partitioning → Source → ℕ → ℕ → ℕ → ℕ
@@ -78,6 +80,7 @@ part-unused : (p : ℕ) (q : Partitioning) (j : ℕ) → partExists p q ≡ true
 unfolding partExists isPart
 part-unused p (byParam i) j e h = ne-eqb j i (λ s. omega (arith, ltb-true i p e))
 part-unused p unpartitioned j e h = refl
+part-unused p undecided j e h = refl
 
 all-zero : (ps : List ℕ) → ((i : ℕ) → getD ps i 0 ≡ 0) → every (λ w. eqb w 0) ps ≡ true
 unfolding every
@@ -122,6 +125,8 @@ desk-below n (byParam q) (param i) row d h t = go (eqb i q) t
     go false e = ltb-true d n e
 desk-below n unpartitioned (fixed v) row d h t = omega (arith, eqb-true d 0 (and-snd (eqb row v) _ t))
 desk-below n unpartitioned (param i) row d h t = omega (arith, eqb-true d 0 t)
+desk-below n undecided (fixed v) row d h t = omega (arith, eqb-true d 0 (and-snd (eqb row v) _ t))
+desk-below n undecided (param i) row d h t = omega (arith, eqb-true d 0 t)
 
 pub witness-row : (n p : ℕ) (q : Partitioning) (r : Source) (row d : ℕ) → p ≤ 4 → sourceExists p r ≡ true → rowTouched n q r row d ≡ true
     → valueOf (witness q r row d) r ≡ row
@@ -130,6 +135,7 @@ witness-row n p q (param i) row d few e t =
     four-at (valueAt q (param i) row d) i (omega (arith, ltb-true i p e)) ∙ simp (eq-eqb i i refl)
 witness-row n p (byParam q) (fixed v) row d few e t = sym (eqb-true row v (and-fst _ _ t))
 witness-row n p unpartitioned (fixed v) row d few e t = sym (eqb-true row v (and-fst _ _ t))
+witness-row n p undecided (fixed v) row d few e t = sym (eqb-true row v (and-fst _ _ t))
 
 pub witness-desk : (n p : ℕ) (q : Partitioning) (r : Source) (row d : ℕ) → p ≤ 4 → partExists p q ≡ true → 1 ≤ n
     → rowTouched n q r row d ≡ true
@@ -146,3 +152,5 @@ witness-desk n p (byParam j) (param i) row d few e h t =
     ∙ mod-eq-of-lt (ltb-true d n (simp (ne-eqb i j s) at t)))
 witness-desk n p unpartitioned (fixed v) row d few e h t = sym (eqb-true d 0 (and-snd (eqb row v) _ t))
 witness-desk n p unpartitioned (param i) row d few e h t = sym (eqb-true d 0 t)
+witness-desk n p undecided (fixed v) row d few e h t = sym (eqb-true d 0 (and-snd (eqb row v) _ t))
+witness-desk n p undecided (param i) row d few e h t = sym (eqb-true d 0 t)

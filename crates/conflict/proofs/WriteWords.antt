@@ -7,15 +7,16 @@ use Prim.Native.Nat.{ℕ, zero, suc, _+_, _≤_, _<_}
 use native.Mathlib.Omega.{arith}
 use lib.Dec.{leb, eqb}
 use lib.ListN.{length, getD, take, drop, take-append-drop}
-use borrow.Author.Tests.{eq-eqb, ne-eqb, eqb-true, eqb-false, leb-true, leb-false}
+use borrow.Author.Tests.{eq-eqb, ne-eqb, eqb-false, leb-true, leb-false}
 use Rattle.verdict.specs.Verdict.{accepted}
 use Rattle.lists.specs.Lists.{every, some}
 use Rattle.lists.proofs.Laws.{and-fst, and-snd, some-here, some-past, some-append, some-swap, some-same, some-none}
 use Rattle.word.specs.Field.{kindOf, stepCount, tableField, columnField}
 use Rattle.plan.specs.Plan.{Step}
 use Rattle.plan.specs.Decode.{accessBy, stepOf, rowOf, transactionsOf, planOf}
-use Rattle.plan.specs.Admission.{wellFormed, transactionFormed, stepFormed, tellCount, mostTells, planVerdict}
-use Rattle.plan.proofs.Words.{step-kind-low}
+use Rattle.plan.specs.Admission.{wellFormed, transactionFormed, stepFormed, planVerdict}
+use Rattle.plan.proofs.Words.{step-kind-low, transaction-kind}
+use Rattle.plan.proofs.FormedParts.{formed-parts}
 use Rattle.plan.proofs.Accepted.{accepted-gives}
 use Rattle.operation.proofs.StepKinds.{step-writes, step-above-4}
 use Rattle.conflict.specs.Written.{cellGiven, stepWrites, written}
@@ -47,9 +48,8 @@ word-step cs w f = go (eqb (kindOf w) 4) refl
     go false e = some-same _ (λ c. false) cs (λ c. writes-none w c f (eqb-false (kindOf w) 4 e)) ∙ some-none cs
 
 word-head : (cs : List ℕ) (w : ℕ) → transactionFormed w ≡ true → wordWrites cs w ≡ false
-unfolding transactionFormed
-word-head cs w f = ap (λ (b : Bool). b && some (stepWrites (stepOf w)) cs)
-    (ne-eqb (kindOf w) 4 (λ e. omega (arith, eqb-true (kindOf w) 2 (and-fst (eqb (kindOf w) 2) _ f))))
+word-head cs w f =
+    ap (λ (b : Bool). b && some (stepWrites (stepOf w)) cs) (ne-eqb (kindOf w) 4 (λ e. omega (arith, transaction-kind w f)))
 
 -- ---- the words of a plan
 
@@ -67,14 +67,12 @@ transactions-words cs zero [] f = refl
 transactions-words cs zero (w ∷ ws) f = absurd (false≢true f)
 transactions-words cs (suc k) [] f = absurd (false≢true f)
 transactions-words cs (suc k) (w ∷ ws) f =
-    let a = and-snd (transactionFormed w) _ f in
-    let b = and-snd (leb (stepCount w) (length ws)) _ a in
-    let d = and-snd (every stepFormed (take (stepCount w) ws)) _ b in
-    ap₂ (λ (x y : Bool). x || y) (steps-words cs (take (stepCount w) ws) (and-fst (every stepFormed (take (stepCount w) ws)) _ b))
-    (transactions-words cs k (drop (stepCount w) ws) (and-snd (leb (tellCount (map stepOf (take (stepCount w) ws))) mostTells) _ d))
+    let p = formed-parts k w ws f in
+    ap₂ (λ (x y : Bool). x || y) (steps-words cs (take (stepCount w) ws) (p .steps))
+    (transactions-words cs k (drop (stepCount w) ws) (p .rest))
     ∙ sym (some-append (wordWrites cs) (take (stepCount w) ws) (drop (stepCount w) ws))
     ∙ ap (some (wordWrites cs)) (take-append-drop (stepCount w) ws)
-    ∙ sym (ap (λ (x : Bool). x || some (wordWrites cs) ws) (word-head cs w (and-fst (transactionFormed w) _ f)))
+    ∙ sym (ap (λ (x : Bool). x || some (wordWrites cs) ws) (word-head cs w (p .form)))
 
 -- ---- by the place in the plan
 

@@ -9,18 +9,19 @@ use borrow.Author.Tests.{eq-eqb, lt-ltb, eqb-true}
 use Rattle.verdict.specs.Verdict.{accepted}
 use Rattle.lists.proofs.Laws.{and-fst, and-snd, and-true, every-member, member-some, some-member, index-some, some-index}
 use Rattle.lists.specs.Lists.{some}
-use Rattle.plan.specs.Plan.{Source, param, fixed, reads, writes, Step, cell, operand, tells, Partitioning, byParam, unpartitioned}
-use Rattle.plan.specs.Plan.{Transaction, noTransaction, transactionAt}
+use Rattle.plan.specs.Plan.{Source, param, fixed, reads, writes, Step, cell, operand, tells}
+use Rattle.plan.specs.Plan.{Partitioning, byParam, unpartitioned, undecided, Transaction, noTransaction, transactionAt}
 use Rattle.plan.specs.Decode.{planOf}
 use Rattle.plan.specs.Admission.{planVerdict}
-use Rattle.operation.specs.Operation.{Operation, transactionOf, valueOf, cellNumber, MayWrite}
-use Rattle.operation.specs.Admission.{IsOperation, rowInRange}
+use Rattle.operation.specs.Operation.{transactionOf, valueOf, cellNumber}
+use Rattle.operation.specs.Admission.{rowInRange}
 use Rattle.operation.proofs.Admitted.{transaction-below, rows-passed}
 use Rattle.operation.proofs.Cells.{names-of}
+use Rattle.operation.proofs.CellNumbers.{cell-parts}
 use Rattle.conflict.specs.Touch.{rowTouched}
 use Rattle.conflict.specs.Written.{rowGiven, cellGiven, stepWrites, written}
 use Rattle.conflict.specs.Meaning.{Writer, WrittenMeans}
-use Rattle.conflict.proofs.Touching.{CellStep, sound-at, made, cell-parts, value-low, some-desk, few-desks}
+use Rattle.conflict.proofs.Touching.{CellStep, sound-at, made, value-low, some-desk, few-desks}
 
 -- ---- a row that is given is given at some desk
 
@@ -28,6 +29,8 @@ row-desk : (n : ℕ) (q : Partitioning) (r : Source) (row : ℕ) → 1 ≤ n →
 unfolding rowTouched
 row-desk n unpartitioned (fixed v) row h e = (0, and-true (eqb row v) _ e (eq-eqb 0 0 refl))
 row-desk n unpartitioned (param i) row h e = (0, eq-eqb 0 0 refl)
+row-desk n undecided (fixed v) row h e = (0, and-true (eqb row v) _ e (eq-eqb 0 0 refl))
+row-desk n undecided (param i) row h e = (0, eq-eqb 0 0 refl)
 row-desk n (byParam q) (fixed v) row h e = (0, and-true (eqb row v) _ e (lt-ltb 0 n h))
 row-desk n (byParam q) (param i) row h e = go (eqb i q)
   where
@@ -37,7 +40,7 @@ row-desk n (byParam q) (param i) row h e = go (eqb i q)
 
 -- ---- an operation for a written cell
 
-step-of : (n : ℕ) (t : Transaction) (c : ℕ) (s : Step) → 1 ≤ n → List·Memᴰ s (t .steps) → stepWrites s c ≡ true
+pub step-of : (n : ℕ) (t : Transaction) (c : ℕ) (s : Step) → 1 ≤ n → List·Memᴰ s (t .steps) → stepWrites s c ≡ true
     → (d : ℕ) × CellStep writes n t d c
 unfolding stepWrites cellGiven
 step-of n t c (cell reads tab col r) h m e = absurd (false≢true e)
@@ -64,7 +67,7 @@ row-found : (ps : List ℕ) (r : Source) → rowGiven r (valueOf ps r) ≡ true
 row-found ps (param i) = refl
 row-found ps (fixed v) = eq-eqb v v refl
 
-cell-found : (t k : ℕ) (r : Source) (ps : List ℕ) (c : ℕ) → (k < 4) × (valueOf ps r < 32) → c ≡ cellNumber t (valueOf ps r) k
+pub cell-found : (t k : ℕ) (r : Source) (ps : List ℕ) (c : ℕ) → (k < 4) × (valueOf ps r < 32) → c ≡ cellNumber t (valueOf ps r) k
     → stepWrites (cell writes t k r) c ≡ true
 unfolding stepWrites cellGiven
 cell-found t k r ps c b s =

@@ -35,7 +35,7 @@ withDesk free d = classedFree
 withDesk local d = classedLocal d
 withDesk global d = classedGlobal d
 
--- "Classifier: 1–4, 7, 8."
+-- "Classifier: 1–4, 7, 8.", with 17 after 4
 unfoldable pub classifyResult : List ℕ → ℕ → List ℕ → Classified
 classifyResult ws k ps =
     ifAccepted (planVerdict ws then operationVerdict (planOf ws) (operation k ps))

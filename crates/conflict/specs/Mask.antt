@@ -1,4 +1,4 @@
--- A mask of desks as a number.
+-- A mask, of desks or of rows, as a number.
 use Prim.Native.Nat.{ℕ, zero, suc, _+_, _*_, _^_}
 use mathlib.Core.Bool.{Bool, true, false}
 

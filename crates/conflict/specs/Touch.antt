@@ -7,15 +7,18 @@ use lib.Bits.{bitOr}
 use lib.ListN.{length, getD}
 use lib.Dec.{ltb, eqb}
 use Rattle.lists.specs.Lists.{tabulate, some}
-use Rattle.plan.specs.Plan.{Source, param, fixed, Step, cell, operand, tells, Partitioning, byParam, unpartitioned, Transaction, Plan}
+use Rattle.plan.specs.Plan.{Source, param, fixed, Step, cell, operand, tells}
+use Rattle.plan.specs.Plan.{Partitioning, byParam, unpartitioned, undecided, Transaction, Plan}
 use Rattle.conflict.specs.Mask.{maskOf}
 use Rattle.operation.specs.Store.{storeSize}
 
--- with n desks, some operation of desk d gives this row to the source: with no partitioning desk 0 alone has operations; where the
--- row is the partitioning parameter, row r is at desk r mod n; else every desk has one
+-- with n desks, some operation of desk d gives this row to the source: with no partitioning, or an open one, desk 0 alone has operations;
+-- where the row is the partitioning parameter, row r is at desk r mod n; else every desk has one
 unfoldable pub rowTouched : ℕ → Partitioning → Source → ℕ → ℕ → Bool
 rowTouched n unpartitioned (fixed v) row d = eqb row v && eqb d 0
 rowTouched n unpartitioned (param i) row d = eqb d 0
+rowTouched n undecided (fixed v) row d = eqb row v && eqb d 0
+rowTouched n undecided (param i) row d = eqb d 0
 rowTouched n (byParam q) (fixed v) row d = eqb row v && ltb d n
 rowTouched n (byParam q) (param i) row d = cond (eqb i q) (eqb d (row % n)) (ltb d n)
 

@@ -123,7 +123,7 @@ pub fn is_free(plan: &[u32], at: usize, params: [u32; 4]) -> bool
     !written::reads_written(plan, at, params)
 }
 
-// The classifier: questions 1 to 4, 7 and 8, then the class and the desk.
+// The classifier: the verdict on the plan, questions 7 and 8, then the class and the desk.
 pub fn classify(plan: &[u32], transaction: u32, params: [u32; 4]) -> ClassAnswer
     ensures { λ r. ⌜ classifiedOf r ≡ classifyResult (now (plan .entry)) transaction params ⌝ }
 {

@@ -22,12 +22,12 @@ pub(crate) fn row_mask(word: u32, row: u32, partitioning: u32, desks: u32) -> u8
         if row != word % 32 {
             return 0;
         }
-        if partitioning == 15 {
+        if plan::names_no_parameter(partitioning) {
             return 1;
         }
         return ALL[desks as usize];
     }
-    if partitioning == 15 {
+    if plan::names_no_parameter(partitioning) {
         return 1;
     }
     if source == partitioning {

@@ -1,4 +1,4 @@
-// The engine: all eight calls of the paper, and every type that a program needs. The calls that take the queue stand twice, on a lent slice
+// The engine: all nine calls of the papers, and every type that a program needs. The calls that take the queue stand twice, on a lent slice
 // of records and on plain words.
 mod engine;
 
@@ -13,6 +13,8 @@ pub use execution::Reply;
 pub use frame::FrameAnswer;
 pub use frame::frame_visit;
 pub use frame::read_frame;
+pub use partitioning::Choice;
+pub use partitioning::choose;
 pub use plan::read_plan;
 pub use queue::Request;
 pub use requests::RequestAnswer;

@@ -19,7 +19,7 @@ use Rattle.queue.specs.declared.record.Request.{Request}
 use Rattle.desk.specs.declared.state.Desk.{Desk}
 use Rattle.desk.specs.Queueing.{operationOf, waitingIn}
 
--- the plan passes questions 1 to 4, and the request's operation 7 and 8
+-- the plan is accepted, and the request's operation passes 7 and 8
 pub record Admitted (ws : List ℕ) (r : Request) : Type 0 where
   pub planned : planVerdict ws ≡ accepted
   pub passed : operationVerdict (planOf ws) (operationOf r) ≡ accepted

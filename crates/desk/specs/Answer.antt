@@ -22,6 +22,6 @@ openedOf (desk.Refused question) = openingRefused question
 abbrev pub newDesk : ℕ → Desk
 newDesk p = record { desk = p; waiting = 0; awaited = p }
 
--- "New desk: 1–4, and 6 for its desk."
+-- "New desk: 1–4, and 6 for its desk.", with 17 after 4
 unfoldable pub newDeskResult : List ℕ → ℕ → Opened
 newDeskResult ws p = ifAccepted (planVerdict ws then ask 6 (ltb p (planOf ws .desks))) (opened (newDesk p)) openingRefused

@@ -17,7 +17,7 @@ pub enum DeskAnswer {
     Refused(u32),
 }
 
-// A new desk: questions 1 to 4, and 6 for its desk. It awaits its own number, with none waiting.
+// A new desk: the verdict on the plan, and question 6 for its desk. It awaits its own number, with none waiting.
 pub fn new_desk(plan: &[u32], desk: u32) -> DeskAnswer
     ensures { λ r. ⌜ openedOf r ≡ newDeskResult (now (plan .entry)) desk ⌝ }
 {

@@ -3,10 +3,10 @@
 use mathlib.Core.Path.{_≡_, _∙_, sym}
 use mathlib.Core.Bool.{Bool}
 use mathlib.Core.List.{List, [], _∷_, _++_}
-use Prim.Native.Nat.{ℕ, zero, suc, _+_, _≤_, _<_}
+use Prim.Native.Nat.{ℕ, _+_, _≤_, _<_}
 use native.Mathlib.Numerals.{add-one}
 use native.Mathlib.Omega.{arith}
-use lib.ListN.{length, getD, set, take, replicate, length-replicate, getD-replicate, List·getD-eq-default}
+use lib.ListN.{length, getD, set, take, length-take, replicate, length-replicate, getD-replicate, List·getD-eq-default}
 use lib.Seq.{getD-set-other, getD-take, take-suc-set}
 use Rattle.lists.proofs.Laws.{by-less}
 use Rattle.execution.specs.declared.told.Told.{Told}
@@ -25,16 +25,11 @@ module _ (ns : List ℕ) (n x : ℕ) where
   pub zeros-more : ((i : ℕ) → n ≤ i → getD ns i 0 ≡ 0) → (i : ℕ) → n + 1 ≤ i → getD (set ns n x) i 0 ≡ 0
   zeros-more z i h = getD-set-other ns n i x 0 (λ e. omega arith) ∙ z i (omega arith)
 
-length-take-low : (n : ℕ) (l : List ℕ) → length (take n l) ≤ n
-length-take-low zero l = omega arith
-length-take-low (suc n) [] = omega arith
-length-take-low (suc n) (x ∷ l) = let h = length-take-low n l in omega arith
-
 module _ (t : Told) (z : ZerosBehind t) where
   told-at : (i : ℕ) → getD (t .numbers) i 0 ≡ getD (toldOf t) i 0
   told-at i =
       by-less i (t .count) (λ h. sym (getD-take (t .count) (t .numbers) i 0 h))
-      (λ h. z i h ∙ sym (List·getD-eq-default (toldOf t) 0 (omega (arith, length-take-low (t .count) (t .numbers)))))
+      (λ h. z i h ∙ sym (List·getD-eq-default (toldOf t) 0 (omega (arith, length-take (t .count) (t .numbers)))))
 
   pub reply-told : (done : Bool) (x : ℕ) → replyWith done x (t .numbers) ≡ replyWith done x (toldOf t)
   reply-told done x = rw (told-at 0, told-at 1, told-at 2, told-at 3)

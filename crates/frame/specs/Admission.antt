@@ -100,7 +100,7 @@ updatesRight n ws = eqb (addressedDesk (headOf ws)) (frameVisit ws % n) && updat
 unfoldable pub frameVerdict : ℕ → List ℕ → Verdict
 frameVerdict n ws = ask 10 (frameHeaded ws) then ask 11 (sumsRight ws) then ask 12 (updatesRight n ws)
 
--- "Frame reader: 1–4, 10–12."
+-- "Frame reader: 1–4, 10–12.", with 17 after 4
 unfoldable pub readVerdict : List ℕ → List ℕ → Verdict
 readVerdict plan frame = planVerdict plan then frameVerdict (planOf plan .desks) frame
 

@@ -1,4 +1,4 @@
-// The frame reader: questions 1 to 4 of the plan, then 10 to 12 of the frame. Both public calls rest on one check.
+// The frame reader: the verdict on the plan, then questions 10 to 12 of the frame. Both public calls rest on one check.
 ghost use mathlib.Core.Path.{_≡_};
 ghost use Prim.Native.Nat.{_≤_};
 ghost use lib.ListN.{length};
@@ -87,7 +87,7 @@ pub fn check_frame(desks: u32, frame: &[u32]) -> Verdict
     Verdict::Accepted
 }
 
-// Questions 1 to 4, then 10 to 12: the check behind both calls.
+// The verdict on the plan, then questions 10 to 12: the check behind both calls.
 fn check(plan: &[u32], frame: &[u32]) -> Verdict
     ensures { λ r. ⌜ verdictOf r ≡ readVerdict (now (plan .entry)) (now (frame .entry)) ⌝ }
 {

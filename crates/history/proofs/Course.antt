@@ -10,7 +10,7 @@ use Rattle.lists.specs.Lists.{every, some}
 use Rattle.word.specs.Reserved.{reservedZero, sourceField}
 use Rattle.plan.specs.Decode.{stepOf, partBy, accessBy, actionBy, transactionsOf, planOf}
 use Rattle.plan.specs.Admission.{hasHead, countsInRange, transactionFormed, stepFormed, tellCount, sourceExists, stepExists, partExists}
-use Rattle.plan.specs.Admission.{parametersExist, transactionsVerdict, planVerdict}
+use Rattle.plan.specs.Admission.{parametersExist, transactionsVerdict, openPlanVerdict, planVerdict}
 use Rattle.operation.specs.Operation.{cellsNamed}
 use Rattle.operation.specs.Admission.{transactionExists, unusedZero, rowInRange, parametersPass, operationVerdict}
 use Rattle.operation.specs.Store.{applyUpdate}
@@ -40,13 +40,13 @@ small a b h k (suc (suc (suc zero))) = omega arith
 small a b h k (suc (suc (suc (suc i)))) = omega arith
 
 pub course : Course
-unfolding ones planVerdict hasHead countsInRange transactionsVerdict plans.wellFormed every transactionFormed stepFormed tellCount
-    parametersExist partExists stepExists sourceExists transactionsOf planOf stepOf partBy accessBy actionBy reservedZero sourceField
-    frameVerdict frameHeaded sumsRight updatesRight wellFormed updateFormed cellFormed fewPerDesk deskCount writesFrom updatesFrom
-    sumsFrom frameAround cellsNamed transactionExists unusedZero rowInRange parametersPass operationVerdict applyUpdate act runFrom
-    maskOf some rowTouched cellTouched stepTouches deskMask cellGiven stepWrites written classBy writeWords updateWords updatesWords
-    deskBuffersFit visitBuffersFit waitsHere deskFits turnVerdict requestVerdict requestResult foreign applyAll visitVerdict
-    visitResult runAll updatesOf repliesOf repliesWords
+unfolding ones openPlanVerdict planVerdict hasHead countsInRange transactionsVerdict plans.wellFormed every transactionFormed stepFormed
+    tellCount parametersExist partExists stepExists sourceExists transactionsOf planOf stepOf partBy accessBy actionBy reservedZero
+    sourceField frameVerdict frameHeaded sumsRight updatesRight wellFormed updateFormed cellFormed fewPerDesk deskCount writesFrom
+    updatesFrom sumsFrom frameAround cellsNamed transactionExists unusedZero rowInRange parametersPass operationVerdict applyUpdate act
+    runFrom maskOf some rowTouched cellTouched stepTouches deskMask cellGiven stepWrites written classBy writeWords updateWords
+    updatesWords deskBuffersFit visitBuffersFit waitsHere deskFits turnVerdict requestVerdict requestResult foreign applyAll
+    visitVerdict visitResult runAll updatesOf repliesOf repliesWords
 course =
     record {
       proper = (

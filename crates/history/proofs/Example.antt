@@ -27,10 +27,15 @@ pub data Op : Type 0 where
   look catalogue : Op
 
 abbrev transaction : ℕ → Transaction
-transaction column = record { params = 2; part = byParam 0; steps = operand sets (param 1) ∷ cell writes 0 column (fixed 0) ∷ [] }
+transaction column = record {
+  params = 2;
+  part = byParam 0;
+  weight = 0;
+  steps = operand sets (param 1) ∷ cell writes 0 column (fixed 0) ∷ [];
+}
 
 abbrev reading : Partitioning → ℕ → Transaction
-reading part column = record { params = 1; part = part; steps = cell reads 0 column (fixed 0) ∷ [] }
+reading part column = record { params = 1; part = part; weight = 0; steps = cell reads 0 column (fixed 0) ∷ [] }
 
 abbrev plan : Plan
 plan =

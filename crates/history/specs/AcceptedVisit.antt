@@ -41,7 +41,7 @@ VisitFrameReads =
     → visitResult plan h frame out replies .answer ≡ forwarded words count → RecordsFit (h .queue)
     → Sends plan h frame (take words (visitResult plan h frame out replies .out))
 
--- where questions 1 to 6 pass: word i is changed to another word x
+-- where the plan is accepted and questions 5 and 6 pass: word i is changed to another word x
 abbrev pub ChangedWordRefused : Type 0
 ChangedWordRefused =
     (plan : List ℕ) (h : Holding) (frame out replies : List ℕ) → planVerdict plan ≡ accepted

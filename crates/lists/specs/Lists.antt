@@ -1,12 +1,14 @@
 -- Notions of lists, each in a file of its own below, all named from here.
 pub mod Every
 pub mod Some
+pub mod SomeBelow
 pub mod Properties
 pub mod Tabulate
 pub mod Overwritten
 pub mod Assign
 unfoldable pub use Every.{every}
 unfoldable pub use Some.{some}
+unfoldable pub use SomeBelow.{someBelow}
 pub use Properties.{All, Pairs}
 unfoldable pub use Tabulate.{tabulate}
 pub use Overwritten.{overwritten}

@@ -4,8 +4,8 @@ use mathlib.Core.Bool.{Bool, true, false, cond}
 use mathlib.Core.List.{List, [], _∷_, List·Memᴰ}
 use mathlib.Core.Logic.{_⊎_}
 use lib.ListN.{getD}
-use Rattle.plan.specs.Plan.{Source, param, fixed, Access, reads, writes, Step, cell, operand, tells, Partitioning, byParam, unpartitioned}
-use Rattle.plan.specs.Plan.{Transaction, Plan, transactionAt}
+use Rattle.plan.specs.Plan.{Source, param, fixed, Access, reads, writes, Step, cell, operand, tells}
+use Rattle.plan.specs.Plan.{Partitioning, byParam, unpartitioned, undecided, Transaction, Plan, transactionAt}
 
 -- the number of a transaction, and parameter words
 pub record Operation : Type 0 where
@@ -23,10 +23,11 @@ abbrev pub valueOf : List ℕ → Source → ℕ
 valueOf ps (param i) = getD ps i 0
 valueOf ps (fixed v) = v
 
--- "Its desk is the partitioning parameter modulo the number of desks, or 0 if none."
+-- "Its desk is the partitioning parameter modulo the number of desks, or 0 if none." As long as it is open it names none
 abbrev pub deskBy : ℕ → Partitioning → List ℕ → ℕ
 deskBy n (byParam q) ps = getD ps q 0 % n
 deskBy n unpartitioned ps = 0
+deskBy n undecided ps = 0
 
 abbrev pub deskOf : Plan → Operation → ℕ
 deskOf p o = deskBy (p .desks) (transactionOf p o .part) (o .params)

@@ -37,7 +37,7 @@ pub fn desk(word: u32, desks: u32, params: [u32; 4]) -> u32
     ensures { λ r. ⌜ r ≡ deskBy desks (partBy (partitioningField word)) params ⌝ }
 {
     let partitioning = word / fields::PARTITIONING % 16;
-    if partitioning == 15 {
+    if plan::names_no_parameter(partitioning) {
         return 0;
     }
     parameter(params, partitioning) % desks

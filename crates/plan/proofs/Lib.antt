@@ -1,6 +1,9 @@
 pub mod Words
+pub mod FormedParts
+pub mod Partitionings
 pub mod Rest
 pub mod Accepted
+pub mod OpenWords
 pub mod Places
 pub mod Placing
 pub mod Steps

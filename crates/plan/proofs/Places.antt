@@ -1,25 +1,24 @@
 -- Transaction k of an accepted plan stands whole at its place, and decodes to entry k.
 -- Assumes nothing.
 use mathlib.Core.Path.{_≡_, _∙_, sym, ap, refl}
-use mathlib.Core.Bool.{true, false, _&&_, false≢true}
-use mathlib.Core.List.{List, [], _∷_, map}
+use mathlib.Core.Bool.{true, false≢true}
+use mathlib.Core.List.{List, [], _∷_}
 use Prim.Native.Nat.{ℕ, zero, suc, _+_, _-_, _≤_, _<_}
 use native.Mathlib.Nat.{sub-zero, add-zero}
 use native.Mathlib.Numerals.{add-one}
 use native.Mathlib.Omega.{arith}
 use mathlib.Core.Logic.{_⊎_, ⊎-elim}
-use lib.Dec.{leb}
-use lib.ListN.{length, getD, take, drop, length-drop, drop-of-length-le}
+use lib.ListN.{length, getD, drop, length-drop, drop-of-length-le}
 use lib.Seq.{drop-drop, getD-drop, drop-cons}
 use borrow.Author.Tests.{leb-true}
 use Rattle.verdict.specs.Verdict.{accepted}
-use Rattle.lists.specs.Lists.{every}
-use Rattle.lists.proofs.Laws.{and-fst, and-snd, left-suc, drop-cases}
+use Rattle.lists.proofs.Laws.{left-suc, drop-cases}
 use Rattle.word.specs.Field.{stepCount, headTransactions}
 use Rattle.plan.specs.Plan.{Transaction, noTransaction, transactionAt}
-use Rattle.plan.specs.Decode.{stepOf, transactionsOf, planOf, headOf}
-use Rattle.plan.specs.Admission.{wellFormed, transactionFormed, stepFormed, tellCount, mostTells, planVerdict}
+use Rattle.plan.specs.Decode.{transactionsOf, planOf, headOf}
+use Rattle.plan.specs.Admission.{wellFormed, tellCount, mostTells, planVerdict}
 use Rattle.plan.specs.Place.{transactionPlace, transactionFrom, StandsAt}
+use Rattle.plan.proofs.FormedParts.{FormedParts, formed-parts}
 use Rattle.plan.proofs.Accepted.{accepted-gives, transaction-count}
 
 pub place-next : (ws : List ℕ) (k : ℕ) → transactionPlace ws (k + 1)
@@ -49,25 +48,17 @@ module _ (ws : List ℕ) (txs k at : ℕ) (h : k < txs) (p : Past ws txs k at) w
   unfolding transactionsOf
   rest-here = p .rest ∙ rw (left-suc txs k h, word-here .1)
 
-  -- behind the question on the form of its steps
-  behind-steps : (leb (tellCount (map stepOf (take (stepCount (getD ws at 0)) (drop (at + 1) ws)))) mostTells
-      && wellFormed (txs - (k + 1)) (drop (stepCount (getD ws at 0)) (drop (at + 1) ws))) ≡ true
-  unfolding wellFormed
-  behind-steps =
-      and-snd (every stepFormed (take (stepCount (getD ws at 0)) (drop (at + 1) ws))) _
-      (and-snd (leb (stepCount (getD ws at 0)) (length (drop (at + 1) ws))) _ (and-snd (transactionFormed (getD ws at 0)) _ form-here))
+  parts-here : FormedParts (txs - (k + 1)) (getD ws at 0) (drop (at + 1) ws)
+  parts-here = formed-parts (txs - (k + 1)) (getD ws at 0) (drop (at + 1) ws) form-here
 
   stands-here : StandsAt ws at
-  unfolding wellFormed
   stands-here =
-      let f = and-snd (transactionFormed (getD ws at 0)) _ form-here in
-      let l = leb-true (stepCount (getD ws at 0)) (length (drop (at + 1) ws)) (and-fst _ _ f) in
+      let l = leb-true (stepCount (getD ws at 0)) (length (drop (at + 1) ws)) (parts-here .fits) in
       record {
         room = omega (arith, l, length-drop (at + 1) ws, word-here .0);
-        form = and-fst (transactionFormed (getD ws at 0)) _ form-here;
-        steps = and-fst (every stepFormed (take (stepCount (getD ws at 0)) (drop (at + 1) ws))) _
-            (and-snd (leb (stepCount (getD ws at 0)) (length (drop (at + 1) ws))) _ f);
-        tells-few = leb-true (tellCount (transactionFrom ws at .steps)) mostTells (and-fst _ _ behind-steps);
+        form = parts-here .form;
+        steps = parts-here .steps;
+        tells-few = leb-true (tellCount (transactionFrom ws at .steps)) mostTells (parts-here .tells-few);
       }
 
   past-more : Past ws txs (suc k) (at + 1 + stepCount (getD ws at 0))
@@ -78,7 +69,7 @@ module _ (ws : List ℕ) (txs k at : ℕ) (h : k < txs) (p : Past ws txs k at) w
         ∙ ap (λ (i : ℕ). transactionsOf (txs - i) (drop (at + 1 + stepCount (getD ws at 0)) ws)) (add-one k);
     form = ap (λ (i : ℕ). wellFormed (txs - i) (drop (at + 1 + stepCount (getD ws at 0)) ws)) (sym (add-one k))
         ∙ ap (wellFormed (txs - (k + 1))) (sym (drop-drop (stepCount (getD ws at 0)) (at + 1) ws))
-        ∙ and-snd (leb (tellCount (map stepOf (take (stepCount (getD ws at 0)) (drop (at + 1) ws)))) mostTells) _ behind-steps;
+        ∙ parts-here .rest;
   }
 
 past-at : (ws : List ℕ) → planVerdict ws ≡ accepted → (k : ℕ) → k ≤ headTransactions (headOf ws)

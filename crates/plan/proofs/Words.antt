@@ -1,4 +1,4 @@
--- What the questions say of a well-formed step's word, by its fields.
+-- What the questions say of a well-formed word, a step's or a transaction's, by its fields.
 -- Assumes nothing.
 use mathlib.Core.Path.{_≡_, refl}
 use mathlib.Core.Bool.{Bool, true, false, _&&_, _||_, cond, or-false}
@@ -8,10 +8,10 @@ use lib.Dec.{ltb, leb, eqb}
 use native.Mathlib.Omega.{arith}
 use borrow.Author.Tests.{leb-true, le-leb, le-ltb, eqb-true, ne-eqb}
 use Rattle.lists.proofs.Laws.{and-fst, and-snd}
-use Rattle.word.specs.Field.{kindOf, parameterCount, stepCount, rowSource, fixedRow, operandSource, fixedNumber}
+use Rattle.word.specs.Field.{kindOf, parameterCount, stepCount, partitioningField, rowSource, fixedRow, operandSource, fixedNumber}
 use Rattle.word.specs.Reserved.{sourceField}
 use Rattle.plan.specs.Decode.{sourceBy, isTell, stepOf}
-use Rattle.plan.specs.Admission.{transactionFormed, stepFormed, oneIfTells, sourceExists, stepExists}
+use Rattle.plan.specs.Admission.{partitioningFormed, transactionFormed, stepFormed, oneIfTells, sourceExists, stepExists}
 
 pub step-kinds : (w : ℕ) → stepFormed w ≡ true → ((3 ≤ kindOf w) × (kindOf w ≤ 8)) ⊎ (kindOf w ≡ 13)
 unfolding stepFormed
@@ -28,6 +28,10 @@ pub step-kind-low : (w : ℕ) → stepFormed w ≡ true → 3 ≤ kindOf w
 step-kind-low w e = ⊎-elim (λ h. h .0) (λ h. omega arith) (step-kinds w e)
 
 -- what question 3 says of a transaction's word
+pub transaction-kind : (w : ℕ) → transactionFormed w ≡ true → kindOf w ≡ 2
+unfolding transactionFormed
+transaction-kind w e = eqb-true (kindOf w) 2 (and-fst (eqb (kindOf w) 2) _ e)
+
 pub transaction-params : (w : ℕ) → transactionFormed w ≡ true → parameterCount w ≤ 4
 unfolding transactionFormed
 transaction-params w e = leb-true (parameterCount w) 4 (and-fst _ _ (and-snd (eqb (kindOf w) 2) _ e))
@@ -37,6 +41,12 @@ unfolding transactionFormed
 transaction-steps w e =
     let ranges = and-snd (leb (parameterCount w) 4) _ (and-snd (eqb (kindOf w) 2) _ e) in
     leb-true (stepCount w) 12 (and-fst _ _ (and-snd (leb 1 (stepCount w)) _ ranges))
+
+pub transaction-partitioning : (w : ℕ) → transactionFormed w ≡ true → partitioningFormed (partitioningField w) ≡ true
+unfolding transactionFormed
+transaction-partitioning w e =
+    let ranges = and-snd (leb (parameterCount w) 4) _ (and-snd (eqb (kindOf w) 2) _ e) in
+    and-fst (partitioningFormed (partitioningField w)) _ (and-snd (leb (stepCount w) 12) _ (and-snd (leb 1 (stepCount w)) _ ranges))
 
 source-exists : (count s v : ℕ) → sourceExists count (sourceBy s v) ≡ (eqb s 7 || ltb s count)
 unfolding sourceExists

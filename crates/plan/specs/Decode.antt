@@ -1,13 +1,13 @@
 -- The plan that a list of words stands for. Every list decodes to something; whether it is well formed is question 3.
 use Prim.Native.Nat.{ℕ, zero, suc}
-use mathlib.Core.Bool.{Bool, cond}
+use mathlib.Core.Bool.{Bool, _&&_, _||_, cond}
 use mathlib.Core.List.{List, [], _∷_, map}
 use lib.ListN.{getD, take, drop}
 use lib.Dec.{leb, eqb}
-use Rattle.word.specs.Field.{kindOf, headDesks, headTransactions, parameterCount, stepCount, partitioningField}
+use Rattle.word.specs.Field.{kindOf, headDesks, headTransactions, parameterCount, stepCount, partitioningField, weightField}
 use Rattle.word.specs.Field.{tableField, columnField, rowSource, fixedRow, operandSource, fixedNumber}
 use Rattle.plan.specs.Plan.{Source, param, fixed, Access, reads, writes, Action, sets, adds, needs, takes, Step, cell, operand, tells}
-use Rattle.plan.specs.Plan.{Partitioning, byParam, unpartitioned, Transaction, Plan}
+use Rattle.plan.specs.Plan.{Partitioning, byParam, unpartitioned, undecided, Transaction, Plan}
 
 -- "0–3 that parameter, 7 the fixed" number v
 abbrev pub sourceBy : ℕ → ℕ → Source
@@ -37,13 +37,35 @@ stepOf w =
     (cond (isTell w) tells
     (operand (actionBy (kindOf w)) (operandOf w)))
 
--- "partitioning parameter (0–3, or 15 for none)"
+-- "Let partitioning field 14 mean open"
+abbrev pub openField : ℕ
+openField = 14
+
+-- "15 for none"
+abbrev pub noneField : ℕ
+noneField = 15
+
+-- a partitioning field that names no parameter
+abbrev pub namesNoParameter : ℕ → Bool
+namesNoParameter q = eqb q openField || eqb q noneField
+
+-- "partitioning parameter (0–3, or 15 for none)"; "Let partitioning field 14 mean open"
 unfoldable pub partBy : ℕ → Partitioning
-partBy q = cond (eqb q 15) unpartitioned (byParam q)
+partBy q = cond (eqb q noneField) unpartitioned (cond (eqb q openField) undecided (byParam q))
+
+-- the word of a transaction whose field is open. Behind question 3 no other word of a plan is of kind 2
+abbrev pub isOpen : ℕ → Bool
+isOpen w = eqb (kindOf w) 2 && eqb (partitioningField w) openField
 
 -- the transaction whose word is w, with the words ws behind it
 abbrev pub transactionOf : ℕ → List ℕ → Transaction
-transactionOf w ws = record { params = parameterCount w; part = partBy (partitioningField w); steps = map stepOf (take (stepCount w) ws) }
+transactionOf w ws =
+    record {
+      params = parameterCount w;
+      part = partBy (partitioningField w);
+      weight = weightField w;
+      steps = map stepOf (take (stepCount w) ws);
+    }
 
 -- the first n transactions that stand in the words
 unfoldable pub transactionsOf : ℕ → List ℕ → List Transaction

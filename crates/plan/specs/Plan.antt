@@ -22,14 +22,16 @@ pub data Step : Type 0 where
   operand : Action → Source → Step
   tells : Step
 
--- the parameter that decides the desk, or none
+-- the parameter that decides the desk, or none, or open: to be chosen
 pub data Partitioning : Type 0 where
   byParam : ℕ → Partitioning
   unpartitioned : Partitioning
+  undecided : Partitioning
 
 pub record Transaction : Type 0 where
   pub params : ℕ
   pub part : Partitioning
+  pub weight : ℕ
   pub steps : List Step
 
 pub record Plan : Type 0 where
@@ -38,7 +40,7 @@ pub record Plan : Type 0 where
 
 -- stands for a transaction that does not exist
 abbrev pub noTransaction : Transaction
-noTransaction = record { params = 0; part = unpartitioned; steps = [] }
+noTransaction = record { params = 0; part = unpartitioned; weight = 0; steps = [] }
 
 -- transaction k of the plan
 abbrev pub transactionAt : Plan → ℕ → Transaction

@@ -4,9 +4,15 @@ ghost use mathlib.Core.Bool.{true, not, _&&_, _||_};
 ghost use lib.Dec.{ltb, leb, eqb};
 ghost use Prim.Native.Nat.{_+_, _≤_};
 ghost use Rattle.word.specs.Field.{parameterCount, partitioningField};
-ghost use Rattle.plan.specs.Decode.{stepOf, partBy};
-ghost use Rattle.plan.specs.Admission.{countsInRange, transactionFormed, stepFormed, oneIfTells, mostTells, stepExists, partExists};
+ghost use Rattle.plan.specs.Decode.{namesNoParameter, stepOf, partBy};
+ghost use Rattle.plan.specs.Admission.{countsInRange, partitioningFormed, transactionFormed, stepFormed, oneIfTells, mostTells};
+ghost use Rattle.plan.specs.Admission.{stepExists, partExists};
 use word::fields;
+
+// A partitioning field that is open, and one that stands for none.
+pub const OPEN: u32 = 14;
+
+pub const UNPARTITIONED: u32 = 15;
 
 // How many steps of a transaction may tell.
 pub const MOST_TELLS: usize = 4;
@@ -29,6 +35,26 @@ pub(crate) fn counts_in_range(head: u32) -> bool
     transactions <= 32
 }
 
+// Whether a partitioning field names no parameter: it is open, or stands for none.
+pub fn names_no_parameter(partitioning: u32) -> bool
+    ensures { λ r. ⌜ r ≡ namesNoParameter partitioning ⌝ }
+{
+    if partitioning == OPEN {
+        return true;
+    }
+    partitioning == UNPARTITIONED
+}
+
+// A partitioning field: parameter 0 to 3, 14 for open, 15 for none.
+fn partitioning_formed(partitioning: u32) -> bool
+    ensures { λ r. ⌜ r ≡ partitioningFormed partitioning ⌝ }
+{
+    if partitioning < 4 {
+        return true;
+    }
+    names_no_parameter(partitioning)
+}
+
 // Question 3 of a transaction's word.
 pub(crate) fn transaction_formed(word: u32) -> bool
     ensures { λ r. ⌜ r ≡ transactionFormed word ⌝ }
@@ -48,10 +74,7 @@ pub(crate) fn transaction_formed(word: u32) -> bool
     if 12 < steps {
         return false;
     }
-    if partitioning < 4 {
-        return word::reserved_zero(word);
-    }
-    if partitioning != 15 {
+    if !partitioning_formed(partitioning) {
         return false;
     }
     word::reserved_zero(word)
@@ -110,7 +133,7 @@ pub(crate) fn partitioning_missing(word: u32, missing: bool) -> bool
 {
     let parameters = word / fields::PARAMETERS % 16;
     let partitioning = word / fields::PARTITIONING % 16;
-    if partitioning == 15 {
+    if names_no_parameter(partitioning) {
         return missing;
     }
     if partitioning < parameters {

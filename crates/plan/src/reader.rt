@@ -1,18 +1,34 @@
-// The plan reader: questions 1 to 4, all of one before the next.
+// The plan reader: questions 1 to 4, all of one before the next, and then 17.
+//     read_plan         the plan reader
+//     read_open_plan    questions 1 to 4 alone, for plans with open fields
 ghost use mathlib.Core.Path.{_≡_};
 ghost use mathlib.Core.Bool.{_&&_};
 ghost use Prim.Native.Nat.{_≤_};
 ghost use lib.ListN.{length, getD, drop};
 ghost use lib.Dec.{ltb};
 ghost use Rattle.verdict.specs.Verdict.{verdictOf};
-ghost use Rattle.plan.specs.Admission.{planVerdict, transactionsVerdict, transactionFormed, stepFits, mostTells};
+ghost use Rattle.plan.specs.Admission.{openPlanVerdict, planVerdict, transactionsVerdict, transactionFormed, stepFits, mostTells};
 use crate::form;
+use crate::open;
 use verdict::Verdict;
 use word::fields;
 
-// Questions 1 to 4.
+// Questions 1 to 4, then 17: whether a field is open.
 pub fn read_plan(plan: &[u32]) -> Verdict
     ensures { λ r. ⌜ verdictOf r ≡ planVerdict (now (plan .entry)) ⌝ }
+{
+    if let Verdict::Refused(question) = read_open_plan(plan) {
+        return Verdict::Refused(question);
+    }
+    if open::has_open(plan) {
+        return Verdict::Refused(17);
+    }
+    Verdict::Accepted
+}
+
+// Questions 1 to 4.
+pub fn read_open_plan(plan: &[u32]) -> Verdict
+    ensures { λ r. ⌜ verdictOf r ≡ openPlanVerdict (now (plan .entry)) ⌝ }
 {
     let words = plan.len();
     if words < 1 {

@@ -1,5 +1,5 @@
 -- Questions 1 to 8 of a queue of words, as the core of a request puts them.
---     plan-refused, store-unfit, queue-unfit, buffers-fit      the answers to questions 1 to 5
+--     plan-refused, store-unfit, queue-unfit, buffers-fit      the answers to questions 1 to 4, 17 and 5
 --     plan-passes, row-long        what they show where all are yes
 --     opening-refused, desk-unfit, by-operation        the verdict of all, by the first question whose answer is no
 -- Assumes nothing.
@@ -26,7 +26,7 @@ use Rattle.desk.specs.Admission.{deskBuffersFit, deskFits}
 use Rattle.requests.specs.Request.{requestVerdict}
 use Rattle.requests.specs.Step.{openingVerdict}
 
--- ---- questions 1 to 5
+-- ---- questions 1 to 4, 17 and 5
 
 module _ (ws cells row : List ℕ) where
   pub plan-refused : (question : ℕ) → planVerdict ws ≡ refused question → openingVerdict ws cells row ≡ refused question

@@ -78,7 +78,7 @@ abbrev pub recordOf : ℕ → ℕ → List ℕ → Request
 recordOf client k ps =
     record { client = client; transaction = k; p0 = getD ps 0 0; p1 = getD ps 1 0; p2 = getD ps 2 0; p3 = getD ps 3 0 }
 
--- "Request: 1–8, then "elsewhere", then 9."
+-- "Request: 1–8, then "elsewhere", then 9.", with 17 after 4
 unfoldable pub requestVerdict : List ℕ → Holding → Request → Verdict
 requestVerdict ws h r =
     planVerdict ws

@@ -3,7 +3,7 @@
 --     storePlace        where a request is stored, by its answer
 --     stepOf            the step of a result
 --     withoutQueue      what a request leaves beside the queue
---     openingVerdict    questions 1 to 5
+--     openingVerdict    questions 1 to 4, 17 and 5
 use Prim.Native.Nat.{ℕ}
 use mathlib.Core.List.{List, []}
 use lib.ListN.{set}
@@ -37,6 +37,6 @@ stepOf result waiting size r =
 abbrev pub withoutQueue : Requested → Requested
 withoutQueue s = record { answer = s .answer; state = s .state; cells = s .cells; queue = [] }
 
--- questions 1 to 5, of a queue of words
+-- questions 1 to 4, 17 and 5, of a queue of words
 unfoldable pub openingVerdict : List ℕ → List ℕ → List ℕ → Verdict
 openingVerdict ws cells row = planVerdict ws then ask 5 (deskBuffersFit cells (queueIn row))

@@ -2,7 +2,7 @@
 //     RequestAnswer, RequestResult, RequestStep    the answer; with the state after the call; with the record to be stored and its place
 //     unchanged_result, run_result, wait_result    an answer that changes nothing; the operation runs; it waits
 //     routed_result, admitted_result               by class and desk; behind questions 7 and 8
-//     opening_verdict, request_result              questions 1 to 5; all of the request but the queue
+//     opening_verdict, request_result              questions 1 to 4, 17 and 5; all of the request but the queue
 //     record_of, store_place, step_of              the record of a request; where it is stored; the step
 //     request_step                                 the request, with the record that is to be stored
 ghost use mathlib.Core.Path.{_≡_};
@@ -151,7 +151,7 @@ fn admitted_result(
     }
 }
 
-// Questions 1 to 5.
+// Questions 1 to 4, 17 and 5.
 fn opening_verdict(plan: &[u32], cells: &[u32], row: &[u32]) -> Verdict
     ensures { λ r. ⌜ verdictOf r ≡ openingVerdict (now (plan .entry)) (now (cells .entry)) (now (row .entry)) ⌝ }
 {

@@ -3,6 +3,7 @@ use crate::layout::ANSWER;
 use crate::layout::ANSWERED;
 use crate::layout::CALLS;
 use crate::layout::QUESTION;
+use crate::layout::QUESTION_NUMBERS;
 use crate::layout::REFUSALS;
 use crate::layout::VALUE;
 use crate::memory::Memory;
@@ -21,7 +22,7 @@ pub fn note(m: &mut Memory, text: u32, number: u32) -> &mut Memory {
 
 // Notes which question refused a call, 0 for none.
 pub fn note_question(m: &mut Memory, question: u32) -> &mut Memory {
-    let question = question % 16;
+    let question = question % QUESTION_NUMBERS;
     put(note(m, texts::QUESTIONS + question, 0), QUESTION, question)
 }
 

@@ -1,5 +1,5 @@
-// The engine's request and visit, on what stands in memory. What a call leaves of the desk and of the buffers goes to places of its own,
-// so that all of it can be held against what was there before.
+// The engine's calls on copies of what stands in memory. What a call leaves of the desk, of the plan and of the buffers goes to places of
+// its own, so that all of it can be held against what was there before.
 use crate::answers::note;
 use crate::answers::note_question;
 use crate::desks;
@@ -39,6 +39,7 @@ use crate::memory::on;
 use crate::memory::put;
 use crate::memory::size;
 use crate::texts;
+use conveyor::Choice;
 use conveyor::RequestAnswer;
 use conveyor::RequestResult;
 use conveyor::Verdict;
@@ -159,6 +160,22 @@ pub fn visit(m: &mut Memory) -> &mut Memory {
         198,
     );
     note_visit(desks::put_state(m, result.state), given)
+}
+
+// The chooser itself on a copy of the plan.
+fn ask_chooser(m: &Memory, plan: &mut [u32]) -> Choice {
+    conveyor::choose(load(m, PLAN_WORDS, PLAN, plan))
+}
+
+// The chooser on the plan at hand. What it leaves of the plan goes to the outgoing words.
+pub fn choose(m: &mut Memory) -> &mut Memory {
+    let mut plan = [0u32; 6420];
+    let choice = ask_chooser(m, &mut plan);
+    let m = store(m, OUTGOING_WORDS, &plan);
+    match choice {
+        Choice::Chosen(cost) => note(m, texts::CHOSEN, cost),
+        Choice::Refused(question) => note_question(m, question),
+    }
 }
 
 // The starting frame in a marked buffer of the size that is set: 0, or the question.

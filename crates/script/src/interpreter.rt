@@ -17,6 +17,7 @@ use crate::layout::LENT;
 use crate::layout::LENT_NEXT;
 use crate::layout::MADE_BEFORE;
 use crate::layout::PLAN;
+use crate::layout::QUESTION_NUMBERS;
 use crate::layout::REFUSED;
 use crate::layout::REQUESTED;
 use crate::layout::SENT;
@@ -57,6 +58,8 @@ use crate::texts;
 
 // The names of the commands, the bytes of each as one number.
 const PLAN_NAME: u64 = 0x706c_616e;
+
+const CHOOSE: u64 = 0x6368_6f6f_7365;
 
 const CLASS: u64 = 0x63_6c61_7373;
 
@@ -144,7 +147,7 @@ fn read_rest(m: &mut Memory, name: u64) -> &mut Memory {
             memory::copy(say_rest(m), LINE_LENGTH, WORD_END, 1),
             texts::LINE_END,
         ),
-        START | RESET => m,
+        START | RESET | CHOOSE => m,
         _ => scanner::fault(m, scanner::NO_COMMAND),
     }
 }
@@ -153,6 +156,7 @@ fn read_rest(m: &mut Memory, name: u64) -> &mut Memory {
 fn perform(m: &mut Memory, name: u64) -> &mut Memory {
     match name {
         PLAN_NAME => say_answer(plans::read(memory::copy_counted(m, HAND, PLAN))),
+        CHOOSE => plans::choose(m),
         CLASS => say_answer(plans::class(m)),
         DESK_NAME => say_answer(desks::new_desk(m)),
         START => frames::start(m),
@@ -244,7 +248,13 @@ fn finish(m: &mut Memory) -> &mut Memory {
     let m = run_whole(memory::count_above(m, LINES, LINE_LENGTH, joined));
     let m = say(memory::copy(m, REQUESTED, DONE, 4), texts::COUNTS);
     say(
-        say_each(m, texts::REFUSED_COUNT, REFUSED, 1, 16),
+        say_each(
+            m,
+            texts::REFUSED_COUNT,
+            REFUSED,
+            1,
+            QUESTION_NUMBERS as usize,
+        ),
         texts::ANSWER_COUNTS,
     )
 }

@@ -36,7 +36,7 @@ pub const LONGEST_SENT: usize = 78;
 // Registers 1 to 4: whether the line writes a parameter. U: how many forms changed the words of the line. V: whether these come from no
 // kept frame. a to f: the operation at hand, as a record holds it: client, transaction and four parameters. g: changed cells. o: other
 // changed words. q: the question that refused a call, 0 for none. r: a number that a call answers. s: the desk at hand. t and u: a frame
-// taken and one sent. v: a visit. w: a number of words. x and y: two sums. z and {: the last two of many words.
+// taken and one sent. v: a visit. w: a number of words, or the index of one. x and y: two sums. z and {: the last two of many words.
 pub const GIVEN: usize = 49;
 
 pub const CHANGES: usize = 85;
@@ -118,13 +118,15 @@ pub const NEXT_OUTGOING: usize = LENT_NEXT + 2;
 
 pub const NEXT_REPLIES: usize = LENT_NEXT + 3;
 
-// Calls by the text of their answer. Of these, calls by the question that refused them, and in front those that no question did; and
-// requests by what became of them.
+// Calls by the text of their answer. Of these, calls by the question that refused them, and in front those that no question did; how
+// many numbers there are for questions, with 0; and requests by what became of them.
 pub const ANSWERED: usize = 144;
 
 pub const REFUSED: usize = 160;
 
-pub const REQUESTED: usize = 194;
+pub const QUESTION_NUMBERS: u32 = 32;
+
+pub const REQUESTED: usize = 210;
 
 // The plan, the words of the line and the outgoing words of a call: a number of words, and these behind it.
 pub const PLAN: usize = 86272;

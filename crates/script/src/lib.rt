@@ -10,12 +10,12 @@
 //     forms         words of plans and frames, as a script writes them
 //     words         words of plans and frames, as answers write them
 //     answers       what a call answers: a text and a number; the text of a refusal is that of the question
-//     plans         the plan reader and the classifier; a plan in words
+//     plans         the plan reader, the chooser and the classifier; a plan in words
 //     operations    operations, as a script writes them
 //     desks         what a desk holds, by the new desk call or by hand
 //     loans         how much is lent to a call
 //     changes       what a call changed of all that it was lent
-//     calls         the engine's request and visit, on what stands in memory
+//     calls         the engine's calls on copies of what stands in memory
 //     frames        frames that were sent; the starting frame, the frame reader
 //     events        the lines of requests and visits, and the token that goes on
 //     interpreter   lines, commands, faults, counts, and the run of a script

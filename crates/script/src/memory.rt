@@ -17,7 +17,7 @@ pub const QUIET: usize = 1;
 pub const WRITTEN: usize = 14;
 
 // The texts, one byte a word, and behind each other the places where they begin.
-pub const TEXTS: usize = 1024;
+pub const TEXTS: usize = 512;
 
 pub const TEXT_PLACES: usize = 256;
 

@@ -187,7 +187,7 @@ pub fn say_each(m: &mut Memory, text: u32, place: usize, size: usize, count: usi
 }
 
 // A text of item i, where its words are not what they were at another place.
-fn say_change(
+pub fn say_change(
     m: &mut Memory,
     text: u32,
     i: usize,

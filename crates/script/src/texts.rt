@@ -1,6 +1,6 @@
 // All that the interpreter says, by number. `output` tells how a text names registers, and layout which those are. The texts of
-// faults come first, as scanner numbers them. A question's text stands as many places behind QUESTIONS as its number, and what
-// became of a request behind DONE.
+// faults come first, as scanner numbers them. A question's text stands as many places behind QUESTIONS as its number; the texts of
+// questions that nothing asks yet, up to 31, are empty. What became of a request stands behind DONE.
 use crate::memory::Memory;
 use crate::output;
 
@@ -26,99 +26,107 @@ pub const NOTHING_TO_LEND: u32 = 15;
 
 pub const QUESTIONS: u32 = 16;
 
-pub const LAST_QUESTION: u32 = 31;
+pub const LAST_QUESTION: u32 = 47;
 
-pub const BAD_LINE: u32 = 32;
+pub const BAD_LINE: u32 = 48;
 
-pub const LONG_LINE: u32 = 33;
+pub const LONG_LINE: u32 = 49;
 
-pub const COUNTS: u32 = 34;
+pub const COUNTS: u32 = 50;
 
-pub const REFUSED_COUNT: u32 = 35;
+pub const REFUSED_COUNT: u32 = 51;
 
-pub const ANSWER_COUNTS: u32 = 36;
+pub const ANSWER_COUNTS: u32 = 52;
 
-pub const LINE_END: u32 = 37;
+pub const LINE_END: u32 = 53;
 
-pub const VERDICT: u32 = 38;
+pub const VERDICT: u32 = 54;
 
-pub const OPERATION: u32 = 39;
+pub const OPERATION: u32 = 55;
 
-pub const FREE: u32 = 40;
+pub const FREE: u32 = 56;
 
-pub const LOCAL: u32 = 41;
+pub const LOCAL: u32 = 57;
 
-pub const GLOBAL: u32 = 42;
+pub const GLOBAL: u32 = 58;
 
-pub const TRANSACTION: u32 = 43;
+pub const TRANSACTION: u32 = 59;
 
-pub const STEP: u32 = 44;
+pub const STEP: u32 = 60;
 
-pub const DESK: u32 = 45;
+pub const DESK: u32 = 61;
 
-pub const STATE: u32 = 46;
+pub const STATE: u32 = 62;
 
-pub const SHOWN_RECORD: u32 = 47;
+pub const SHOWN_RECORD: u32 = 63;
 
-pub const SHOWN_CELL: u32 = 48;
+pub const SHOWN_CELL: u32 = 64;
 
-pub const REQUEST: u32 = 49;
+pub const REQUEST: u32 = 65;
 
-pub const DONE: u32 = 50;
+pub const DONE: u32 = 66;
 
-pub const DECLINED: u32 = 51;
+pub const DECLINED: u32 = 67;
 
-pub const WAITS: u32 = 52;
+pub const WAITS: u32 = 68;
 
-pub const ELSEWHERE: u32 = 53;
+pub const ELSEWHERE: u32 = 69;
 
-pub const CHANGED_CELL: u32 = 54;
+pub const CHANGED_CELL: u32 = 70;
 
-pub const CHANGED_CELLS: u32 = 55;
+pub const CHANGED_CELLS: u32 = 71;
 
-pub const CHANGED_RECORD: u32 = 56;
+pub const CHANGED_RECORD: u32 = 72;
 
-pub const CHANGED_STATE: u32 = 57;
+pub const CHANGED_STATE: u32 = 73;
 
-pub const OTHER_WORDS: u32 = 58;
+pub const OTHER_WORDS: u32 = 74;
 
-pub const CHANGED: u32 = 59;
+pub const CHANGED: u32 = 75;
 
-pub const CHANGED_START: u32 = 60;
+pub const CHANGED_START: u32 = 76;
 
-pub const CHANGED_PART: u32 = 61;
+pub const CHANGED_PART: u32 = 77;
 
-pub const WORDS: u32 = 62;
+pub const WORDS: u32 = 78;
 
-pub const SUMS: u32 = 63;
+pub const SUMS: u32 = 79;
 
-pub const WORD: u32 = 64;
+pub const WORD: u32 = 80;
 
-pub const START: u32 = 65;
+pub const START: u32 = 81;
 
-pub const START_SENDS: u32 = 66;
+pub const START_SENDS: u32 = 82;
 
-pub const VISIT_SENDS: u32 = 67;
+pub const VISIT_SENDS: u32 = 83;
 
-pub const READ: u32 = 68;
+pub const READ: u32 = 84;
 
-pub const PART: u32 = 69;
+pub const PART: u32 = 85;
 
-pub const VISIT: u32 = 70;
+pub const VISIT: u32 = 86;
 
-pub const REPLIES: u32 = 71;
+pub const REPLIES: u32 = 87;
 
-pub const REPLY: u32 = 72;
+pub const REPLY: u32 = 88;
 
-pub const SHOWN_FRAME: u32 = 73;
+pub const SHOWN_FRAME: u32 = 89;
 
-pub const SHOWN_UPDATE: u32 = 74;
+pub const SHOWN_UPDATE: u32 = 90;
 
-pub const UPDATED_CELL: u32 = 75;
+pub const UPDATED_CELL: u32 = 91;
 
-pub const REFUSED: u32 = 76;
+pub const REFUSED: u32 = 92;
 
-const TEXTS: [u8; 2788] = *b"\
+pub const CHOOSE: u32 = 93;
+
+pub const CHOSEN: u32 = 94;
+
+pub const FILLED: u32 = 95;
+
+pub const CHANGED_PLAN: u32 = 96;
+
+const TEXTS: [u8; 3019] = *b"\
 @\
 no such command\n@\
 a number from 0 to &S is expected\n@\
@@ -151,6 +159,9 @@ a wrong desk addressed, or updates that are not well formed\n@\
 addressed to another desk\n@\
 not the visit that this desk awaits\n@\
 the last visit number\n@\
+more than six open fields\n@\
+a partitioning field is open\n@\
+@@@@@@@@@@@@@@\
 line %Q, word %R: @\
 line %Q: longer than 65536 bytes\n@\
 lines %O, bad %P\ncalls %A, refused %B, changed by a refusal %C\n@\
@@ -163,7 +174,7 @@ T%b(?1%c}?2, %d}?3, %e}?4, %f})@\
 : free\n@\
 : local at desk %r\n@\
 : global at desk %r\n@\
-\x20\x20T%p(>hYEBp0}>hYEC, p1}>hYED, p2}>hYEE, p3})<hQEP by p$hQE}@\
+\x20\x20T%p(>hYEBp0}>hYEC, p1}>hYED, p2}>hYEE, p3})<hQEO by p$hQE}>hQEO<hQEP open}>hIIB, weight $hII}@\
 {p: }?p; }<h]EEread}>h]EE<h]EFwrite}>h]EF<h]EGset}>h]EG<h]EHadd}>h]EH<h]EIneed}>h]EI<h]EJtake}>h]EJtell}\
 <h]EF table $hZD column $hXC row }>h]EF<h]EJ }<h]EF>hUDE$hAF}<h]EF<hUDEp$hUD}>h]EF<h]EJ>hZDE$hAZ}>h]EF<h]EJ<hZDEp$hZD}@\
 desk %s@\
@@ -197,7 +208,11 @@ desk %s: visit {q%v }by {Vframe %t}{V?U, changed}?Vwords}@\
 frame %u: %h word~s}, visit %j to desk $iYE\n@\
 \x20\x20update of desk $hYE:<hUEB no cells}@\
 ?p,} cell $hAK is %i@\
-?q: refused %q: }@";
+?q: refused %q: }@\
+choose@\
+: cost %r@\
+; T%p <hQEOby p$hQE}>hQEO<hQEPopen}>hQEPby none}, word %w is now #h@\
+?oCHANGED: %o other word~s}?o changed\n}@";
 
 // Installs the texts.
 pub fn install(m: &mut Memory) -> &mut Memory {

@@ -6,8 +6,7 @@ use Rattle.lists.specs.Lists.{every, some}
 use Rattle.word.specs.Reserved.{sourceField, reservedZero}
 use Rattle.plan.specs.Decode.{accessBy, actionBy, stepOf, partBy, transactionsOf, planOf}
 use Rattle.plan.specs.Admission.{hasHead, countsInRange, transactionFormed, stepFormed, tellCount, wellFormed, sourceExists, stepExists}
-use Rattle.plan.specs.Admission.{partExists}
-use Rattle.plan.specs.Admission.{parametersExist, transactionsVerdict, planVerdict}
+use Rattle.plan.specs.Admission.{partExists, parametersExist, transactionsVerdict, openPlanVerdict, planVerdict}
 use Rattle.operation.specs.Operation.{cellsNamed}
 use Rattle.operation.specs.Admission.{transactionExists, unusedZero, rowInRange, parametersPass, operationVerdict}
 use Rattle.conflict.specs.Mask.{maskOf}
@@ -30,9 +29,9 @@ use Rattle.starred.specs.Table.{Starred}
 
 pub starred : Starred
 unfolding ones sourceField reservedZero accessBy actionBy stepOf partBy transactionsOf planOf every hasHead countsInRange
-    transactionFormed stepFormed tellCount wellFormed sourceExists stepExists partExists parametersExist transactionsVerdict planVerdict
-    cellsNamed transactionExists unusedZero rowInRange parametersPass operationVerdict maskOf some rowTouched cellTouched
-    stepTouches deskMask cellGiven stepWrites written classBy classifyResult
+    transactionFormed stepFormed tellCount wellFormed sourceExists stepExists partExists parametersExist transactionsVerdict
+    openPlanVerdict planVerdict cellsNamed transactionExists unusedZero rowInRange parametersPass operationVerdict maskOf some
+    rowTouched cellTouched stepTouches deskMask cellGiven stepWrites written classBy classifyResult
     readVerdict frameVerdict frameHeaded sumsRight updatesRight frames.wellFormed updateFormed cellFormed fewPerDesk deskCount writesFrom
     updatesFrom sumsFrom frameAround writeWords updateWords updatesWords act runFrom applyUpdate deskBuffersFit visitBuffersFit waitsHere
     deskFits turnVerdict runAll updatesOf repliesOf repliesWords foreign applyAll visitVerdict visitResult

@@ -1,5 +1,5 @@
 -- The questions of a visit as the code puts them, to a queue on plain words: they are the visit's questions, and decide what it leaves.
---     plan-refused, by-buffers, plan-passes, row-whole     questions 1 to 5, and what they show
+--     plan-refused, by-buffers, plan-passes, row-whole     questions 1 to 4, 17 and 5, and what they show
 --     desk-unfit, frame-refused, by-turn                   questions 6 and 10 to 15
 --     opening-refused, token-refused, all-pass, accepted-leaves    all of them, and the visit
 -- Assumes nothing.
@@ -27,7 +27,7 @@ use Rattle.visits.specs.Admission.{visitBuffersFit, turnVerdict}
 use Rattle.visits.specs.Visit.{unchanged, acceptedVisit, visitVerdict, visitResult}
 use Rattle.visits.specs.Core.{openingVerdict, tokenVerdict}
 
--- ---- questions 1 to 5
+-- ---- questions 1 to 4, 17 and 5
 
 module _ (ws cells row out replies : List ℕ) where
   abbrev buffersFit : Bool

@@ -1,5 +1,5 @@
 -- The questions of a visit as the code puts them, to a queue that is lent as plain words.
---     openingVerdict, tokenVerdict     questions 1 to 5; questions 6 and 10 to 15
+--     openingVerdict, tokenVerdict     questions 1 to 4, 17 and 5; questions 6 and 10 to 15
 use Prim.Native.Nat.{ℕ}
 use mathlib.Core.Bool.{_&&_}
 use mathlib.Core.List.{List}
@@ -13,7 +13,7 @@ use Rattle.desk.specs.declared.state.Desk.{Desk}
 use Rattle.desk.specs.Admission.{deskBuffersFit, deskFits}
 use Rattle.visits.specs.Admission.{visitBuffersFit, turnVerdict}
 
--- questions 1 to 5
+-- questions 1 to 4, 17 and 5
 unfoldable pub openingVerdict : List ℕ → List ℕ → List ℕ → List ℕ → List ℕ → Verdict
 openingVerdict ws cells row out replies = planVerdict ws then ask 5 (deskBuffersFit cells (queueIn row) && visitBuffersFit out replies)
 

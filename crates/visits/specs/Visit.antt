@@ -66,7 +66,7 @@ module _ (p : Plan) (h : Holding) (frame : List ℕ) where
   abbrev pub visitedBy : List ℕ → List ℕ → Verdict → Visited
   visitedBy out replies v = ifAccepted v (acceptedVisit out replies) (unchanged h out replies)
 
--- "Visit: 1–6, 10–15."
+-- "Visit: 1–6, 10–15.", with 17 after 4
 unfoldable pub visitVerdict : List ℕ → Holding → List ℕ → List ℕ → List ℕ → Verdict
 visitVerdict ws h frame out replies =
     planVerdict ws

@@ -1,7 +1,7 @@
 // A visit of the token at a desk, on the queue as plain words: its questions in their order, and the call.
 //     VisitAnswer, VisitResult     what the call hands back
 //     buffers_fit, turn            question 5; questions 13 to 15
-//     opening_verdict              questions 1 to 5
+//     opening_verdict              questions 1 to 4, 17 and 5
 //     state_fits, token_verdict    question 6; questions 6 and 10 to 15
 //     visit_on_words               the call
 ghost use mathlib.Core.Path.{_≡_};
@@ -77,7 +77,7 @@ fn turn(state: Desk, frame: &[u32]) -> Verdict
     Verdict::Refused(15)
 }
 
-// Questions 1 to 5.
+// Questions 1 to 4, 17 and 5.
 fn opening_verdict(
     plan: &[u32],
     cells: &[u32],

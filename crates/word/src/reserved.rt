@@ -6,8 +6,8 @@ use crate::fields;
 // Kinds in which every bit has a name, and kinds that do not exist: no word of those is accepted for its bits.
 const NONE: [u32; 8] = [0; 8];
 
-// Kind 2: bits 15-0.
-const TRANSACTION: [u32; 8] = [0xffff; 8];
+// Kind 2: bits 7-0.
+const TRANSACTION: [u32; 8] = [0xff; 8];
 
 // Kinds 3 and 4: bits 19-5 beside a fixed row, else 19-0.
 const CELL: [u32; 8] = [

@@ -1,7 +1,7 @@
--- Laws of `&&` and of tests that the proofs of every layer cite.
+-- Laws of `&&`, `||` and of tests that the proofs of every layer cite.
 -- Assumes nothing.
 use mathlib.Core.Path.{_≡_, refl, sym, subst}
-use mathlib.Core.Bool.{Bool, true, false, _&&_, false≢true}
+use mathlib.Core.Bool.{Bool, true, false, _&&_, _||_, false≢true}
 use lib.Dec.{T}
 
 pub and-fst : (a b : Bool) → (a && b) ≡ true → a ≡ true
@@ -15,6 +15,12 @@ and-snd false b e = absurd (false≢true e)
 pub and-true : (a b : Bool) → a ≡ true → b ≡ true → (a && b) ≡ true
 and-true true b e f = f
 and-true false b e f = e
+
+pub or-interchange : (a b c d : Bool) → ((a || b) || (c || d)) ≡ ((a || c) || (b || d))
+or-interchange true b c d = refl
+or-interchange false true true d = refl
+or-interchange false true false d = refl
+or-interchange false false c d = refl
 
 -- two tests that pass together are equal
 pub bool-ext : (a b : Bool) → (a ≡ true → b ≡ true) → (b ≡ true → a ≡ true) → a ≡ b

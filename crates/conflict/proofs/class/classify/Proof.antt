@@ -34,7 +34,7 @@ returns c =
 enum-told : tie.Need-enum-told
 enum-told c = search needs
 
--- questions 1 to 4 are answered with yes, and then 7
+-- the plan is accepted, and then question 7
 plan-passes : (c : tie.After-enum-told) → planVerdict (c .before .before .before .before .args .plan .now) ≡ accepted
 plan-passes c = sym (c .before .before .read-plan .ensures) ∙ ap verdictOf (c .enum-told .given .1)
 

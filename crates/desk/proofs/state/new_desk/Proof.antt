@@ -23,7 +23,7 @@ returns c = rw (sym (c .before .before .before .read-plan .ensures) ∙ ap verdi
 enum-told : tie.Need-enum-told
 enum-told c = search needs
 
--- questions 1 to 4 are answered with yes
+-- the plan is accepted
 plan-passes : (c : tie.After-enum-told) → planVerdict (c .before .before .before .before .args .plan .now) ≡ accepted
 plan-passes c = sym (c .before .before .read-plan .ensures) ∙ ap verdictOf (c .enum-told .given .1)
 

@@ -1,4 +1,4 @@
--- Questions 1 to 4, then 10 to 12: the plan's refusal stands, and an accepted plan has 1 to 8 desks.
+-- The verdict on the plan, then questions 10 to 12: the plan's refusal stands, and an accepted plan has 1 to 8 desks.
 -- Assumes nothing.
 use mathlib.Core.Path.{_≡_, _∙_, sym, ap}
 use Rattle.verdict.specs.Verdict.{accepted, verdictOf}

@@ -1,6 +1,7 @@
 -- Question 3 of a transaction's word: each answer is what the definition's tests give.
 -- Assumes nothing.
-use borrow.Author.Tests.{le-leb, lt-leb, eq-eqb, ne-eqb, lt-ltb, le-ltb}
+use mathlib.Core.Path.{_∙_, sym}
+use borrow.Author.Tests.{le-leb, lt-leb, eq-eqb, ne-eqb, not-true, not-false}
 use Rattle.plan.specs.Admission.{transactionFormed}
 use borrow.Author.Needs.{needs}
 use Rattle.plan.proofs.form.transaction_formed.Statement.{statement}
@@ -30,8 +31,8 @@ returns-4 c =
           (c .if4 .taken),
     )
 
-reserved-zero-requires : tie.Need-reserved-zero-requires
-reserved-zero-requires c κs = search needs
+partitioning-formed-requires : tie.Need-partitioning-formed-requires
+partitioning-formed-requires c κs = search needs
 
 returns-5 : tie.Need-returns-5
 unfolding transactionFormed
@@ -42,39 +43,24 @@ returns-5 c =
       le-leb _ _ (d .if2 .left),
       le-leb _ _ (c .before .before .before .if3 .left),
       le-leb _ _ (c .before .before .if4 .left),
-      lt-ltb _ _ (c .before .if5 .taken),
+      sym (c .before .partitioning-formed .ensures) ∙ not-true _ (c .if5 .taken),
     )
-    (c .reserved-zero .ensures)
+
+reserved-zero-requires : tie.Need-reserved-zero-requires
+reserved-zero-requires c κs = search needs
 
 returns-6 : tie.Need-returns-6
 unfolding transactionFormed
 returns-6 c =
     let d = c .before .before .before .before in
     simp (
-      eq-eqb _ _ (d .before .if1 .left),
-      le-leb _ _ (d .if2 .left),
-      le-leb _ _ (c .before .before .before .if3 .left),
-      le-leb _ _ (c .before .before .if4 .left),
-      le-ltb _ _ (c .before .if5 .left),
-      ne-eqb _ _ (c .if6 .taken),
-    )
-
-reserved-zero-requires-2 : tie.Need-reserved-zero-requires-2
-reserved-zero-requires-2 c κs = search needs
-
-returns-7 : tie.Need-returns-7
-unfolding transactionFormed
-returns-7 c =
-    let d = c .before .before .before .before in
-    simp (
       eq-eqb _ _ (d .before .before .if1 .left),
       le-leb _ _ (d .before .if2 .left),
       le-leb _ _ (d .if3 .left),
       le-leb _ _ (c .before .before .before .if4 .left),
-      le-ltb _ _ (c .before .before .if5 .left),
-      eq-eqb _ _ (c .before .if6 .left),
+      sym (c .before .before .partitioning-formed .ensures) ∙ not-false _ (c .before .if5 .left),
     )
-    (c .reserved-zero2 .ensures)
+    (c .reserved-zero .ensures)
 
 pub transaction-formed-spec : {M : Type 1} → statement M
 transaction-formed-spec =
@@ -84,8 +70,7 @@ transaction-formed-spec =
     returns-2
     returns-3
     returns-4
-    reserved-zero-requires
+    partitioning-formed-requires
     returns-5
-    returns-6
-    reserved-zero-requires-2
-    returns-7)
+    reserved-zero-requires
+    returns-6)

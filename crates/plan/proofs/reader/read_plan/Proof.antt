@@ -1,83 +1,45 @@
--- The plan reader: each answer is the branch of the verdict that the questions before it chose.
+-- The plan reader: behind questions 1 to 4, a word that is open is a transaction that is not decided.
 -- Assumes nothing.
-use borrow.Author.Tests.{le-leb, lt-leb, eq-eqb, ne-eqb, not-true, not-false}
-use mathlib.Core.Path.{_∙_, sym}
-use Rattle.plan.specs.Admission.{planVerdict, hasHead}
+use mathlib.Core.Path.{_≡_, _∙_, sym, ap}
+use Rattle.verdict.specs.Verdict.{accepted, verdictOf}
+use Rattle.plan.specs.Admission.{openPlanVerdict, planVerdict}
+use Rattle.plan.proofs.OpenWords.{open-found}
 use borrow.Author.Needs.{needs}
 use Rattle.plan.proofs.reader.read_plan.Statement.{statement}
 use Rattle.plan.proofs.reader.read_plan.Tie as tie
 
+read-open-plan-requires : tie.Need-read-open-plan-requires
+read-open-plan-requires c κs = search needs
+
+enum-known-question : tie.Need-enum-known-question
+enum-known-question c = search needs
+
 returns : tie.Need-returns
-unfolding planVerdict hasHead
-returns c = simp (lt-leb _ _ (c .if1 .taken))
+unfolding planVerdict
+returns c = rw (sym (c .before .before .before .read-open-plan .ensures) ∙ ap verdictOf (c .before .question .given .1))
+
+enum-told : tie.Need-enum-told
+enum-told c = search needs
+
+-- questions 1 to 4 are answered with yes
+passes : (c : tie.After-enum-told) → openPlanVerdict (c .before .before .before .before .args .plan .now) ≡ accepted
+passes c = sym (c .before .before .read-open-plan .ensures) ∙ ap verdictOf (c .enum-told .given .1)
+
+has-open-requires : tie.Need-has-open-requires
+has-open-requires c κs = search needs
 
 returns-2 : tie.Need-returns-2
-unfolding planVerdict hasHead
-returns-2 c = simp (le-leb _ _ (c .before .if1 .left), lt-leb _ _ (c .if2 .taken))
-
-shared-slice-read-head : tie.Need-shared-slice-read-head
-shared-slice-read-head c = search needs
+unfolding planVerdict
+returns-2 c =
+    let e = passes (c .before .before) in
+    rw (e, open-found _ e, ← c .before .has-open .ensures, c .if1 .taken)
 
 returns-3 : tie.Need-returns-3
-unfolding planVerdict hasHead
-returns-3 c = simp (
-  le-leb _ _ (c .before .before .before .if1 .left),
-  le-leb _ _ (c .before .before .if2 .left),
-  ne-eqb _ _
-      (c .if3 .taken),
-)
-
-cast-if4 : tie.Need-cast-if4
-cast-if4 c = search needs
-
-returns-4 : tie.Need-returns-4
-unfolding planVerdict hasHead
-returns-4 c =
-    let d = c .before .before .before in
-    simp (le-leb _ _ (d .before .if1 .left), le-leb _ _ (d .if2 .left), eq-eqb _ _ (c .before .if3 .left), ne-eqb _ _ (c .if4 .taken))
-
-counts-in-range-requires : tie.Need-counts-in-range-requires
-counts-in-range-requires c κs = search needs
-
-returns-5 : tie.Need-returns-5
-unfolding planVerdict hasHead
-returns-5 c =
-    let d = c .before .before .before in
-    simp (
-      le-leb _ _ (d .before .before .before .if1 .left),
-      le-leb _ _ (d .before .before .if2 .left),
-      eq-eqb _ _ (d .if3 .left),
-      eq-eqb _ _ (c .before .before .if4 .left),
-      sym (c .before .counts-in-range .ensures) ∙ not-true _ (c .if5 .taken),
-    )
-
-read-transactions-requires : tie.Need-read-transactions-requires
-read-transactions-requires c κs = search needs
-
-returns-6 : tie.Need-returns-6
-unfolding planVerdict hasHead
-returns-6 c =
-    let d = c .before .before .before in
-    simp (
-      le-leb _ _ (d .before .before .before .before .if1 .left),
-      le-leb _ _ (d .before .before .before .if2 .left),
-      eq-eqb _ _ (d .before .if3 .left),
-      eq-eqb _ _ (d .if4 .left),
-      sym (c .before .before .counts-in-range .ensures) ∙ not-false _ (c .before .if5 .left),
-    )
-    (c .read-transactions .ensures)
+unfolding planVerdict
+returns-3 c =
+    let e = passes (c .before .before) in
+    rw (e, open-found _ e, ← c .before .has-open .ensures, c .if1 .left)
 
 pub read-plan-spec : {M : Type 1} → statement M
 read-plan-spec =
-    tie.close
-    (tie.spec
-    returns
-    returns-2
-    shared-slice-read-head
-    returns-3
-    cast-if4
-    returns-4
-    counts-in-range-requires
-    returns-5
-    read-transactions-requires
-    returns-6)
+    tie.close (tie.spec read-open-plan-requires enum-known-question returns enum-told has-open-requires returns-2 returns-3)

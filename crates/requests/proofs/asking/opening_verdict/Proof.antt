@@ -1,4 +1,4 @@
--- Questions 1 to 5: each answer is the branch of the definition that the questions before it chose.
+-- Questions 1 to 4, 17 and 5: each answer is the branch of the definition that the questions before it chose.
 -- Assumes nothing.
 use mathlib.Core.Path.{_≡_, _∙_, sym, ap}
 use Rattle.verdict.specs.Verdict.{accepted, verdictOf}
@@ -23,7 +23,7 @@ returns c =
 enum-told : tie.Need-enum-told
 enum-told c = search needs
 
--- questions 1 to 4 are answered with yes
+-- the plan is accepted
 plan-passes : (c : tie.After-enum-told) → planVerdict (c .before .before .before .before .before .before .args .plan .now) ≡ accepted
 plan-passes c = sym (c .before .before .read-plan .ensures) ∙ ap verdictOf (c .enum-told .given .1)
 

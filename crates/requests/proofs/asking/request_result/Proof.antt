@@ -34,7 +34,7 @@ returns c =
 enum-told : tie.Need-enum-told
 enum-told c = search needs
 
--- questions 1 to 5 are answered with yes
+-- the plan is accepted and question 5 is answered with yes
 opens : (c : tie.After-enum-told) →
     let d = c .before .before .before .before .before .before .before in
     openingVerdict (d .args .plan .now) (d .args .cells .now) (d .args .row .now) ≡ accepted

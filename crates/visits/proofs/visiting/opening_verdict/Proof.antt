@@ -1,4 +1,4 @@
--- Questions 1 to 5: each answer is the branch of the definition that the questions before it chose.
+-- Questions 1 to 4, 17 and 5: each answer is the branch of the definition that the questions before it chose.
 -- Assumes nothing.
 use mathlib.Core.Path.{_≡_, _∙_, sym, ap}
 use Rattle.verdict.specs.Verdict.{ask, verdictOf}

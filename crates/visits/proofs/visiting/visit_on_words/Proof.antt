@@ -32,7 +32,7 @@ returns c =
 enum-told : tie.Need-enum-told
 enum-told c = search needs
 
--- the start of the visit, behind questions 1 to 5
+-- the start of the visit, behind questions 1 to 4, 17 and 5
 abbrev start : tie.After-enum-told → tie.Start
 start c = c .before .before .before .before .before .before .before .before .before .before .before .before
 
