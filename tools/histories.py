@@ -11,8 +11,8 @@ import random
 import sys
 from collections import deque
 
-from model import CELLS, MOST_OPEN, OUTGOING, REPLIES, REPLY_WORDS, ROWS, STARTING_FRAME, WORD
-from model import Desk, Serial, cell_of, field, question_6, refused
+from model import ACTS, CELLS, FIXED, MOST_OPEN, OUTGOING, REPLIES, REPLY_WORDS, ROWS, STARTING_FRAME, WORD
+from model import Desk, Serial, cell_of, field, question_6, refused, run
 from plans import PlanDrawing, changes, damage, hexadecimal, opened, transaction_damage, transaction_places
 from script import Interpreter
 from tally import Difference, Tally
@@ -82,7 +82,7 @@ class History:
         rng = self.rng
         self.write("reset")
         self.draw_plan()
-        fill = rng.choice(("", "%d" % any_word(rng), "seed %d" % rng.randrange(1000)))
+        fill = rng.choice(("", "%d" % any_word(rng), "seed %d" % rng.randrange(1000), "%d" % (WORD - 1 - rng.randrange(32))))
         for desk in range(self.n):
             self.call("desk %d" % desk)
             if fill:
@@ -171,13 +171,30 @@ class History:
         rng, form = self.rng, self.rng.randrange(40)
         if any(s.kind in (3, 4) and s.source == k for s in t.steps):
             return rng.choice(self.rows) if form < 30 else rng.randrange(ROWS) if form < 39 else rng.choice((32, 33, any_word(rng)))
-        return rng.randrange(10) if form < 35 else any_word(rng)
+        return rng.randrange(10) if form < 26 else any_word(rng)
 
     def operation(self):
         """A transaction and its parameters, mostly such that pass questions 7 and 8."""
         transaction = self.rng.randrange(len(self.plan.transactions))
         t = self.plan.transactions[transaction]
         return transaction, [self.parameter(t, k) for k in range(t.params)]
+
+    def at_an_end(self, transaction, params):
+        """The parameters. Where they pass questions 7 and 8 and the run comes to an add or a take by one that is no row and does not decide
+        the desk, one such is changed so that the add comes to 4,294,967,295 or to one past it, or the take to 0 or to one below it, on the
+        book that the operation's desk has now, if no step before it names the same one. Either number must be a word."""
+        t, drawn = self.plan.transactions[transaction], four(params)
+        if self.plan.class_of(transaction, drawn)[0] == "refused":
+            return params
+        acts = run(t, drawn, self.book_of(self.plan.desk_of(t, drawn))).acts
+        kept = {FIXED, t.partition, *(s.source for s in t.steps if s.kind in (3, 4))}
+        steps = zip((s.source for s in t.steps if s.kind in ACTS), acts)
+        ends = [(k, WORD - 1 - number if kind == 6 else number) for k, (kind, number, _) in steps if kind in (6, 8) and k not in kept]
+        ends = [(k, most) for k, most in ends if most < WORD - 1]
+        if ends:
+            k, most = self.rng.choice(ends)
+            params[k] = most + self.rng.randrange(2)
+        return params
 
     def global_operation(self, desk=None):
         """The desk, transaction and parameters of a global operation, of a desk if one is named, or None if none was drawn."""
@@ -189,8 +206,10 @@ class History:
         return None
 
     def usual_request(self):
-        """A request, mostly at the operation's own desk."""
+        """A request, mostly at the operation's own desk, at times with a number at an end of what a word holds."""
         transaction, params = self.operation()
+        if self.rng.randrange(2):
+            params = self.at_an_end(transaction, params)
         own = self.plan.desk_of(self.plan.transactions[transaction], four(params))
         self.request(own if self.rng.randrange(6) else self.rng.randrange(self.n), transaction, params)
 

@@ -15,6 +15,8 @@ WORD = 1 << 32
 CELLS, ROWS, OUTGOING, REPLIES = 1024, 32, 6404, 224
 OPEN, NO_PARTITION, FIXED = 14, 15, 7
 TELL, MOST_TOLD, REPLY_WORDS = 13, 4, 7
+# The kinds of set, add, need and take.
+ACTS = (5, 6, 7, 8)
 MOST_OPEN, MOST_TRIED = 6, 3
 
 Step = namedtuple("Step", "kind table column source fixed")
@@ -22,7 +24,7 @@ Step = namedtuple("Step", "kind table column source fixed")
 Transaction = namedtuple("Transaction", "place params partition weight steps")
 Request = namedtuple("Request", "client transaction p0 p1 p2 p3")
 Desk = namedtuple("Desk", "desk waiting awaited")
-Run = namedtuple("Run", "done number told update")
+Run = namedtuple("Run", "done number told update acts")
 
 
 def field(word, high, low):
@@ -285,9 +287,17 @@ def cell_of(step, params):
     return step.table * 128 + row * 4 + step.column
 
 
+def act(kind, number, operand):
+    """The working number after a set, add, need or take step, or None if the step declines the run: a need that is not met, and an add or a
+    take whose result is no word."""
+    after = {5: operand, 6: number + operand, 7: number, 8: number - operand}[kind]
+    return after if 0 <= after < WORD and (kind != 7 or number >= operand) else None
+
+
 def run(t, params, book):
-    """One run: whether done, the working number at the end or stop, the numbers told so far, and the update. The book is only read."""
-    number, told, update = 0, [], []
+    """One run: whether done, the working number at the end or before the step that declines, the numbers told so far, the update, and the
+    set, add, need and take steps that were come to, each its kind, the number before it and the operand. The book is only read."""
+    number, told, update, acts = 0, [], [], []
     for s in t.steps:
         if s.kind == 3:
             cell = cell_of(s, params)
@@ -297,16 +307,12 @@ def run(t, params, book):
         elif s.kind == TELL:
             told.append(number)
         else:
-            operand = s.fixed if s.source == FIXED else params[s.source]
-            if s.kind == 5:
-                number = operand
-            elif s.kind == 6:
-                number = (number + operand) % WORD
-            elif s.kind == 8:
-                number = (number - operand) % WORD
-            elif number < operand:
-                return Run(False, number, told, [])
-    return Run(True, number, told, update)
+            acts.append((s.kind, number, s.fixed if s.source == FIXED else params[s.source]))
+            after = act(*acts[-1])
+            if after is None:
+                return Run(False, number, told, [], acts)
+            number = after
+    return Run(True, number, told, update, acts)
 
 
 def reply_of(result):

@@ -3,7 +3,8 @@ With `write` it writes the files instead: python3 tools/outputs.py write
 
 The expected outputs are the answers of script.py: to each example alone, to what `belt` is run on (all examples, then questions.txt) and
 to what `histories` is run on (random histories). The values that the paper states of its own course stand below as they are printed
-there, and the run of `belt` is held to them first, then to the claims of choices.py.
+there, and values of sums at the two ends of a word, reckoned by hand; the run of `belt` is held to both first, then to the claims of
+choices.py.
 """
 
 import sys
@@ -47,6 +48,29 @@ STATED = [
     ("request 0 client 133 T4", "desk 0: T4() of client 133: refused 7:"),
 ]
 
+# Sums that would go round, on the plan of examples/7-gas.txt: "an add whose sum exceeds 4,294,967,295, and a take below zero, declines the
+# run; the number given is the one before that step".
+GAS_PLAN = "12050018 22300000 30000000 62000000 40000000 22300000 30000000 82000000 40000000 22600000 30000000 82000000 40000000 "
+GAS_PLAN += "32700000 62000000 42700000 22500000 32700000 D0000000 82000000 D0000000 42700000 21100000 32700000"
+GAS = [
+    ("request 1 client 11 T0 5 70", "desk 1: T0(5, 70) of client 11: done, 70; cell 20 is now 70\n"),
+    ("request 1 client 12 T1 5 71", "desk 1: T1(5, 71) of client 12: declined, 70\n"),
+    ("request 1 client 12 T1 5 67", "desk 1: T1(5, 67) of client 12: done, 3; cell 20 is now 3\n"),
+    ("request 1 client 12 T1 5 3", "desk 1: T1(5, 3) of client 12: done, 0; cell 20 is now 0\n"),
+    ("request 1 client 12 T1 5 1", "desk 1: T1(5, 1) of client 12: declined, 0\n"),
+    ("request 1 client 11 T0 5 4294967200", "desk 1: T0(5, 4294967200) of client 11: done, 4294967200;"),
+    ("request 1 client 11 T0 5 96", "desk 1: T0(5, 96) of client 11: declined, 4294967200\n"),
+    ("request 1 client 11 T0 5 95", "desk 1: T0(5, 95) of client 11: done, 4294967295; cell 20 is now 4294967295\n"),
+    ("request 1 client 11 T0 5 1", "desk 1: T0(5, 1) of client 11: declined, 4294967295\n"),
+    (
+        "visit 0",
+        "desk 0: visit 0 by frame 0: 4 replies, client 22 done, 600, client 23 declined, 400, client 24 declined, 600, told 600 0 0 0, "
+        "client 25 done, 500, told 600 500 0 0; sends frame 1 of 14 words: "
+        "9100000E 00000001 A0200000 B0000018 00000190 B0000080 00000258 A0000000 A0000000 A0100000 B0000080 000001F4 ",
+    ),
+    ("visit 1", "desk 1: visit 1 by frame 1: 2 replies, client 31 done, 4294967295, client 32 declined, 4294967295;"),
+]
+
 
 def followed(script):
     """Each line of a script, without its comment: the command, the plan before it, its answer, the call that it made, or None, and the
@@ -62,19 +86,17 @@ def followed(script):
         yield command.decode("latin-1"), before, said.decode("latin-1"), call, interpreter
 
 
-def hold_to_paper(script):
-    """Ends with a message unless the lines stand in the script in this order and are answered as the paper says."""
-    pending = list(STATED)
+def hold_to_stated(script, plan, stated_lines):
+    """Ends with a message unless the lines stand in the script in this order, on this plan, and are answered as is stated."""
+    pending = list(stated_lines)
     for command, _, said, _, interpreter in followed(script):
-        if not pending or command != pending[0][0]:
+        if not pending or command != pending[0][0] or interpreter.plan.words != [int(word, 16) for word in plan.split()]:
             continue
         stated = pending.pop(0)[1]
-        if interpreter.plan.words != [int(word, 16) for word in PLAN.split()]:
-            sys.exit("%s: the plan is not the paper's" % command)
         if not said.startswith(stated):
-            sys.exit("%s: the answer is '%s', the paper says '%s'" % (command, said.strip(), stated.strip()))
+            sys.exit("%s: the answer is '%s', stated is '%s'" % (command, said.strip(), stated.strip()))
     if pending:
-        sys.exit("not in the script, or not in this order: %s" % pending[0][0])
+        sys.exit("not in the script on this plan, or not in this order: %s" % pending[0][0])
 
 
 def hold_to_claims(script):
@@ -108,7 +130,8 @@ def expected():
         made["examples/%s.out" % path.stem] = answers(script)
         belt += script + b"reset\n"
     belt += (ROOT / "tools/questions.txt").read_bytes()
-    hold_to_paper(belt)
+    hold_to_stated(belt, PLAN, STATED)
+    hold_to_stated(belt, GAS_PLAN, GAS)
     hold_to_claims(belt)
     drawn = histories.script(HISTORIES, SEED)
     for name, script in (("belt", belt), ("histories", drawn)):

@@ -115,7 +115,14 @@ class PlanDrawing:
         theme = rng.choice(("own", "own", "shared", "shared", "shared", "any", "any", "reader", "constant"))
         length = MOST_STEPS if self.shape == "most words" else rng.choice((1, 2, 3, 4, 5, 6, rng.randrange(1, 13)))
         steps = [self.step(theme, params, partition, k + 1 == length) for k in range(length)]
+        steps = self.begun(steps, params) if rng.randrange(4) else steps
         self.add(params, partition, self.with_tells(steps) if rng.randrange(3) == 0 else steps)
+
+    def begun(self, steps, params):
+        """Some steps with a set in place of a take that would find the working number as it is at first, 0."""
+        k = next((k for k, word in enumerate(steps) if field(word, 31, 28) in (3, 5, 6, 8)), None)
+        takes = k is not None and field(steps[k], 31, 28) == 8
+        return steps[:k] + [self.number_step(5, params)] + steps[k + 1 :] if takes else steps
 
     def with_tells(self, steps):
         """Some steps with 1 to 4 tells among them; where that would be more than twelve, tells stand in place of steps before the last."""

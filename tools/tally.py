@@ -3,12 +3,12 @@
 from collections import Counter, defaultdict
 
 from choices import Choice, same_globals
-from model import CELLS, FIXED, MOST_OPEN, MOST_TOLD, NO_PARTITION, OUTGOING, REPLY_WORDS, ROWS
+from model import ACTS, CELLS, FIXED, MOST_OPEN, MOST_TOLD, NO_PARTITION, OUTGOING, REPLY_WORDS, ROWS, WORD
 from model import apply_update, cell_of, field, reply_of, run, updates_of
 from plans import MOST_FIXED, TELL_WORD, step_places
 
 TOLD = ["one number", "two numbers", "three numbers", "four numbers"]
-# What is counted, each at least 50 times in 500 histories, or as FEWER says; what is seen, each so many numbers; the largest numbers, each
+# What is counted, each at least 50 times in 500 histories, or as LEAST says; what is seen, each so many numbers; the largest numbers, each
 # so large.
 COUNTS = ["histories", "with the premise", "without the premise", "calls", "histories on a chosen plan", "choices"]
 COUNTS += ["choices with %d open" % count for count in range(MOST_OPEN + 1)]
@@ -17,12 +17,18 @@ COUNTS += ["choices that cost more with the rest left out", "choices where plan 
 COUNTS += ["calls on an open plan", "faults beside open fields"]
 FAULTS = ["faults by %d beside open fields" % q for q in range(1, 5)] + ["faults by %d beside seven open fields" % q for q in range(1, 5)]
 COUNTS += FAULTS + ["free runs", "local runs", "waits", "elsewhere"]
-COUNTS += ["declined at a request", "declined at a visit", "runs that told", "declined after telling", "runs that told at a visit"]
+COUNTS += ["declined at a request", "declined at a visit"]
+STOPS = {6: "add", 7: "need", 8: "take"}
+# Adds and takes of more than 0, by kind and by how far the result is past the largest word or below 0.
+ENDS = {(6, 0): "adds to 4294967295", (6, 1): "adds to one past it", (8, 0): "takes to 0", (8, 1): "takes to one below it"}
+COUNTS += ["declined by " + stop + where for stop in STOPS.values() for where in ("", " at a visit", " between writes", " after telling")]
+COUNTS += [*ENDS.values(), "runs that told", "declined after telling", "runs that told at a visit"]
 COUNTS += ["told %s" % count for count in TOLD] + ["visits accepted", "visits with several replies"]
 COUNTS += ["operations finished by visits", "changed frames accepted"] + ["refused by %d" % q for q in range(1, 18)]
 COUNTS += ["serial replies checked", "serial cells checked"]
-FEWER = {"choices that cost more with the rest left out": 10, "choices where plan order decides": 20}
-FEWER.update({name: 5 if "seven" in name else 10 for name in FAULTS})
+LEAST = {"choices that cost more with the rest left out": 10, "choices where plan order decides": 20}
+LEAST.update({"declined by add": 300, "declined by take": 300})
+LEAST.update({name: 5 if "seven" in name else 10 for name in FAULTS})
 RANGES = {name + where: count for where in (" in plans", " in runs") for name, count in (("tables", 8), ("columns", 4), ("rows", ROWS))}
 RANGES.update({"low bits of damaged transactions": 8, "fields of damaged transactions": 10})
 LARGEST = {"largest fixed number in plans": MOST_FIXED, "largest fixed number in runs": MOST_FIXED}
@@ -97,8 +103,8 @@ class Tally:
         self.seen["fields of damaged transactions"] |= {field(word, 19, 16)} & set(range(4, 14))
 
     def run(self, t, params, book, reply, where):
-        """Notes a run with its reply. It is run again on the book before it, for a told word of 0 does not say whether it was told. If it
-        was done, all of its steps ran."""
+        """Notes a run with its reply. It is run again on the book before it, for a reply says neither whether a 0 was told nor which step
+        declined. If it was done, all of its steps ran."""
         result = run(t, params, book)
         apply_update(result.update, book)
         if reply_of(result) != tuple(reply):
@@ -106,11 +112,26 @@ class Tally:
         for step in t.steps if result.done else []:
             self.step(step, " in runs", cell_of(step, params) % 128 // 4 if step.kind in (3, 4) else None)
         self.counts["declined at a " + where] += not result.done
+        self.acts(t, result, where)
         if result.told:
             self.counts["runs that told"] += 1
             self.counts["runs that told at a " + where] += 1
             self.counts["declined after telling"] += not result.done
             self.counts["told " + TOLD[len(result.told) - 1]] += 1
+
+    def acts(self, t, result, where):
+        """Notes by which step a run was declined, and adds and takes at the two ends of a word."""
+        for kind, number, operand in result.acts:
+            past = {6: number + operand - WORD + 1, 8: operand - number}.get(kind)
+            if operand and (kind, past) in ENDS:
+                self.counts[ENDS[kind, past]] += 1
+        if not result.done:
+            stop = [k for k, s in enumerate(t.steps) if s.kind in ACTS][len(result.acts) - 1]
+            name = "declined by " + STOPS[t.steps[stop].kind]
+            self.counts[name] += 1
+            self.counts[name + " at a visit"] += where == "visit"
+            self.counts[name + " between writes"] += all(any(s.kind == 4 for s in part) for part in (t.steps[:stop], t.steps[stop:]))
+            self.counts[name + " after telling"] += result.told != []
 
     def request(self, plan, transaction, params, answer, book):
         """Notes a request that was not refused, with the desk's book before it."""
@@ -146,7 +167,7 @@ class Tally:
 
     def check(self):
         """Raises an exception if something is rare or a range was not reached."""
-        rare = [name for name in COUNTS if self.counts[name] < FEWER.get(name, 50)]
+        rare = [name for name in COUNTS if self.counts[name] < LEAST.get(name, 50)]
         rare += [name for name, count in RANGES.items() if len(self.seen[name]) < count]
         rare += [name for name, number in LARGEST.items() if max(self.seen[name], default=0) < number]
         if rare:

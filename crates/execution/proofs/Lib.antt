@@ -3,3 +3,4 @@ pub mod Running
 pub mod Runs
 pub mod ToldNumbers
 pub mod Telling
+pub mod Actions

@@ -1,5 +1,5 @@
 -- "Running a transaction": the reply and the update of a run on a store (01: a book).
-use Prim.Native.Nat.{ℕ, _+_, _-_, _^_, _%_}
+use Prim.Native.Nat.{ℕ, _+_, _-_}
 use mathlib.Core.Bool.{Bool, true, false, cond}
 use mathlib.Core.List.{List, [], _∷_, _++_}
 use lib.ListN.{getD, set}
@@ -35,12 +35,12 @@ pub data Next : Type 0 where
   continues : ℕ → Next
   stops : Next
 
--- "Set makes it the operand; add adds the operand and take subtracts it, both modulo 2^32. Need declines the run unless the
--- working number is at least the operand; equal passes."
+-- "Set makes it the operand; add adds the operand and take subtracts it"; "an add whose sum exceeds 4,294,967,295, and a take below zero,
+-- declines the run". "Need declines the run unless the working number is at least the operand; equal passes."
 unfoldable pub act : Action → ℕ → ℕ → Next
 act sets x v = continues v
-act adds x v = continues ((x + v) % 2 ^ 32)
-act takes x v = continues ((x + (2 ^ 32 - v)) % 2 ^ 32)
+act adds x v = cond (leb (x + v) 4294967295) (continues (x + v)) stops
+act takes x v = cond (leb v x) (continues (x - v)) stops
 act needs x v = cond (leb v x) (continues x) stops
 
 abbrev pub onward : Next → (ℕ → Outcome) → Outcome → Outcome

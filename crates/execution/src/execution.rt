@@ -42,7 +42,7 @@ enum Next {
     Decline,
 }
 
-// Set, add, need and take: kinds 5 to 8.
+// Set, add, need and take: kinds 5 to 8. An add past the largest word and a take below zero decline, as a need does that is not met.
 fn act(kind: u32, number: u32, operand: u32) -> Next
     ensures { λ r. ⌜ nextOf r ≡ actOn (actionBy kind) number operand ⌝ }
 {
@@ -50,7 +50,10 @@ fn act(kind: u32, number: u32, operand: u32) -> Next
         return Next::Continue(operand);
     }
     if kind == 6 {
-        return Next::Continue(std::num::wrapping_add_u32(number, operand));
+        if u32::MAX - number < operand {
+            return Next::Decline;
+        }
+        return Next::Continue(number + operand);
     }
     if kind == 7 {
         if operand <= number {
@@ -58,7 +61,10 @@ fn act(kind: u32, number: u32, operand: u32) -> Next
         }
         return Next::Decline;
     }
-    Next::Continue(std::num::wrapping_sub_u32(number, operand))
+    if number < operand {
+        return Next::Decline;
+    }
+    Next::Continue(number - operand)
 }
 
 // The number that the set, add, need or take step in this word names.

@@ -29,7 +29,7 @@ pub record System : Type 1 where
   -- "It may read or write the cells of all its read or write steps, run or not": A.8 asks them of many operations at once
   pub Reads : Op → ℕ → Type 0
   pub Writes : Op → ℕ → Type 0
-  -- "Running a transaction": A.1 and A.3 change the reply, A.3 also the update, which is then empty where a sum goes round
+  -- "Running a transaction": A.1 and A.3 change the reply, A.3 also the update, which is empty where a sum would go round
   pub reply : Op → Store → Reply
   pub update : Op → Store → Update
   -- how "a global one at its own desk joins that desk's line, in the order laid down for the row": at the end ("the earliest first")
