@@ -12,6 +12,7 @@ use Rattle.plan.specs.Admission.{tellCount, mostTells}
 use Rattle.operation.specs.Operation.{valueOf, cellNumber}
 use Rattle.operation.specs.Store.{Store, Update}
 use Rattle.execution.specs.Run.{Outcome, replyWith, declined, Next, continues, stops, act, onward, runFrom}
+use Rattle.execution.proofs.RunAppend.{run-append}
 use Rattle.execution.specs.Telling.{toldWords, ToldInOrder, UntoldZero, StopEnds, SameButTold, TellsOnly}
 
 -- ---- the four words of a reply
@@ -84,24 +85,6 @@ module _ (ps : List ℕ) where
   told-at (tells ∷ ss) after s x ts u k e h d =
       told-at ss after s x (ts ++ (x ∷ [])) u k (omega (arith, length-append ts (x ∷ []))) h d
 
-  -- ---- behind a stop nothing runs
-
-  onward-ends : (n : Next) (f g : ℕ → Outcome) (a : Outcome) → ((y : ℕ) → f y .reply .done ≡ false → g y ≡ f y)
-      → onward n f a .reply .done ≡ false → onward n g a ≡ onward n f a
-  onward-ends (continues y) f g a h d = h y d
-  onward-ends stops f g a h d = refl
-
-  ends-at : (before after : List Step) (s : Store) (x : ℕ) (ts : List ℕ) (u : Update) → runFrom ps before s x ts u .reply .done ≡ false
-      → runFrom ps (before ++ after) s x ts u ≡ runFrom ps before s x ts u
-  unfolding runFrom
-  ends-at [] after s x ts u d = absurd (false≢true (sym d))
-  ends-at (cell reads t c r ∷ ss) after s x ts u d = ends-at ss after s (getD s (cellNumber t (valueOf ps r) c) 0) ts u d
-  ends-at (cell writes t c r ∷ ss) after s x ts u d = ends-at ss after _ x ts _ d
-  ends-at (operand g v ∷ ss) after s x ts u d =
-      onward-ends (act g x (valueOf ps v)) (λ y. runFrom ps ss s y ts u) (λ y. runFrom ps (ss ++ after) s y ts u) (declined x ts)
-      (λ y. ends-at ss after s y ts u) d
-  ends-at (tells ∷ ss) after s x ts u d = ends-at ss after s x (ts ++ (x ∷ [])) u d
-
   -- ---- a step that tells changes nothing else
 
   onward-same : (n : Next) (f g : ℕ → Outcome) (a b : Outcome) → ((y : ℕ) → SameButTold (f y) (g y)) → SameButTold a b
@@ -121,17 +104,6 @@ module _ (ps : List ℕ) where
       (record { done = refl; number = refl; update = refl })
   told-apart (tells ∷ ss) s x ts vs u = told-apart ss s x (ts ++ (x ∷ [])) (vs ++ (x ∷ [])) u
 
-  only-told : (before after : List Step) (s : Store) (x : ℕ) (ts : List ℕ) (u : Update)
-      → SameButTold (runFrom ps (before ++ (tells ∷ after)) s x ts u) (runFrom ps (before ++ after) s x ts u)
-  unfolding runFrom
-  only-told [] after s x ts u = told-apart after s x (ts ++ (x ∷ [])) ts u
-  only-told (cell reads t c r ∷ ss) after s x ts u = only-told ss after s (getD s (cellNumber t (valueOf ps r) c) 0) ts u
-  only-told (cell writes t c r ∷ ss) after s x ts u = only-told ss after _ x ts _
-  only-told (operand g v ∷ ss) after s x ts u =
-      onward-same (act g x (valueOf ps v)) _ _ (declined x ts) (declined x ts) (λ y. only-told ss after s y ts u)
-      (record { done = refl; number = refl; update = refl })
-  only-told (tells ∷ ss) after s x ts u = only-told ss after s x (ts ++ (x ∷ [])) u
-
 pub told-in-order : ToldInOrder
 told-in-order ps before after s h d = told-at ps before after s 0 [] [] (tellCount before) (omega arith) h d
 
@@ -139,7 +111,13 @@ pub untold-zero : UntoldZero
 untold-zero ps ss s k h = untold ps ss s 0 [] [] k (omega arith)
 
 pub stop-ends : StopEnds
-stop-ends ps before after s d = ends-at ps before after s 0 [] [] d
+stop-ends ps before after s d =
+    run-append ps after [] (λ (o : Outcome). o .reply .done ≡ false) (λ (o _ p : Outcome). o ≡ p)
+    (λ s x ts u e. absurd (false≢true (sym e))) (λ x ts e. refl) before s 0 [] [] d
 
 pub tells-only : TellsOnly
-tells-only ps before after s = only-told ps before after s 0 [] []
+unfolding runFrom
+tells-only ps before after s =
+    run-append ps (tells ∷ after) after (λ (o : Outcome). Unit) (λ (o p _ : Outcome). SameButTold o p)
+    (λ s x ts u e. told-apart ps after s x (ts ++ (x ∷ [])) ts u) (λ x ts e. record { done = refl; number = refl; update = refl })
+    before s 0 [] [] tt
