@@ -3,7 +3,7 @@ claim. Such a case is a line `say Choose: NAME` with a claim of that name below;
 
 from functools import lru_cache
 
-from model import Plan, candidates, costs, field, filled, globals_by_masks, globals_by_trying
+from model import Plan, candidates, costs, desk_masks, field, filled, globals_by_masks, globals_by_trying, shared_cells
 
 
 class Choice:
@@ -132,7 +132,9 @@ CLAIMS = {
 
 
 @lru_cache(maxsize=1024)
-def same_globals(words):
-    """Whether trying operations and masks agree on the transactions that have a global operation, in the plan of a tuple of words."""
+def same_by_masks(words):
+    """Whether trying operations and masks agree in the plan of a tuple of words, which is accepted: on the transactions that have a global
+    operation, and on the cells that two or more desks may touch."""
     plan = Plan(words)
-    return list(globals_by_trying(plan)) == list(globals_by_masks(plan))
+    shared = shared_cells([desk_masks(t, plan.desks) for t in plan.transactions])
+    return list(globals_by_trying(plan)) == list(globals_by_masks(plan)) and sum(1 << cell for cell in plan.shared) == shared

@@ -4,7 +4,8 @@
 
 Every line is followed by the interpreter of script.py over the model as soon as it is written, so that the plan, the states, the frames
 and all answers are known while the next line is drawn. At the end of a history that keeps the premise of demand 3 the model's answers are
-held to the serial run of model.py. A history is drawn by its number and the seed alone, so that it can be drawn without those before it.
+held to the serial run of model.py, and so are the bulletins if they began as the books. A history is drawn by its number and the seed
+alone, so that it can be drawn without those before it.
 """
 
 import random
@@ -42,7 +43,8 @@ def any_word(rng):
 class History:
     """One history. `premise` says whether it keeps the premise so far; a forging one is drawn so that it mostly does not. The token is
     the number of the frame that the latest accepted visit sent, and `by_hand` the desk whose state is not as the calls left it, if any.
-    `chosen` are the places of the transactions whose fields were chosen."""
+    `chosen` are the places of the transactions whose fields were chosen. What is drawn of bulletins is drawn apart, and changes no other
+    draw; `other_bulletins` says whether they begin unlike the books."""
 
     def __init__(self, number, seed, interpreter, lines, tally):
         self.number, self.rng = number, random.Random("%d %d" % (seed, number))
@@ -50,6 +52,8 @@ class History:
         self.shape = "full round" if number % 500 == 19 else SHAPES[number % len(SHAPES)]
         self.forging = self.shape not in ("full round", "long pass") and self.rng.randrange(100) < 31
         self.request_share = self.rng.choice((84, 78, 70, 62))
+        self.apart = random.Random("bulletins %d %d" % (seed, number))
+        self.other_bulletins = self.forging and self.apart.randrange(3) == 0
         self.calls, self.token, self.premise, self.by_hand = 0, 0, True, None
         self.clients, self.given, self.visits, self.highest = [], [], [], 0
 
@@ -75,6 +79,10 @@ class History:
         """A copy of a desk's book."""
         return self.holding(desk).book[:CELLS]
 
+    def bulletin_of(self, desk):
+        """A copy of a desk's bulletin."""
+        return self.holding(desk).bulletin[:CELLS]
+
     # The opening and the course
 
     def open(self):
@@ -85,17 +93,27 @@ class History:
         fill = rng.choice(("", "%d" % any_word(rng), "seed %d" % rng.randrange(1000), "%d" % (WORD - 1 - rng.randrange(32))))
         for desk in range(self.n):
             self.call("desk %d" % desk)
-            if fill:
-                self.write("cells %d %s" % (desk, fill))
+            self.fill(desk, fill)
             if rng.randrange(4) == 0:
                 self.write("records %d 0 33 client %d %s" % (desk, self.client(), text_of(*self.operation())))
         self.serial, self.book = Serial(self.plan), self.book_of(0)
+        self.bulletins = [self.bulletin_of(desk) for desk in range(self.n)]
         if rng.randrange(8) == 0:
             self.call("visit 0")
         if rng.randrange(8) == 0:
             self.lent("out %d" % rng.randrange(4), lambda: self.call("start"))
         self.call("start")
         self.sent = {tuple(STARTING_FRAME)}
+
+    def fill(self, desk, fill):
+        """The book of a new desk, zeros if nothing is said, and its bulletin, which is made equal to it, or to another book before."""
+        if self.other_bulletins:
+            self.write("cells %d %s%d" % (desk, self.apart.choice(("", "seed ", "seed ")), any_word(self.apart)))
+            self.write("bulletin %d" % desk)
+        if fill or self.other_bulletins:
+            self.write("cells %d %s" % (desk, fill or "0"))
+        if fill and not self.other_bulletins:
+            self.write("bulletin %d" % desk)
 
     def draw_plan(self):
         """The plan, often with open fields, which are then chosen. With more than six one is closed as it was drawn."""
@@ -305,7 +323,7 @@ class History:
         self.premise = self.premise and desk != self.by_hand and not changed
         self.sent.add(tuple(call.out))
         self.token, self.highest = len(self.interpreter.frames) - 1, call.words[1]
-        self.visits.append((self.serial.accepted_visit(desk), call.answer[2], call.replies))
+        self.visits.append((self.serial.accepted_visit(desk, call.words[1]), call.answer[2], call.replies))
 
     def pass_on(self, steps):
         """As many visits by `pass`. Nothing waits at their desks, but for the last one, which is visited once if something does."""
@@ -317,7 +335,7 @@ class History:
             raise Difference("history %d: a visit was refused on the way" % self.number)
         for frame in frames[first:-1]:
             self.sent.add(tuple(frame))
-            self.visits.append((self.serial.accepted_visit((frame[1] - 1) % self.n), 0, []))
+            self.visits.append((self.serial.accepted_visit((frame[1] - 1) % self.n, frame[1] - 1), 0, []))
         self.tally.counts["visits accepted"] += steps - 1
         self.accepted_visit(desk, book)
 
@@ -443,8 +461,22 @@ class History:
         replies = "replies %d" % rng.choice((REPLIES - 1, REPLIES, rng.randrange(REPLIES), REPLIES + rng.randrange(17)))
         if rng.randrange(3):
             self.lent(rng.choice((book, row, out, replies, out + " " + replies)), self.token_visit)
+            self.lent("bulletin %d" % self.bulletin_size(), self.besides)
         else:
-            self.lent(rng.choice((book, row, book + " " + row, out)), self.usual_request)
+            self.lent(rng.choice((book, row, book + " " + row, out)) + " bulletin %d" % self.bulletin_size(), self.usual_request)
+
+    def bulletin_size(self):
+        """A size that no bulletin may have."""
+        return self.apart.choice((1023, 1025, 0, 1040, self.apart.randrange(CELLS)))
+
+    def besides(self):
+        """The token's visit, refused for the size of the bulletin. It is not one of the 60, so that the others are drawn as without it."""
+        calls = self.calls
+        self.token_visit()
+        if self.interpreter.last.answer != refused(5):
+            raise Difference("history %d: a bulletin of a wrong size is not refused" % self.number)
+        self.calls = calls
+        self.tally.counts["bulletins of a wrong size"] += 1
 
     def set_state(self, desk, state):
         self.write("state %d desk %d waiting %d awaits %d" % (desk, *state))
@@ -522,6 +554,8 @@ class History:
             self.set_state(desk, state._replace(waiting=0))
         else:
             self.write("cell %d %d %d" % (desk, rng.choice((self.touched_cell(), rng.randrange(1040))), any_word(rng)))
+        if self.apart.randrange(3) == 0:
+            self.write("bulletin %d" % desk)
         self.call_at(desk)
 
     # Calls that change nothing, and damaged plans
@@ -616,14 +650,15 @@ class History:
         counts = self.tally.counts
         counts["histories"] += 1
         counts["with the premise" if self.premise else "without the premise"] += 1
+        counts["histories with other bulletins"] += self.other_bulletins
         if self.premise:
             self.check_serial_run()
             self.tally.seen["highest visit accepted with the premise"].add(self.highest)
         self.write("say history %d: premise %skept" % (self.number, "" if self.premise else "not "))
 
     def check_serial_run(self):
-        """Holds all replies, with their told numbers, and all cells to the serial run."""
-        due, book = self.serial.end(self.book)
+        """Holds all replies, with their told numbers, and all cells to the serial run, and bulletins that began as the books."""
+        due, book, cuts = self.serial.end(self.book)
         given = list(self.given)
         for names, count, replies in self.visits:
             if count != len(names) or len(replies) != REPLY_WORDS * len(names):
@@ -638,6 +673,25 @@ class History:
                 raise Difference("history %d: cell %d is not that of the serial run" % (self.number, cell))
         self.tally.counts["serial replies checked"] += len(given)
         self.tally.counts["serial cells checked"] += CELLS
+        if not self.other_bulletins:
+            self.tally.bulletins([self.check_bulletin(desk, cuts) for desk in range(self.n)])
+
+    def check_bulletin(self, desk, cuts):
+        """Holds a desk's bulletin, and its book where two or more desks may touch it, to the serial run cut behind some global: the book
+        behind as many as were finished by its latest visit, the bulletin behind as many as by the one a round before, which no desk may
+        have had less of. What one desk may touch, or none, is in the bulletin as at first. Gives the visits and the globals that the
+        bulletin shows, and its shared cells, each as it is there, in the book and in the starting book."""
+        visits, count = self.serial.shown(desk)
+        book, bulletin, shared = self.book_of(desk), self.bulletin_of(desk), set(self.plan.shared)
+        if any(g < count for g in self.serial.g):
+            raise Difference("history %d: the bulletin of desk %d shows a global that some desk has not had" % (self.number, desk))
+        for cell in range(CELLS):
+            due = cuts[count] if cell in shared else self.bulletins[desk]
+            if bulletin[cell] != due[cell]:
+                raise Difference("history %d: cell %d in the bulletin of desk %d is not that of the serial run" % (self.number, cell, desk))
+            if cell in shared and book[cell] != cuts[self.serial.g[desk]][cell]:
+                raise Difference("history %d: cell %d at desk %d is not that of the serial run so far" % (self.number, cell, desk))
+        return visits, count, [(bulletin[c], book[c], self.book[c]) for c in shared]
 
 
 def script(histories, seed, first=0):

@@ -133,7 +133,8 @@ def tried(t, desks):
 
 class Plan:
     """A plan's verdict (0 if accepted). `form` is that of questions 1 to 4 alone, as the chooser asks them; where it is 0 the desks, the
-    transactions and those with an open field are known, and for an accepted plan who may touch and write each cell."""
+    transactions and those with an open field are known, and for an accepted plan who may touch and write each cell, and which cells two or
+    more desks may touch."""
 
     def __init__(self, words):
         self.words = list(words)
@@ -145,6 +146,7 @@ class Plan:
         self.writers = [set() for _ in range(CELLS)]
         if self.verdict == 0:
             self.try_operations()
+        self.shared = [cell for cell in range(CELLS) if len(self.touchers[cell]) >= 2]
 
     def read(self):
         words = self.words
@@ -462,11 +464,11 @@ def request(plan, state, book, row, client, transaction, params):
     return ("waits",), state._replace(waiting=state.waiting + 1)
 
 
-def visit_question(plan, state, book, row, frame, out, replies):
+def visit_question(plan, state, book, bulletin, row, frame, out, replies):
     """The questions of a visit, 0 if all are answered with yes."""
     if plan.verdict:
         return plan.verdict
-    if len(book) != CELLS or len(row) != ROWS or len(out) < OUTGOING or len(replies) < REPLIES:
+    if len(book) != CELLS or len(bulletin) != CELLS or len(row) != ROWS or len(out) < OUTGOING or len(replies) < REPLIES:
         return 5
     if not question_6(plan, state, row):
         return 6
@@ -479,11 +481,13 @@ def visit_question(plan, state, book, row, frame, out, replies):
     return 0 if frame[1] < WORD - 1 else 15
 
 
-def visit(plan, state, book, row, frame, out, replies):
-    """A visit: the answer and the state after it."""
-    question = visit_question(plan, state, book, row, frame, out, replies)
+def visit(plan, state, book, bulletin, row, frame, out, replies):
+    """A visit: the answer and the state after it. The bulletin is set before anything else."""
+    question = visit_question(plan, state, book, bulletin, row, frame, out, replies)
     if question:
         return refused(question), state
+    for cell in plan.shared:
+        bulletin[cell] = book[cell]
     updates = [u for u in updates_of(frame[2:-2]) if u[0] != state.desk]
     for _, update in updates:
         apply_update(update, book)
@@ -504,7 +508,8 @@ def visit(plan, state, book, row, frame, out, replies):
 
 
 class Serial:
-    """The serial run of a history, told of each accepted call. An operation is (name, transaction, params); names are the caller's."""
+    """The serial run of a history, told of each accepted call. An operation is (name, transaction, params); names are the caller's. Of the
+    accepted visits it is noted how many globals the first k of them finished, and of each desk its latest visit."""
 
     def __init__(self, plan):
         self.plan = plan
@@ -513,6 +518,7 @@ class Serial:
         self.globals = 0
         self.finished = []
         self.latest = 0
+        self.globals_by, self.latest_visits = [0], [None] * plan.desks
 
     def accepted_request(self, desk, name, transaction, params):
         found = self.plan.class_of(transaction, params)
@@ -522,24 +528,35 @@ class Serial:
         elif found == ("global", desk):
             self.lines[desk].append((name, transaction, params))
 
-    def accepted_visit(self, desk):
-        """Gives the names of what the visit finishes, in the order of its replies."""
+    def accepted_visit(self, desk, number):
+        """Gives the names of what the visit of this number finishes, in the order of its replies."""
         line, self.lines[desk] = self.lines[desk], []
         for name, transaction, params in line:
             self.globals += 1
             self.finished.append(((self.globals, 0, 0, 0), name, transaction, params))
         self.g[desk] = self.globals
         self.latest = desk
+        self.globals_by.append(self.globals)
+        self.latest_visits[desk] = number
         return [name for name, _, _ in line]
 
     def end(self, book):
-        """The replies due by name, and the cells' serial values, from the starting book."""
-        book, due = list(book), {}
-        for _, name, transaction, params in sorted(self.finished):
+        """The replies due by name, the cells' serial values, from the starting book, and the books behind no global, the first, the second
+        and so on: the serial order up to and with it, local and free runs before it included."""
+        book, due, cuts = list(book), {}, [list(book)]
+        for key, name, transaction, params in sorted(self.finished):
             result = run(self.plan.transactions[transaction], params, book)
             apply_update(result.update, book)
             due[name] = reply_of(result)
-        return due, book
+            if key[1] == 0:
+                cuts.append(list(book))
+        return due, book, cuts
+
+    def shown(self, desk):
+        """The visits and the globals that a desk's bulletin shows: those of all visits up to and with the one a round before its latest."""
+        latest = self.latest_visits[desk]
+        visits = 0 if latest is None else max(0, latest + 1 - self.plan.desks)
+        return visits, self.globals_by[visits]
 
     def desk_with(self, cell):
         """The desk in whose book a cell has its serial value."""

@@ -3,15 +3,15 @@ With `write` it writes the files instead: python3 tools/outputs.py write
 
 The expected outputs are the answers of script.py: to each example alone, to what `belt` is run on (all examples, then questions.txt) and
 to what `histories` is run on (random histories). The values that the paper states of its own course stand below as they are printed
-there, and values of sums at the two ends of a word, reckoned by hand; the run of `belt` is held to both first, then to the claims of
-choices.py.
+there, and values of sums at the two ends of a word and of bulletins, reckoned by hand; the run of `belt` is held to all of them first, then
+to the claims of choices.py.
 """
 
 import sys
 from pathlib import Path
 
 import histories
-from choices import CLAIMS, Choice, same_globals
+from choices import CLAIMS, Choice, same_by_masks
 from script import Interpreter, answers
 
 ROOT = Path(__file__).resolve().parent.parent
@@ -71,6 +71,71 @@ GAS = [
     ("visit 1", "desk 1: visit 1 by frame 1: 2 replies, client 31 done, 4294967295, client 32 declined, 4294967295;"),
 ]
 
+# What staff and page read, on the plan of examples/8-bulletin.txt for three desks, from level 1 on: "An accepted visit sets each bulletin
+# cell that two or more desks may touch to what the desk's book held before the visit". Cell 128 is the level, which every desk may touch,
+# cell 20 a station of desk 2 alone. Frame 1 has the words of the paper's course.
+BULLETIN_PLAN = "1303000A 22300000 32700000 62000000 42700000 21100000 32700000 22200000 52000000 40000000"
+BULLETIN = [
+    ("class T0 0 2", "T0(0, 2): global at desk 0\n"),
+    ("class T2 5 24", "T2(5, 24): local at desk 2\n"),
+    ("request 0 client 7 T0 0 2", "desk 0: T0(0, 2) of client 7: waits;"),
+    (
+        "visit 0",
+        "desk 0: visit 0 by frame 0: 1 reply, client 7 done, 3; sends frame 1 of 7 words: "
+        "91000007 00000001 A0100000 B0000080 00000003 E110008B 1530012A; cell 128 is now 3; 0 waiting, awaits visit 3\n",
+    ),
+    ("request 0 client 8 T1 0", "desk 0: T1(0) of client 8: done, 3\n"),
+    ("show desk 0", "desk 0: 0 waiting, awaits visit 3\n  cell 128 is 3\n  bulletin cell 128 is 1\n"),
+    (
+        "visit 1",
+        "desk 1: visit 1 by frame 1: 0 replies; sends frame 2 of 7 words: "
+        "92000007 00000002 A0100000 B0000080 00000003 E210008C 1A30012E; cell 128 is now 3; 0 waiting, awaits visit 4\n",
+    ),
+    ("request 2 client 8 T1 2", "desk 2: T1(2) of client 8: done, 1\n"),
+    ("request 2 client 9 T2 5 24", "desk 2: T2(5, 24) of client 9: done, 24; cell 20 is now 24\n"),
+    ("show desk 1", "desk 1: 0 waiting, awaits visit 4\n  cell 128 is 3\n  bulletin cell 128 is 1\n"),
+    (
+        "visit 2",
+        "desk 2: visit 2 by frame 2: 0 replies; sends frame 3 of 7 words: "
+        "90000007 00000003 A0100000 B0000080 00000003 E010008D 10300132; cell 128 is now 3; 0 waiting, awaits visit 5\n",
+    ),
+    ("visit 2 frame 2", "desk 2: visit by frame 2: refused 14:"),
+    (
+        "show desk 2",
+        "desk 2: 0 waiting, awaits visit 5\n  cell 20 is 24\n  cell 128 is 3\n  bulletin cell 20 is 0\n  bulletin cell 128 is 1\n",
+    ),
+    (
+        "visit 0",
+        "desk 0: visit 3 by frame 3: 0 replies; sends frame 4 of 4 words: "
+        "91000004 00000004 91000008 2200000C; bulletin cell 128 is now 3; 0 waiting, awaits visit 6\n",
+    ),
+    (
+        "visit 1",
+        "desk 1: visit 4 by frame 4: 0 replies; sends frame 5 of 4 words: "
+        "92000004 00000005 92000009 2400000D; bulletin cell 128 is now 3; 0 waiting, awaits visit 7\n",
+    ),
+    (
+        "visit 2",
+        "desk 2: visit 5 by frame 5: 0 replies; sends frame 6 of 4 words: "
+        "90000004 00000006 9000000A 2000000E; bulletin cell 128 is now 3; 0 waiting, awaits visit 8\n",
+    ),
+    ("show desk 2", "desk 2: 0 waiting, awaits visit 8\n  cell 20 is 24\n  cell 128 is 3\n  bulletin cell 20 is 0\n"),
+    ("pass 3", "desk 2: visit 8 by frame 8: 1 reply, client 7 done, 6; sends frame 9 of 13 words:"),
+    ("show desk 0", "desk 0: 0 waiting, awaits visit 9\n  cell 128 is 4\n  bulletin cell 128 is 3\n"),
+    ("show desk 1", "desk 1: 0 waiting, awaits visit 10\n  cell 128 is 5\n  bulletin cell 128 is 3\n"),
+    (
+        "visit 0",
+        "desk 0: visit 9 by frame 9: 0 replies; sends frame 10 of 10 words: "
+        "9100000A 0000000A A1100000 B0000080 00000005 A2100000 B0000080 00000006 3420011F 04900430; "
+        "cell 128 is now 6; bulletin cell 128 is now 4; 0 waiting, awaits visit 12\n",
+    ),
+    ("visit 1", "desk 1: visit 10 by frame 10: 0 replies; sends frame 11 of 7 words:"),
+    ("visit 2", "desk 2: visit 11 by frame 11: 0 replies; sends frame 12 of 4 words:"),
+    ("show desk 0", "desk 0: 0 waiting, awaits visit 12\n  cell 128 is 6\n  bulletin cell 128 is 4\n"),
+    ("show desk 1", "desk 1: 0 waiting, awaits visit 13\n  cell 128 is 6\n  bulletin cell 128 is 5\n"),
+    ("show desk 2", "desk 2: 0 waiting, awaits visit 14\n  cell 20 is 24\n  cell 128 is 6\n  bulletin cell 20 is 0\n"),
+]
+
 
 def followed(script):
     """Each line of a script, without its comment: the command, the plan before it, its answer, the call that it made, or None, and the
@@ -101,10 +166,10 @@ def hold_to_stated(script, plan, stated_lines):
 
 def hold_to_claims(script):
     """Ends with a message unless each claim stands in the script and the choice behind it is as it says, or if trying operations and masks
-    differ: on what is global in an accepted plan, or on a choice."""
+    differ: on what is global or shared in an accepted plan, or on a choice."""
     pending, claimed = dict(CLAIMS), None
     for command, before, _, call, interpreter in followed(script):
-        if interpreter.plan.verdict == 0 and not same_globals(tuple(interpreter.plan.words)):
+        if interpreter.plan.verdict == 0 and not same_by_masks(tuple(interpreter.plan.words)):
             sys.exit("%s: trying operations and masks differ on the plan behind it" % command)
         if command.startswith("say Choose: "):
             claimed = command.removeprefix("say Choose: ")
@@ -132,6 +197,7 @@ def expected():
     belt += (ROOT / "tools/questions.txt").read_bytes()
     hold_to_stated(belt, PLAN, STATED)
     hold_to_stated(belt, GAS_PLAN, GAS)
+    hold_to_stated(belt, BULLETIN_PLAN, BULLETIN)
     hold_to_claims(belt)
     drawn = histories.script(HISTORIES, SEED)
     for name, script in (("belt", belt), ("histories", drawn)):

@@ -13,8 +13,8 @@ import model
 from model import CELLS, FIXED, NO_PARTITION, OPEN, OUTGOING, REPLIES, REPLY_WORDS, ROWS, TELL, WORD, Desk, Plan, Request, field, sums
 
 SLOTS, KEPT_FRAMES, MOST_PASSES, MOST_WORDS, LONGEST_LINE, HIGHEST = 8, 64, 1000000, 6420, 65536, WORD - 1
-FIT = {b"book": CELLS, b"row": ROWS, b"out": OUTGOING, b"replies": REPLIES}
-HELD = {b"book": 1040, b"row": 33, b"out": MOST_WORDS, b"replies": 240}
+FIT = {b"book": CELLS, b"bulletin": CELLS, b"row": ROWS, b"out": OUTGOING, b"replies": REPLIES}
+HELD = {b"book": 1040, b"bulletin": 1040, b"row": 33, b"out": MOST_WORDS, b"replies": 240}
 MARKS = [0xF0F00000 + i for i in range(MOST_WORDS)]
 VERBS = {3: "read", 4: "write", 5: "set", 6: "add", 7: "need", 8: "take"}
 QUESTIONS = {
@@ -37,8 +37,9 @@ QUESTIONS = {
     17: "a partitioning field is open",
 }
 
-# What a call was, at which desk, the plan or frame handed in, the model's answer, and what an accepted call wrote.
-Call = namedtuple("Call", "kind desk words answer out replies", defaults=(None, None))
+# What a call was, at which desk, the plan or frame handed in, the model's answer, and what an accepted call wrote; of a visit also which
+# cells of the bulletin it changed.
+Call = namedtuple("Call", "kind desk words answer out replies shown", defaults=(None, None, ()))
 
 
 @lru_cache(maxsize=32)
@@ -244,21 +245,30 @@ def others_text(*buffers):
 # ---- The interpreter
 
 
+def changed_cells(held, lent):
+    """The cells of a book or a bulletin that are others in what a call was lent than in what is held."""
+    return [] if lent == held[: len(lent)] else [c for c in range(len(lent)) if lent[c] != held[c]]
+
+
+def take_cells(held, lent, name):
+    """Takes back the cells that a call was lent, and says by their name which are others than before."""
+    cells = changed_cells(held, lent)
+    held[: len(lent)] = lent
+    if len(cells) > 24:
+        return "; %d %ss changed, sums %08X %08X" % (len(cells), name, *sums(held))
+    return "".join("; %s %d is now %d" % (name, c, lent[c]) for c in cells)
+
+
 class Holding:
     """A desk that is made."""
 
     def __init__(self, state):
-        self.state, self.book, self.row = state, [0] * HELD[b"book"], [Request(0, 0, 0, 0, 0, 0)] * HELD[b"row"]
+        self.state, self.book, self.bulletin = state, [0] * HELD[b"book"], [0] * HELD[b"bulletin"]
+        self.row = [Request(0, 0, 0, 0, 0, 0)] * HELD[b"row"]
 
-    def take_back(self, slot, book, row, state):
+    def take_back(self, slot, book, bulletin, row, state):
         """Takes back what a call was lent, and says what is another than before."""
-        text = ""
-        if book != self.book[: len(book)]:
-            cells = [c for c in range(len(book)) if book[c] != self.book[c]]
-            self.book[: len(book)] = book
-            text = "".join("; cell %d is now %d" % (c, book[c]) for c in cells)
-            if len(cells) > 24:
-                text = "; %d cells changed, sums %08X %08X" % (len(cells), *sums(self.book))
+        text = take_cells(self.book, book, "cell") + take_cells(self.bulletin, bulletin, "bulletin cell")
         for i, record in enumerate(row):
             if record != self.row[i]:
                 self.row[i] = record
@@ -422,7 +432,7 @@ class Interpreter:
         desk = self.desks[slot]
         book, row = desk.book[: self.lent[b"book"]], desk.row[: self.lent[b"row"]]
         answer, state = model.request(self.plan, desk.state, book, row, client, transaction, params)
-        changes = desk.take_back(slot, book, row, state)
+        changes = desk.take_back(slot, book, [], row, state)
         case = said = answer[0]
         if case == "replied":
             case = "done" if answer[1] else "declined"
@@ -451,10 +461,11 @@ class Interpreter:
     def visit(self, slot, words, name, answered=True):
         """A visit by some words with their name; one that is not answered writes nothing."""
         desk = self.desks[slot]
-        book, row = desk.book[: self.lent[b"book"]], desk.row[: self.lent[b"row"]]
+        book, bulletin, row = desk.book[: self.lent[b"book"]], desk.bulletin[: self.lent[b"bulletin"]], desk.row[: self.lent[b"row"]]
         out, replies = MARKS[: self.lent[b"out"]], MARKS[: self.lent[b"replies"]]
-        answer, state = model.visit(self.plan, desk.state, book, row, words, out, replies)
-        changes = desk.take_back(slot, book, row, state)
+        answer, state = model.visit(self.plan, desk.state, book, bulletin, row, words, out, replies)
+        shown = changed_cells(desk.bulletin, bulletin)
+        changes = desk.take_back(slot, book, bulletin, row, state)
         if answer[0] == "refused":
             changes += others_text((out, 0), (replies, 0))
             self.answer(Call("visit", slot, words, answer), "desk %d: visit by %s" % (slot, name), "", changes, answered)
@@ -463,7 +474,7 @@ class Interpreter:
         changes += others_text((out, len(sent)), (replies, len(given)))
         who, said = "desk %d: visit %d by %s" % (slot, words[1], name), replies_text(given) + "; " + self.send(sent)
         self.count_visit(words, name, sent, answer[2])
-        self.answer(Call("visit", slot, words, answer, sent, given), who, said, changes, answered)
+        self.answer(Call("visit", slot, words, answer, sent, given, shown), who, said, changes, answered)
 
     def count_visit(self, words, name, sent, replies):
         self.counts["visits"] += 1
@@ -501,6 +512,8 @@ class Interpreter:
         for cell, value in enumerate(desk.book):
             if value != 0:
                 self.say("  cell %d is %d" % (cell, value))
+        for cell in changed_cells(desk.book, desk.bulletin):
+            self.say("  bulletin cell %d is %d" % (cell, desk.bulletin[cell]))
 
     def show_frame(self, line):
         number = self.kept(line)
@@ -534,6 +547,11 @@ class Interpreter:
             value = (value * 1664525 + 1013904223) % WORD if drawn else value
             self.desks[slot].book[cell] = value
 
+    def do_bulletin(self, line):
+        slot = self.slot(line)
+        line.end()
+        self.desks[slot].bulletin = list(self.desks[slot].book)
+
     def do_records(self, line):
         slot, start, end = self.slot(line), line.number(HELD[b"row"]), line.number(HELD[b"row"])
         client, (_, transaction, params) = line.named_number("client"), line.operation()
@@ -544,7 +562,7 @@ class Interpreter:
         lent = dict(FIT)
         while line.more():
             name = line.take()
-            line.need(name in HELD, "book, row, out or replies is expected")
+            line.need(name in HELD, "book, bulletin, row, out or replies is expected")
             lent[name] = line.number(HELD[name])
         self.lent = lent
 

@@ -2,7 +2,7 @@
 
 from collections import Counter, defaultdict
 
-from choices import Choice, same_globals
+from choices import Choice, same_by_masks
 from model import ACTS, CELLS, FIXED, MOST_OPEN, MOST_TOLD, NO_PARTITION, OUTGOING, REPLY_WORDS, ROWS, WORD
 from model import apply_update, cell_of, field, reply_of, run, updates_of
 from plans import MOST_FIXED, TELL_WORD, step_places
@@ -25,9 +25,19 @@ COUNTS += ["declined by " + stop + where for stop in STOPS.values() for where in
 COUNTS += [*ENDS.values(), "runs that told", "declined after telling", "runs that told at a visit"]
 COUNTS += ["told %s" % count for count in TOLD] + ["visits accepted", "visits with several replies"]
 COUNTS += ["operations finished by visits", "changed frames accepted"] + ["refused by %d" % q for q in range(1, 18)]
-COUNTS += ["serial replies checked", "serial cells checked"]
+# What is held to the serial run; it is written last.
+CHECKED = ["serial replies checked", "serial cells checked", "histories with bulletins checked", "histories with a visit shown"]
+CHECKED += ["histories with a global shown", "bulletins checked", "bulletins that show a visit", "bulletins that show a global"]
+CHECKED += ["bulletin cells checked", "shared bulletin cells checked", "shared bulletin cells unlike the book"]
+CHECKED += ["shared bulletin cells unlike the starting book"]
+COUNTS += ["histories with other bulletins", "bulletins of a wrong size", "visits that changed a bulletin cell"]
+COUNTS += ["visits that changed many bulletin cells", "visits that left an unshared bulletin cell unlike the book"]
+COUNTS += CHECKED
 LEAST = {"choices that cost more with the rest left out": 10, "choices where plan order decides": 20}
-LEAST.update({"declined by add": 300, "declined by take": 300})
+LEAST.update({"declined by add": 300, "declined by take": 300, "histories with other bulletins": 25})
+LEAST.update({"visits that changed a bulletin cell": 500, "visits that left an unshared bulletin cell unlike the book": 500})
+LEAST.update({"histories with a global shown": 100, "bulletins that show a global": 300, "shared bulletin cells checked": 10000})
+LEAST.update({"shared bulletin cells unlike the book": 500, "shared bulletin cells unlike the starting book": 1000})
 LEAST.update({name: 5 if "seven" in name else 10 for name in FAULTS})
 RANGES = {name + where: count for where in (" in plans", " in runs") for name, count in (("tables", 8), ("columns", 4), ("rows", ROWS))}
 RANGES.update({"low bits of damaged transactions": 8, "fields of damaged transactions": 10})
@@ -65,8 +75,8 @@ class Tally:
 
     def compare(self, words):
         """Compares trying operations with masks on the words of a plan that is accepted."""
-        if not same_globals(tuple(words)):
-            raise Difference("trying operations and masks differ on what is global")
+        if not same_by_masks(tuple(words)):
+            raise Difference("trying operations and masks differ on what is global or shared")
 
     def choice(self, plan, cost, words):
         """Notes an accepted choice, with the plan before it, its cost and the words after it."""
@@ -141,9 +151,28 @@ class Tally:
         self.counts[plan.class_of(transaction, params)[0] + " runs"] += 1
         self.run(plan.transactions[transaction], params, book, answer[1:], "request")
 
+    def bulletins(self, bulletins):
+        """Notes the bulletins of a history, which were held to the serial run: of each how many visits it shows with how many globals, and
+        its shared cells, each as it is in the bulletin, in the book and in the starting book."""
+        self.counts["histories with bulletins checked"] += 1
+        self.counts["histories with a visit shown"] += any(visits > 0 for visits, _, _ in bulletins)
+        self.counts["histories with a global shown"] += any(count > 0 for _, count, _ in bulletins)
+        for visits, count, cells in bulletins:
+            self.counts["bulletins checked"] += 1
+            self.counts["bulletins that show a visit"] += visits > 0
+            self.counts["bulletins that show a global"] += count > 0
+            self.counts["bulletin cells checked"] += CELLS
+            self.counts["shared bulletin cells checked"] += len(cells)
+            self.counts["shared bulletin cells unlike the book"] += sum(shown != held for shown, held, _ in cells)
+            self.counts["shared bulletin cells unlike the starting book"] += sum(shown != first for shown, _, first in cells)
+
     def visit(self, plan, call, holding, book, changed):
         """Notes an accepted visit, with its desk after it and the book before it, and whether its frame was one that no desk had sent."""
         self.counts["visits accepted"] += 1
+        self.counts["visits that changed a bulletin cell"] += len(call.shown) > 0
+        self.counts["visits that changed many bulletin cells"] += len(call.shown) > 24
+        unshared = set(range(CELLS)).difference(plan.shared)
+        self.counts["visits that left an unshared bulletin cell unlike the book"] += any(holding.bulletin[c] != book[c] for c in unshared)
         self.counts["visits with several replies"] += call.answer[2] > 1
         self.counts["operations finished by visits"] += call.answer[2]
         for desk, update in updates_of(call.words[2:-2]):
@@ -163,7 +192,7 @@ class Tally:
         lines = ["%s %d" % (name, self.counts[name]) for name in COUNTS]
         ranges = ["%s %d of %d" % (name, len(self.seen[name]), count) for name, count in RANGES.items()]
         largest = ["%s %d" % (name, max(self.seen[name], default=0)) for name in LARGEST]
-        return lines[:-2] + ranges + largest + lines[-2:]
+        return lines[: -len(CHECKED)] + ranges + largest + lines[-len(CHECKED) :]
 
     def check(self):
         """Raises an exception if something is rare or a range was not reached."""

@@ -9,6 +9,7 @@ pub mod Classified
 pub mod Witness
 pub mod Touching
 pub mod MaskMeaning
+pub mod SharedCells
 pub mod WrittenMeaning
 pub mod WriteWords
 pub mod Classes

@@ -51,10 +51,10 @@ desk-low p o h = go (transactionOf p o .part)
     go undecided = h
 
 module _ (ws : List ℕ) (e : planVerdict ws ≡ accepted) (c : ℕ) where
-  found-toucher : (d : ℕ) → touched (planOf ws) c d ≡ true → Toucher (planOf ws) d c
+  pub found-toucher : (d : ℕ) → touched (planOf ws) c d ≡ true → Toucher (planOf ws) d c
   found-toucher d h = let a = touched-gives ws e d c h in toucher-of (planOf ws) d c (a .0) (a .1)
 
-  toucher-found : (d : ℕ) → Toucher (planOf ws) d c → touched (planOf ws) c d ≡ true
+  pub toucher-found : (d : ℕ) → Toucher (planOf ws) d c → touched (planOf ws) c d ≡ true
   toucher-found d t = let a = of-toucher (planOf ws) d c t in gives-touched ws e d c (a .0) (a .1)
 
   -- the mask has desk d exactly if some operation of desk d may touch the cell

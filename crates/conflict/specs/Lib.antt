@@ -5,3 +5,4 @@ pub mod Class
 pub mod Classification
 pub mod Answer
 pub mod Meaning
+pub mod Shared

@@ -53,7 +53,7 @@ pub fn has_write(plan: &[u32], at: usize) -> bool
 }
 
 // The number of desks in a mask is the count of ones in it.
-fn desks_in(mask: u8) -> u32
+pub(crate) fn desks_in(mask: u8) -> u32
     ensures { λ r. ⌜ r ≡ ones mask ⌝ }
 {
     u32::count_ones(mask as u32)

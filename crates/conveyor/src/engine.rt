@@ -40,20 +40,31 @@ pub fn request(
     step.result
 }
 
-// A visit of the token at a desk. The queue is only read.
+// A visit of the token at a desk, which is lent its snapshot besides (the paper's bulletin). The queue is only read.
 pub fn visit(
     plan: &[u32],
     state: Desk,
     cells: &mut [u32],
+    snapshot: &mut [u32],
     queue: &[Request],
     frame: &[u32],
     out: &mut [u32],
     replies: &mut [u32],
 ) -> VisitResult
-    ensures { λ r. ⌜ visitedOf r (now (cells .exit)) (now (out .exit)) (now (replies .exit))
-        ≡ visitResult (now (plan .entry)) (holding state (now (cells .entry)) (now (queue .entry)))
+    ensures { λ r. ⌜ visitedOf r (now (cells .exit)) (now (snapshot .exit)) (now (out .exit)) (now (replies .exit))
+        ≡ visitResult (now (plan .entry)) (holding state (now (cells .entry)) (now (queue .entry))) (now (snapshot .entry))
         (now (frame .entry)) (now (out .entry)) (now (replies .entry)) ⌝ }
 {
     let row = queue::copied(queue, state.waiting);
-    visits::visit_by_value(plan, state, cells, queue.len(), row, frame, out, replies)
+    visits::visit_by_value(
+        plan,
+        state,
+        cells,
+        snapshot,
+        queue.len(),
+        row,
+        frame,
+        out,
+        replies,
+    )
 }

@@ -39,6 +39,7 @@ use Rattle.visits.proofs.OwnUpdates.{replies-count}
 use Rattle.history.specs.Answering.{WaitsAt, replyPart, storeBefore, AnswersWaiting, VisitAnswersWaiting}
 use Rattle.history.specs.AcceptedVisit.{RecordsFit, Sends, VisitFrameReads, ChangedWordRefused}
 use Rattle.history.proofs.Operations.{Runs}
+use Rattle.history.proofs.Protocol.{Sizes}
 use Rattle.history.proofs.Sound.{Sound, Six, six}
 use Rattle.history.proofs.Visits.{turn-of, sends-reads}
 
@@ -61,7 +62,7 @@ replies-at p (r ∷ q) s (suc k) rest l =
     ∙ ap (take replySize) (drop-append-add (replyWords (replyTo p r s)) (repliesWords (repliesOf p q after) ++ rest) (replySize * k))
     ∙ replies-at p q after k rest (omega arith)
 
-module _ (plan : List ℕ) (h : Holding) (frame out replies : List ℕ) where
+module _ (plan : List ℕ) (h : Holding) (snapshot frame out replies : List ℕ) where
   abbrev d : Desk
   d = h .state
 
@@ -75,29 +76,29 @@ module _ (plan : List ℕ) (h : Holding) (frame out replies : List ℕ) where
   given = repliesOf (planOf plan) waiting caught
 
   abbrev left : Visited
-  left = visitResult plan h frame out replies
+  left = visitResult plan h snapshot frame out replies
 
   abbrev sends : List ℕ
   sends = outgoingFrame (planOf plan) h frame
 
   -- ---- acceptance shows the verdict
 
-  forwarded-accepted : (words count : ℕ) (v : Verdict) → visitedBy (planOf plan) h frame out replies v .answer ≡ forwarded words count
-      → v ≡ accepted
+  forwarded-accepted : (words count : ℕ) (v : Verdict)
+      → visitedBy (planOf plan) h frame snapshot out replies v .answer ≡ forwarded words count → v ≡ accepted
   forwarded-accepted words count accepted e = refl
   forwarded-accepted words count (refused q) e = cc
 
   module _ (words count : ℕ) (answered : left .answer ≡ forwarded words count) where
-    verdict-of : visitVerdict plan h frame out replies ≡ accepted
+    verdict-of : visitVerdict plan h snapshot frame out replies ≡ accepted
     unfolding visitResult
-    verdict-of = forwarded-accepted words count (visitVerdict plan h frame out replies) answered
+    verdict-of = forwarded-accepted words count (visitVerdict plan h snapshot frame out replies) answered
 
     plan-of : planVerdict plan ≡ accepted
     unfolding visitVerdict
     plan-of = then-accepted (planVerdict plan) _ verdict-of .0
 
     abbrev fit : Bool
-    fit = deskBuffersFit (h .cells) (h .queue) && visitBuffersFit out replies
+    fit = deskBuffersFit (h .cells) (h .queue) && visitBuffersFit snapshot out replies
 
     rest-of : (fit ≡ true) × (deskFits (planOf plan) d (h .queue) ≡ true)
     unfolding visitVerdict
@@ -111,7 +112,7 @@ module _ (plan : List ℕ) (h : Holding) (frame out replies : List ℕ) where
     size-of : length (h .queue) ≡ 32
     unfolding deskBuffersFit
     size-of =
-        let b = and-fst (deskBuffersFit (h .cells) (h .queue)) (visitBuffersFit out replies) (rest-of .0) in
+        let b = and-fst (deskBuffersFit (h .cells) (h .queue)) (visitBuffersFit snapshot out replies) (rest-of .0) in
         eqb-true (length (h .queue)) 32 (and-snd (eqb (length (h .cells)) 1024) _ b)
 
     room-of : d .waiting ≤ length (h .queue)
@@ -181,7 +182,8 @@ module _ (plan : List ℕ) (h : Holding) (frame out replies : List ℕ) where
           room = room-of;
           runs = mem-All (Runs (planOf plan)) waiting (waits-runs fit);
         } in
-        let r = sends-reads plan plan-of (λ q. length (h .queue)) h ok frame out replies (turn-of plan h frame out replies verdict-of) in
+        let sizes : Sizes = record { records = λ q. length (h .queue); words = λ q. length snapshot } in
+        let r = sends-reads plan plan-of sizes h ok snapshot frame out replies (turn-of plan h snapshot frame out replies verdict-of) in
         let whole : take words (left .out) ≡ sends =
         rw (accepted-is .2, same-words (accepted-is .0)) (take-append-seam sends (drop (length sends) out)) in
         rw whole
@@ -196,14 +198,14 @@ module _ (plan : List ℕ) (h : Holding) (frame out replies : List ℕ) where
 
 -- "runs all waiting requests in order": each waiting request is answered at this visit, and no other
 pub visit-answers-waiting : VisitAnswersWaiting
-visit-answers-waiting plan h frame out replies words count e = answers-waiting plan h frame out replies words count e
+visit-answers-waiting plan h snapshot frame out replies words count e = answers-waiting plan h snapshot frame out replies words count e
 
 pub visit-frame-reads : VisitFrameReads
-visit-frame-reads plan h frame out replies words count e = frame-reads plan h frame out replies words count e
+visit-frame-reads plan h snapshot frame out replies words count e = frame-reads plan h snapshot frame out replies words count e
 
 pub changed-word-refused : ChangedWordRefused
 unfolding visitResult visitVerdict
-changed-word-refused plan h frame out replies a b c words reads i x l hx ne =
+changed-word-refused plan h snapshot frame out replies a b c words reads i x l hx ne =
     ⊎-elim (λ (e : frameVerdict (planOf plan .desks) (set frame i x) ≡ refused 10). inl (rw (a, b, c, e) refl))
     (λ (e : frameVerdict (planOf plan .desks) (set frame i x) ≡ refused 11). inr (rw (a, b, c, e) refl))
     (one-word (planOf plan .desks) frame words reads i x l hx ne)

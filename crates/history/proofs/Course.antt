@@ -6,7 +6,7 @@ use mathlib.Core.List.{[], _∷_, List·Memᴰ·head, List·Memᴰ·tail}
 use lib.Count.{ones}
 use native.Mathlib.Omega.{arith}
 use lib.ListN.{getD}
-use Rattle.lists.specs.Lists.{every, some}
+use Rattle.lists.specs.Lists.{every, some, tabulate}
 use Rattle.word.specs.Reserved.{reservedZero, sourceField}
 use Rattle.plan.specs.Decode.{stepOf, partBy, accessBy, actionBy, transactionsOf, planOf}
 use Rattle.plan.specs.Admission.{hasHead, countsInRange, transactionFormed, stepFormed, tellCount, sourceExists, stepExists, partExists}
@@ -27,6 +27,7 @@ use Rattle.visits.specs.Admission.{visitBuffersFit, turnVerdict}
 use Rattle.requests.specs.Request.{requestVerdict, requestResult}
 use Rattle.token.specs.Forward.{foreign, applyAll}
 use Rattle.visits.specs.Visit.{visitVerdict, visitResult}
+use Rattle.visits.specs.Snapshot.{copiedBy}
 use Rattle.visits.specs.Waiting.{runAll, updatesOf, repliesOf, repliesWords}
 use Rattle.history.specs.Course.{Course}
 use Rattle.plan.specs.Admission as plans
@@ -46,7 +47,7 @@ unfolding ones openPlanVerdict planVerdict hasHead countsInRange transactionsVer
     updatesFrom sumsFrom frameAround cellsNamed transactionExists unusedZero rowInRange parametersPass operationVerdict applyUpdate act
     runFrom maskOf some rowTouched cellTouched stepTouches deskMask cellGiven stepWrites written classBy writeWords updateWords
     updatesWords deskBuffersFit visitBuffersFit waitsHere deskFits turnVerdict requestVerdict requestResult foreign applyAll
-    visitVerdict visitResult runAll updatesOf repliesOf repliesWords
+    visitVerdict visitResult copiedBy tabulate runAll updatesOf repliesOf repliesWords
 course =
     record {
       proper = (
@@ -73,7 +74,12 @@ course =
                   omega arith,
                   tt,
                   λ e. List·Memᴰ·tail (List·Memᴰ·head refl),
-                  (omega arith, small 1 0 (omega arith) (omega arith), λ e. tt, tt),
+                  (
+                    omega arith,
+                    small 1 0 (omega arith) (omega arith),
+                    λ e. tt,
+                    (omega arith, tt, λ e. List·Memᴰ·tail (List·Memᴰ·tail (List·Memᴰ·head refl)), tt),
+                  ),
                 ),
               ),
             ),

@@ -20,9 +20,10 @@ use Rattle.visits.specs.Visit.{Visited, visitedBy, visitVerdict, visitResult}
 use Rattle.visits.specs.Waiting.{Answered, repliesWords}
 use Rattle.serial.specs.Desk as desk
 use Rattle.serial.specs.Machine.{answersSeen}
-use Rattle.history.specs.History.{Call, request, visit, stepAt, outcomes}
+use Rattle.history.specs.History.{Call, request, visit, Kept, stepAt, outcomes}
 use Rattle.history.specs.SerialRun.{Classifies}
 use Rattle.history.specs.Claim.{repliesIn, PutsOut, EachGives}
+use Rattle.history.proofs.Protocol.{Sizes}
 use Rattle.history.proofs.Seen.{answeredSeen}
 use Rattle.history.proofs.View.{responseSeen, forwardingSeen, repliesRun}
 use Rattle.history.proofs.Machine.{machine}
@@ -47,12 +48,12 @@ response-given client asked.waits = refl
 response-given client (asked.redirected d) = refl
 response-given client (asked.requestRefused question) = refl
 
-module _ (ws : List ℕ) (h : Holding) (p : ℕ) (ft out replies : List ℕ) where
+module _ (ws : List ℕ) (h : Holding) (p : ℕ) (snapshot ft out replies : List ℕ) where
   abbrev rs : List Answered
   rs = repliesRun ws h (visit p ft out replies)
 
   abbrev by : Verdict → Visited
-  by v = visitedBy (planOf ws) h ft out replies v
+  by v = visitedBy (planOf ws) h ft snapshot out replies v
 
   put-by : (v : Verdict) (ts : List Answered) → desk.given (forwardingSeen (by v .answer) (by v .out) rs) ≡ map answeredSeen ts →
       PutsOut (by v .answer) replies (by v .replies) ts
@@ -62,18 +63,18 @@ module _ (ws : List ℕ) (h : Holding) (p : ℕ) (ft out replies : List ℕ) whe
   put-by (refused q) ts e = (sym (seen-once [] ts e), refl)
 
   pub visit-puts : (ts : List Answered) →
-      let v = visitResult ws h ft out replies in
+      let v = visitResult ws h snapshot ft out replies in
       desk.given (forwardingSeen (v .answer) (v .out) rs) ≡ map answeredSeen ts → PutsOut (v .answer) replies (v .replies) ts
   unfolding visitResult
-  visit-puts ts e = put-by (visitVerdict ws h ft out replies) ts e
+  visit-puts ts e = put-by (visitVerdict ws h snapshot ft out replies) ts e
 
 -- ---- every call
 
 module _ (ws : List ℕ) (accept : planVerdict ws ≡ accepted) (class : Operation → Class) (right : Classifies (planOf ws) class)
-    (records : ℕ → ℕ) (replies : ℕ → List Answered) where
-  abbrev pub Match : ℕ → List Call → (ℕ → Holding) → Type 0
+    (sizes : Sizes) (replies : ℕ → List Answered) where
+  abbrev pub Match : ℕ → List Call → (ℕ → Kept) → Type 0
   Match i cs w =
-      (j : ℕ) → getD (map desk.given (answersSeen (machine ws accept class right records) w cs)) j [] ≡ map answeredSeen (replies (i + j))
+      (j : ℕ) → getD (map desk.given (answersSeen (machine ws accept class right sizes) w cs)) j [] ≡ map answeredSeen (replies (i + j))
 
   first : (i : ℕ) (a : desk.Answer Reply) → desk.given a ≡ map answeredSeen (replies (i + 0)) → desk.given a ≡ map answeredSeen (replies i)
   first i a e = e ∙ ap (λ (k : ℕ). map answeredSeen (replies k)) (add-zero i)
@@ -81,22 +82,22 @@ module _ (ws : List ℕ) (accept : planVerdict ws ≡ accepted) (class : Operati
   later : (i j : ℕ) → map answeredSeen (replies (i + suc j)) ≡ map answeredSeen (replies (suc i + j))
   later i j = ap (λ (k : ℕ). map answeredSeen (replies k)) (omega arith)
 
-  pub each-gives : (cs : List Call) (w : ℕ → Holding) (i : ℕ) → Match i cs w → EachGives replies i cs (outcomes ws w cs)
+  pub each-gives : (cs : List Call) (w : ℕ → Kept) (i : ℕ) → Match i cs w → EachGives replies i cs (outcomes ws w cs)
   each-gives [] w i m = tt
   each-gives (request p client k ps ∷ cs) w i m =
-      let a = requestResult ws (w p) (recordOf client k ps) .answer in (
+      let a = requestResult ws (w p .holding) (recordOf client k ps) .answer in (
         seen-once (repliesIn client a) (replies i) (sym (response-given client a) ∙ first i (responseSeen client a) (m 0)),
         each-gives cs (stepAt ws w (request p client k ps)) (suc i) (λ j. m (suc j) ∙ later i j),
       )
   each-gives (visit p ft out buffer ∷ cs) w i m =
-      let v = visitResult ws (w p) ft out buffer in (
-        visit-puts ws (w p) p ft out buffer (replies i)
-            (first i (forwardingSeen (v .answer) (v .out) (repliesRun ws (w p) (visit p ft out buffer))) (m 0)),
+      let v = visitResult ws (w p .holding) (w p .snapshot) ft out buffer in (
+        visit-puts ws (w p .holding) p (w p .snapshot) ft out buffer (replies i)
+            (first i (forwardingSeen (v .answer) (v .out) (repliesRun ws (w p .holding) (visit p ft out buffer))) (m 0)),
         each-gives cs (stepAt ws w (visit p ft out buffer)) (suc i) (λ j. m (suc j) ∙ later i j),
       )
 
   -- past the last call nothing is given, so nothing is due
-  pub none-past : (cs : List Call) (w : ℕ → Holding) (i : ℕ) → Match i cs w → (j : ℕ) → i + length cs ≤ j → replies j ≡ []
+  pub none-past : (cs : List Call) (w : ℕ → Kept) (i : ℕ) → Match i cs w → (j : ℕ) → i + length cs ≤ j → replies j ≡ []
   none-past [] w i m j l =
       seen-once (replies j) [] (ap (λ (k : ℕ). map answeredSeen (replies k)) (omega arith) ∙ sym (m (j - i)))
   none-past (request p client k ps ∷ cs) w i m j l =

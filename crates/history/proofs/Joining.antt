@@ -87,13 +87,13 @@ module _ (plan : List ℕ) (h : Holding) where
 
   -- ---- a refused visit
 
-  module _ (frame out replies : List ℕ) (k : ℕ) (t : Request) (w : WaitsAt k t h) where
-    by-keeps : (v : Verdict) → isRefusedForwarding (visitedBy (planOf plan) h frame out replies v .answer) ≡ true →
-        WaitsAt k t (holdingAfter h (visited (visitedBy (planOf plan) h frame out replies v)))
+  module _ (snapshot frame out replies : List ℕ) (k : ℕ) (t : Request) (w : WaitsAt k t h) where
+    by-keeps : (v : Verdict) → isRefusedForwarding (visitedBy (planOf plan) h frame snapshot out replies v .answer) ≡ true →
+        WaitsAt k t (holdingAfter h (visited (visitedBy (planOf plan) h frame snapshot out replies v)))
     by-keeps accepted e = absurd (false≢true e)
     by-keeps (refused q) e = w
 
-    pub visit-keeps : isRefusedForwarding (visitResult plan h frame out replies .answer) ≡ true →
-        WaitsAt k t (holdingAfter h (visited (visitResult plan h frame out replies)))
+    pub visit-keeps : isRefusedForwarding (visitResult plan h snapshot frame out replies .answer) ≡ true →
+        WaitsAt k t (holdingAfter h (visited (visitResult plan h snapshot frame out replies)))
     unfolding visitResult
-    visit-keeps = by-keeps (visitVerdict plan h frame out replies)
+    visit-keeps = by-keeps (visitVerdict plan h snapshot frame out replies)

@@ -8,13 +8,17 @@ pub mod View
 pub mod Sound
 pub mod Requests
 pub mod Visits
+pub mod SnapshotCells
+pub mod SnapshotTaking
 pub mod Machine
 pub mod SerialSeen
 pub mod Places
 pub mod OrderSeen
+pub mod SnapshotsSeen
 pub mod Notes
 pub mod Given
 pub mod Claim
+pub mod Snapshots
 pub mod OrderRule
 pub mod Start
 pub mod VisitNumbers

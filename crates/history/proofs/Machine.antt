@@ -5,6 +5,7 @@ use Prim.Native.Nat.{ℕ, _≤_}
 use mathlib.Core.Path.{_≡_, refl, sym, _∙_, ap, ap₂, subst}
 use mathlib.Core.Bool.{Bool}
 use mathlib.Core.List.{List, [], _∷_, _++_, map}
+use lib.ListN.{length}
 use Rattle.verdict.specs.Verdict.{accepted}
 use Rattle.plan.specs.Decode.{planOf}
 use Rattle.plan.specs.Admission.{planVerdict}
@@ -15,7 +16,6 @@ use Rattle.execution.specs.Run.{Reply}
 use Rattle.conflict.specs.Class.{Class}
 use Rattle.frame.specs.Frame.{startingFrame}
 use Rattle.token.proofs.Readers.{starting-reads}
-use Rattle.desk.specs.Holding.{Holding}
 use Rattle.requests.specs.Request.{recordOf, requestResult}
 use Rattle.requests.specs.Request as asked
 use Rattle.visits.specs.Visit.{visitResult}
@@ -25,16 +25,17 @@ use Rattle.serial.specs.Frame as frame
 use Rattle.serial.specs.Desk as desk
 use Rattle.serial.specs.Step as step
 use Rattle.serial.specs.Machine.{Machine, Words, machineAfter, answersSeen, MachineProper}
-use Rattle.history.specs.History.{Call, request, visit, deskCalled, Outcome, requested, visited, isRefused, holdingAfter}
+use Rattle.history.specs.History.{Call, request, visit, deskCalled, Outcome, requested, visited, isRefused, Kept, holdingAfter}
 use Rattle.history.specs.History.{isRefusedResponse, isRefusedForwarding, frameWritten, written, outcome, stepAt, outcomeAt, outcomes}
-use Rattle.history.specs.History.{holdingsAfter, WordsFit, Proper}
+use Rattle.history.specs.History.{keptAfter, holdingsAfter, WordsFit, Proper}
 use Rattle.history.specs.SerialRun.{Classifies}
-use Rattle.history.proofs.Protocol.{Brought, system}
+use Rattle.history.proofs.Protocol.{Sizes, Brought, system}
 use Rattle.history.proofs.Seen.{frameSeen}
 use Rattle.history.proofs.View.{view, callSeen, responseSeen, forwardingSeen, outcomeSeen, repliesRun}
 use Rattle.history.proofs.Sound.{Sound}
 use Rattle.history.proofs.Requests.{request-seen, request-sound}
 use Rattle.history.proofs.Visits.{visit-seen, visit-sound}
+use Rattle.history.proofs.SnapshotCells.{left-length}
 
 -- the words of the frame that a call brings
 abbrev pub frameBrought : Call → List ℕ
@@ -65,16 +66,16 @@ forwarding-sends : (a : visiting.Forwarding) (out : List ℕ) (rs : List Answere
 forwarding-sends (visiting.forwarded words count) out rs = refl
 forwarding-sends (visiting.visitRefused question) out rs = refl
 
-module _ (ws : List ℕ) (h : Holding) (rs : List Answered) where
+module _ (ws : List ℕ) (h : Kept) (rs : List Answered) where
   pub refused-seen : (c : Call) → desk.isRefused (outcomeSeen c (outcome ws h c) rs) ≡ isRefused (outcome ws h c)
-  refused-seen (request p client k ps) = response-refused client (requestResult ws h (recordOf client k ps) .answer)
+  refused-seen (request p client k ps) = response-refused client (requestResult ws (h .holding) (recordOf client k ps) .answer)
   refused-seen (visit p ft out replies) =
-      let v = visitResult ws h ft out replies in forwarding-refused (v .answer) (v .out) rs
+      let v = visitResult ws (h .holding) (h .snapshot) ft out replies in forwarding-refused (v .answer) (v .out) rs
 
   pub sent-is : (c : Call) → desk.sent (outcomeSeen c (outcome ws h c) rs) ≡ map frameSeen (written (outcome ws h c))
-  sent-is (request p client k ps) = response-sends client (requestResult ws h (recordOf client k ps) .answer)
+  sent-is (request p client k ps) = response-sends client (requestResult ws (h .holding) (recordOf client k ps) .answer)
   sent-is (visit p ft out replies) =
-      let v = visitResult ws h ft out replies in forwarding-sends (v .answer) (v .out) rs
+      let v = visitResult ws (h .holding) (h .snapshot) ft out replies in forwarding-sends (v .answer) (v .out) rs
 
 -- the words that a visit brings are those of its frame
 pub shows : (c : Call) (p : ℕ) (f : frame.Frame) (x : Brought) → callSeen c ≡ desk.visit p f x → f ≡ frameSeen (frameBrought c)
@@ -89,43 +90,54 @@ start-seen ws accept =
     ap₂ (λ (v : ℕ) (ts : List (ℕ × Update)). record { number = v; updates = ts }) (r .number) (ap (map _) (r .sent))
 
 module _ (ws : List ℕ) (accept : planVerdict ws ≡ accepted) (class : Operation → Class) (right : Classifies (planOf ws) class)
-    (records : ℕ → ℕ) where
-  pub sound-does : (h : Holding) (c : Call) → WordsFit c → Sound ws records (desk.deskCalled (callSeen c)) h →
-      Sound ws records (desk.deskCalled (callSeen c)) (holdingAfter h (outcome ws h c))
-  sound-does h (request p client k ps) f ok =
-      subst (λ (q : ℕ). Sound ws records q h → Sound ws records q (holdingAfter h (requested (requestResult ws h (recordOf client k ps)))))
-      (ok .desk) (λ s. request-sound ws accept class right records h s client k ps f) ok
-  sound-does h (visit p ft out replies) f ok =
-      subst (λ (q : ℕ). Sound ws records q h → Sound ws records q (holdingAfter h (visited (visitResult ws h ft out replies))))
-      (ok .desk) (λ s. visit-sound ws accept records h s ft out replies) ok
+    (sizes : Sizes) where
+  -- what a history keeps of all that desk p keeps
+  abbrev pub Stands : ℕ → Kept → Type 0
+  Stands p h = Sound ws (sizes .records) p (h .holding) × (length (h .snapshot) ≡ sizes .words p)
 
-  abbrev pub Served : Holding → Call → Type 0
+  pub sound-does : (h : Kept) (c : Call) → WordsFit c → Sound ws (sizes .records) (desk.deskCalled (callSeen c)) (h .holding) →
+      Sound ws (sizes .records) (desk.deskCalled (callSeen c)) (keptAfter h (outcome ws h c) .holding)
+  sound-does h (request p client k ps) f ok =
+      subst (λ (q : ℕ). Sound ws (sizes .records) q (h .holding) → Sound ws (sizes .records) q (holdingAfter (h .holding)
+      (requested (requestResult ws (h .holding) (recordOf client k ps)))))
+      (ok .desk) (λ s. request-sound ws accept class right sizes (h .holding) s client k ps f) ok
+  sound-does h (visit p ft out replies) f ok =
+      subst (λ (q : ℕ). Sound ws (sizes .records) q (h .holding) → Sound ws (sizes .records) q (holdingAfter (h .holding)
+      (visited (visitResult ws (h .holding) (h .snapshot) ft out replies))))
+      (ok .desk) (λ s. visit-sound ws accept sizes (h .holding) s (h .snapshot) ft out replies) ok
+
+  -- no call changes the snapshot's length
+  pub length-does : (h : Kept) (c : Call) → length (keptAfter h (outcome ws h c) .snapshot) ≡ length (h .snapshot)
+  length-does h (request p client k ps) = refl
+  length-does h (visit p ft out replies) = left-length ws (h .holding) (h .snapshot) ft out replies
+
+  abbrev pub Served : Kept → Call → Type 0
   Served h c =
       _≡_ {A = desk.Desk Operation × desk.Answer Reply}
-      (view (holdingAfter h (outcome ws h c)), outcomeSeen c (outcome ws h c) (repliesRun ws h c))
-      (step.serve (system ws class records) (view h) (callSeen c))
+      (view (keptAfter h (outcome ws h c) .holding), outcomeSeen c (outcome ws h c) (repliesRun ws (h .holding) c))
+      (step.serve (system ws class sizes) (view (h .holding)) (callSeen c))
 
-  pub served : (h : Holding) (c : Call) → WordsFit c → Sound ws records (desk.deskCalled (callSeen c)) h → Served h c
+  pub served : (h : Kept) (c : Call) → WordsFit c → Stands (desk.deskCalled (callSeen c)) h → Served h c
   served h (request p client k ps) f ok =
-      subst (λ (q : ℕ). Sound ws records q h → Served h (request q client k ps)) (ok .desk)
-      (λ s. request-seen ws accept class right records h s client k ps f) ok
+      subst (λ (q : ℕ). Stands q h → Served h (request q client k ps)) (ok .0 .desk)
+      (λ s. request-seen ws accept class right sizes (h .holding) (s .0) client k ps f) ok
   served h (visit p ft out replies) f ok =
-      subst (λ (q : ℕ). Sound ws records q h → Served h (visit q ft out replies)) (ok .desk)
-      (λ s. visit-seen ws accept records h s ft out replies class) ok
+      subst (λ (q : ℕ). Stands q h → Served h (visit q ft out replies)) (ok .0 .desk)
+      (λ s. visit-seen ws accept sizes (h .holding) (s .0) (h .snapshot) ft out replies class (s .1)) ok
 
-  abbrev pub machine : Machine (system ws class records)
+  abbrev pub machine : Machine (system ws class sizes)
   machine =
       record {
-        State = Holding;
+        State = Kept;
         C = Call;
         A = Outcome × List Answered;
-        does = λ h c. (holdingAfter h (outcome ws h c), (outcome ws h c, repliesRun ws h c));
-        view = view;
+        does = λ h c. (keptAfter h (outcome ws h c), (outcome ws h c, repliesRun ws (h .holding) c));
+        view = λ h. view (h .holding);
         callOf = callSeen;
         answerOf = λ c a. outcomeSeen c (a .0) (a .1);
-        Ok = Sound ws records;
+        Ok = Stands;
         Fine = WordsFit;
-        ok-does = λ h c l f ok. sound-does h c f ok;
+        ok-does = λ h c l f ok. (sound-does h c f (ok .0), length-does h c ∙ ok .1);
         view-does = λ h c l f ok. ap (λ (x : desk.Desk Operation × desk.Answer Reply). x .0) (served h c f ok);
         answer-does = λ h c l f ok. ap (λ (x : desk.Desk Operation × desk.Answer Reply). x .1) (served h c f ok);
       }
@@ -139,28 +151,28 @@ module _ (ws : List ℕ) (accept : planVerdict ws ≡ accepted) (class : Operati
         out = λ a. written (a .0);
         start = startingFrame;
         shown-frame = shows;
-        out-frame = λ h c l f ok. sent-is ws h (repliesRun ws h c) c;
+        out-frame = λ h c l f ok. sent-is ws h (repliesRun ws (h .holding) c) c;
         start-frame = start-seen ws accept;
       }
 
   -- ---- its histories
 
-  pub after-is : (cs : List Call) (w : ℕ → Holding) → machineAfter machine w cs ≡ holdingsAfter ws w cs
+  pub after-is : (cs : List Call) (w : ℕ → Kept) → machineAfter machine w cs ≡ holdingsAfter ws w cs
   after-is [] w = refl
   after-is (request p client k ps ∷ cs) w = after-is cs (stepAt ws w (request p client k ps))
   after-is (visit p ft out replies ∷ cs) w = after-is cs (stepAt ws w (visit p ft out replies))
 
-  pub refusals-are : (cs : List Call) (w : ℕ → Holding) → map desk.isRefused (answersSeen machine w cs) ≡ map isRefused (outcomes ws w cs)
+  pub refusals-are : (cs : List Call) (w : ℕ → Kept) → map desk.isRefused (answersSeen machine w cs) ≡ map isRefused (outcomes ws w cs)
   refusals-are [] w = refl
   refusals-are (request p client k ps ∷ cs) w =
       ap₂ (λ (b : Bool) (bs : List Bool). b ∷ bs) (refused-seen ws (w p) [] (request p client k ps))
       (refusals-are cs (stepAt ws w (request p client k ps)))
   refusals-are (visit p ft out replies ∷ cs) w =
       ap₂ (λ (b : Bool) (bs : List Bool). b ∷ bs)
-      (refused-seen ws (w p) (repliesRun ws (w p) (visit p ft out replies)) (visit p ft out replies))
+      (refused-seen ws (w p) (repliesRun ws (w p .holding) (visit p ft out replies)) (visit p ft out replies))
       (refusals-are cs (stepAt ws w (visit p ft out replies)))
 
-  pub proper-is : (cs : List Call) (w : ℕ → Holding) (fs : List (List ℕ)) → Proper ws w fs cs → MachineProper machine frames w fs cs
+  pub proper-is : (cs : List Call) (w : ℕ → Kept) (fs : List (List ℕ)) → Proper ws w fs cs → MachineProper machine frames w fs cs
   proper-is [] w fs pr = tt
   proper-is (request p client k ps ∷ cs) w fs pr =
       (pr .0, pr .1, λ e. tt, proper-is cs (stepAt ws w (request p client k ps)) (fs ++ []) (pr .3))
@@ -168,6 +180,6 @@ module _ (ws : List ℕ) (accept : planVerdict ws ≡ accepted) (class : Operati
       let c : Call = visit p ft out replies in (
         pr .0,
         pr .1,
-        λ e. pr .2 (sym (refused-seen ws (w p) (repliesRun ws (w p) c) c) ∙ e),
+        λ e. pr .2 (sym (refused-seen ws (w p) (repliesRun ws (w p .holding) c) c) ∙ e),
         proper-is cs (stepAt ws w c) (fs ++ written (outcomeAt ws w c)) (pr .3),
       )

@@ -20,7 +20,7 @@ use Rattle.desk.specs.Holding.{Holding}
 use Rattle.desk.specs.Queueing.{operationOf}
 use Rattle.desk.specs.Admission.{deskBuffersFit, deskFits}
 use Rattle.requests.specs.Request.{recordOf, served, requestVerdict, requestResult}
-use Rattle.history.specs.History.{Call, request, visit, deskCalled, isRefusedResponse, isRefused, outcomeAt, stepAt, outcomes}
+use Rattle.history.specs.History.{Call, request, visit, deskCalled, isRefusedResponse, isRefused, Kept, outcomeAt, stepAt, outcomes}
 use Rattle.history.specs.History.{written, WordsFit, Proper}
 use Rattle.history.specs.SerialRun.{Serial, noteNothing, noteRun, noteJoin, noteRequest, ranked, noteVisit, note, noteAll}
 use Rattle.history.proofs.Operations.{Runs}
@@ -90,16 +90,16 @@ module _ (ws : List ℕ) where
       record-runs ws client k ps words c
 
   module _ (class : Operation → Class) where
-    note-noted : (w : ℕ → Holding) (c : Call) (s : Serial) → deskCalled c < planOf ws .desks → WordsFit c → Noted (planOf ws) s →
+    note-noted : (w : ℕ → Kept) (c : Call) (s : Serial) → deskCalled c < planOf ws .desks → WordsFit c → Noted (planOf ws) s →
         (b : Bool) → isRefused (outcomeAt ws w c) ≡ b → Noted (planOf ws) (note (planOf ws) class b s c)
     note-noted w c s l f n true e = nothing-noted (planOf ws) s n
     note-noted w (request d client k ps) s l f n false e =
         request-noted (planOf ws) (class (operationOf (recordOf client k ps)))
         (eqb (deskOf (planOf ws) (operationOf (recordOf client k ps))) d)
-        s d (recordOf client k ps) l n (accepted-runs (w d) client k ps f e)
+        s d (recordOf client k ps) l n (accepted-runs (w d .holding) client k ps f e)
     note-noted w (visit d ft out replies) s l f n false e = visit-noted (planOf ws) s d n
 
-    pub notes-noted : (cs : List Call) (w : ℕ → Holding) (fs : List (List ℕ)) (s : Serial) → Proper ws w fs cs → Noted (planOf ws) s →
+    pub notes-noted : (cs : List Call) (w : ℕ → Kept) (fs : List (List ℕ)) (s : Serial) → Proper ws w fs cs → Noted (planOf ws) s →
         Noted (planOf ws) (noteAll (planOf ws) class s cs (map isRefused (outcomes ws w cs)))
     notes-noted [] w fs s pr n = n
     notes-noted (c ∷ cs) w fs s pr n =

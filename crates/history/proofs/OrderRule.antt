@@ -67,9 +67,9 @@ at-desks S [] w fs pr = tt
 at-desks S (c ∷ cs) w fs pr = (pr .0, at-desks S cs (stepAt S w c) (fs ++ desk.sent (answerAt S w c)) (pr .2))
 
 pub order-follows-rule : OrderFollowsRule
-order-follows-rule plan accept class right cells rows cs pr =
-    let S : System = system plan class (λ q. length (rows q)) in
-    in-order (ordered plan accept class right cells rows cs pr)
-    (subst (Pairs protocolOrder.Precedes) (order-seen plan accept class right cells rows cs pr)
-    (protocolRule.order-follows-rule S (map callSeen cs) (refusals plan accept class right cells rows cs pr)
-    (at-desks S (map callSeen cs) (newDesks S cells) (startFrame ∷ []) (proper-seen plan accept class right cells rows cs pr))))
+order-follows-rule plan accept class right cells rows snapshots cs pr =
+    let S : System = system plan class (record { records = λ q. length (rows q); words = λ q. length (snapshots q) }) in
+    in-order (ordered plan accept class right cells rows snapshots cs pr)
+    (subst (Pairs protocolOrder.Precedes) (order-seen plan accept class right cells rows snapshots cs pr)
+    (protocolRule.order-follows-rule S (map callSeen cs) (refusals plan accept class right cells rows snapshots cs pr)
+    (at-desks S (map callSeen cs) (newDesks S cells) (startFrame ∷ []) (proper-seen plan accept class right cells rows snapshots cs pr))))

@@ -22,7 +22,7 @@ use Rattle.serial.proofs.SerialOrder.{Ranged}
 use Rattle.history.specs.Order.{Finished, before, insert, sortOnto}
 use Rattle.history.specs.SerialRun.{ranOne, storeAfter, due}
 use Rattle.history.proofs.Operations.{Runs}
-use Rattle.history.proofs.Protocol.{system}
+use Rattle.history.proofs.Protocol.{Sizes, system}
 use Rattle.history.proofs.Seen.{answeredSeen, ran-is, one-seen}
 use Rattle.history.proofs.SerialSeen.{slotSeen, finishedSeen}
 use Rattle.history.proofs.Places.{before-is}
@@ -79,16 +79,16 @@ module _ (p : Plan) where
 
 -- ---- the runs
 
-module _ (ws : List ℕ) (class : Operation → Class) (records : ℕ → ℕ) where
+module _ (ws : List ℕ) (class : Operation → Class) (sizes : Sizes) where
   -- the protocol of the plan
   abbrev pub S : System
-  S = system ws class records
+  S = system ws class sizes
 
   pub store-seen : (es : List Finished) (s : Store) → RunsAll (planOf ws) es →
       run.storeAfter S (map finishedSeen es) s ≡ storeAfter (planOf ws) es s
   store-seen [] s k = refl
   store-seen (e ∷ es) s k =
-      ap (run.storeAfter S (map finishedSeen es)) (one-seen ws class records (operationOf (e .request)) s (k .0 .0))
+      ap (run.storeAfter S (map finishedSeen es)) (one-seen ws class sizes (operationOf (e .request)) s (k .0 .0))
       ∙ store-seen es (ranOne (planOf ws) (e .request) s) (k .1)
 
   due-at : (b : Bool) (r : Answered) (rs : List Answered) →
@@ -101,7 +101,7 @@ module _ (ws : List ℕ) (class : Operation → Class) (records : ℕ → ℕ) w
   due-seen i [] s k = refl
   due-seen i (e ∷ es) s k =
       ap₂ (λ (m : Outcome) (rs : List (ℕ × Reply)). cond (eqb (e .by) i) ((e .request .client, m .reply) ∷ rs) rs)
-      (ran-is ws class records (operationOf (e .request)) s (k .0 .0))
-      (ap (run.due S i (map finishedSeen es)) (one-seen ws class records (operationOf (e .request)) s (k .0 .0))
+      (ran-is ws class sizes (operationOf (e .request)) s (k .0 .0))
+      (ap (run.due S i (map finishedSeen es)) (one-seen ws class sizes (operationOf (e .request)) s (k .0 .0))
       ∙ due-seen i es (ranOne (planOf ws) (e .request) s) (k .1))
       ∙ due-at (eqb (e .by) i) (replyTo (planOf ws) (e .request) s) (due (planOf ws) i es (ranOne (planOf ws) (e .request) s))

@@ -2,24 +2,31 @@
 -- Assumes nothing.
 use Prim.Native.Nat.{ℕ}
 use mathlib.Core.Bool.{Bool, true, false, _&&_, cond}
-use mathlib.Core.List.{List, [], _∷_, _++_}
-use lib.Dec.{ltb, eqb}
+use mathlib.Core.List.{List, []}
+use lib.Dec.{ltb, leb, eqb}
 use lib.ListN.{length}
 use Rattle.verdict.specs.Verdict.{Verdict, ask, _then_, isAccepted}
 use Rattle.plan.specs.Plan.{Plan}
 use Rattle.plan.specs.Decode.{planOf}
 use Rattle.operation.specs.Operation.{Operation, deskOf, MayRead, MayWrite}
 use Rattle.operation.specs.Admission.{IsOperation, operationVerdict}
-use Rattle.operation.specs.Store.{Store}
+use Rattle.operation.specs.Store.{Store, storeSize}
 use Rattle.execution.specs.Run.{Reply, Outcome, declined, run}
 use Rattle.conflict.specs.Class.{Class, free, local, global}
+use Rattle.frame.specs.Frame.{longestFrame}
 use Rattle.frame.specs.Admission.{frameVerdict}
 use Rattle.desk.specs.Queueing.{joinQueue}
-use Rattle.visits.specs.Admission.{visitBuffersFit, turnVerdict}
+use Rattle.visits.specs.Admission.{turnVerdict}
+use Rattle.visits.specs.Waiting.{repliesSize}
 use Rattle.serial.specs.Desk.{Desk, Call, request, visit}
 use Rattle.serial.specs.System.{System}
 use Rattle.serial.specs.System as protocol
 use Rattle.history.proofs.Operations.{isOperation}
+
+-- how many records the queue of each desk has, and how many words its snapshot: no call changes that
+pub record Sizes : Type 0 where
+  pub records : ℕ → ℕ
+  pub words : ℕ → ℕ
 
 -- what a visit brings besides the visit's number and the updates
 pub record Brought : Type 0 where
@@ -39,7 +46,7 @@ roomBy local own waiting = true
 roomBy global true waiting = ltb waiting 32
 roomBy global false waiting = true
 
-module _ (ws : List ℕ) (class : Operation → Class) (records : ℕ → ℕ) where
+module _ (ws : List ℕ) (class : Operation → Class) (sizes : Sizes) where
   abbrev pub thePlan : Plan
   thePlan = planOf ws
 
@@ -49,16 +56,20 @@ module _ (ws : List ℕ) (class : Operation → Class) (records : ℕ → ℕ) w
 
   -- 5 for a desk with this store and a queue of as many records as desk p's
   abbrev pub sizesFit : Store → ℕ → Bool
-  sizesFit s p = eqb (length s) 1024 && eqb (records p) 32
+  sizesFit s p = eqb (length s) 1024 && eqb (sizes .records p) 32
 
   -- 5, 7 and 8. Question 6 holds throughout a history
   abbrev pub requestAsked : Store → ℕ → Operation → Verdict
   requestAsked s p o = ask 5 (sizesFit s p) then operationVerdict thePlan o
 
+  -- 5 for a snapshot of as many words as desk p's, and for these buffers
+  abbrev pub buffersFit : ℕ → Brought → Bool
+  buffersFit p x = eqb (sizes .words p) storeSize && (leb longestFrame (length (x .out)) && leb repliesSize (length (x .replies)))
+
   -- 5 and 10 to 15
   abbrev pub visitAsked : Store → ℕ → ℕ → Brought → Verdict
   visitAsked s p awaited x =
-      ask 5 (sizesFit s p && visitBuffersFit (x .out) (x .replies))
+      ask 5 (sizesFit s p && buffersFit p x)
       then frameVerdict (thePlan .desks) (x .frame)
       then turnVerdict (record { desk = p; waiting = 0; awaited = awaited }) (x .frame)
 

@@ -25,7 +25,7 @@ use Rattle.serial.proofs.Stores.{Within-part}
 use Rattle.history.proofs.Transactions.{run-update-writes}
 use Rattle.history.specs.SerialRun.{Is, Classifies}
 use Rattle.history.proofs.Operations.{isOperation, is-of-decided}
-use Rattle.history.proofs.Protocol.{classSeen, ran, system}
+use Rattle.history.proofs.Protocol.{Sizes, classSeen, ran, system}
 
 seen-free : (k : Class) → classSeen k ≡ protocol.free → k ≡ free
 seen-free free e = refl
@@ -38,7 +38,7 @@ seen-local local e = refl
 seen-local global e = cc
 
 module _ (ws : List ℕ) (accept : planVerdict ws ≡ accepted) (class : Operation → Class) (right : Classifies (planOf ws) class)
-    (records : ℕ → ℕ) where
+    (sizes : Sizes) where
   abbrev Reads : Operation → ℕ → Type 0
   Reads o c = IsOperation (planOf ws) o × MayRead (planOf ws) o c
 
@@ -47,7 +47,7 @@ module _ (ws : List ℕ) (accept : planVerdict ws ≡ accepted) (class : Operati
 
   -- ---- runs
 
-  ran-reads : (o : Operation) (a b : Store) → Same (Reads o) a b → ran ws class records o a ≡ ran ws class records o b
+  ran-reads : (o : Operation) (a b : Store) → Same (Reads o) a b → ran ws class sizes o a ≡ ran ws class sizes o b
   ran-reads o a b s = go (isOperation (planOf ws) o) refl
     where
       go : (t : Bool) → isOperation (planOf ws) o ≡ t →
@@ -56,7 +56,7 @@ module _ (ws : List ℕ) (accept : planVerdict ws ≡ accepted) (class : Operati
           reads-decide (transactionOf (planOf ws) o) (o .params) a b (s .0) (λ c m. s .1 c (is-of-decided (planOf ws) o e, m))
       go false e = refl
 
-  ran-writes : (o : Operation) (s : Store) → Within (Writes o) (ran ws class records o s .update)
+  ran-writes : (o : Operation) (s : Store) → Within (Writes o) (ran ws class sizes o s .update)
   ran-writes o s = go (isOperation (planOf ws) o) refl
     where
       go : (t : Bool) → isOperation (planOf ws) o ≡ t → Within (Writes o) (cond t (run (planOf ws) o s) (declined 0 []) .update)
@@ -68,11 +68,11 @@ module _ (ws : List ℕ) (accept : planVerdict ws ≡ accepted) (class : Operati
   -- ---- classes
 
   -- the operation, and its touch
-  pub touch-of : (o : Operation) (c : ℕ) → Touches (system ws class records) o c → IsOperation (planOf ws) o × MayTouch (planOf ws) o c
+  pub touch-of : (o : Operation) (c : ℕ) → Touches (system ws class sizes) o c → IsOperation (planOf ws) o × MayTouch (planOf ws) o c
   touch-of o c (inl r) = (r .0, inl (r .1))
   touch-of o c (inr w) = (w .0, inr (w .1))
 
-  pub of-touch : (o : Operation) (c : ℕ) → IsOperation (planOf ws) o → MayTouch (planOf ws) o c → Touches (system ws class records) o c
+  pub of-touch : (o : Operation) (c : ℕ) → IsOperation (planOf ws) o → MayTouch (planOf ws) o c → Touches (system ws class sizes) o c
   of-touch o c i (inl r) = inl (i, r)
   of-touch o c i (inr w) = inr (i, w)
 
@@ -85,7 +85,7 @@ module _ (ws : List ℕ) (accept : planVerdict ws ≡ accepted) (class : Operati
       by-same (deskOf (planOf ws) o′) (deskOf (planOf ws) o) (λ q. q)
       (λ q. absurd (means o local (w .0) e .1 c (w .1) o′ (t .0) q (t .1)))
 
-  pub laws : Laws (system ws class records)
+  pub laws : Laws (system ws class sizes)
   laws =
       record {
         some-desk = some-desk ws accept;

@@ -36,7 +36,7 @@ use Rattle.serial.specs.Step as step
 use Rattle.history.specs.History.{requested, holdingAfter}
 use Rattle.history.specs.SerialRun.{Is, Classifies}
 use Rattle.history.proofs.Operations.{Runs}
-use Rattle.history.proofs.Protocol.{classSeen, roomBy, sizesFit, requestAsked, system}
+use Rattle.history.proofs.Protocol.{Sizes, classSeen, roomBy, sizesFit, requestAsked, system}
 use Rattle.history.proofs.Seen.{requestSeen, ran-is, one-seen}
 use Rattle.history.proofs.View.{view, responseSeen}
 use Rattle.history.proofs.Sound.{Sound, six}
@@ -62,11 +62,11 @@ class-same ws e o i local m = class-local ws e o i .1 m
 class-same ws e o i global m = class-global ws e o i .1 m
 
 module _ (ws : List ℕ) (accept : planVerdict ws ≡ accepted) (class : Operation → Class) (right : Classifies (planOf ws) class)
-    (records : ℕ → ℕ) (h : Holding) (ok : Sound ws records (h .state .desk) h) (client k : ℕ) (ps : List ℕ)
+    (sizes : Sizes) (h : Holding) (ok : Sound ws (sizes .records) (h .state .desk) h) (client k : ℕ) (ps : List ℕ)
     (words : (i : ℕ) → getD ps i 0 < 2 ^ 32) where
   -- the protocol of the plan
   abbrev pub S : System
-  S = system ws class records
+  S = system ws class sizes
 
   abbrev pub r : Request
   r = recordOf client k ps
@@ -85,7 +85,7 @@ module _ (ws : List ℕ) (accept : planVerdict ws ≡ accepted) (class : Operati
   abbrev pub asking : Verdict
   asking = requestVerdict ws h r
 
-  asking-is : asking ≡ requestAsked ws class records (h .cells) (d .desk) o
+  asking-is : asking ≡ requestAsked ws class sizes (h .cells) (d .desk) o
   unfolding requestVerdict deskBuffersFit
   asking-is = rw (accept, ok .fits, ok .size) refl
 
@@ -95,11 +95,11 @@ module _ (ws : List ℕ) (accept : planVerdict ws ≡ accepted) (class : Operati
 
   pub passes : asking ≡ accepted → Passes
   passes e =
-      let b = ask-then-accepted 5 (sizesFit ws class records (h .cells) (d .desk)) _ (sym asking-is ∙ e) in
+      let b = ask-then-accepted 5 (sizesFit ws class sizes (h .cells) (d .desk)) _ (sym asking-is ∙ e) in
       let s = b .0 in
       record {
         runs = record-runs ws client k ps words (b .1);
-        whole = ok .size ∙ eqb-true (records (d .desk)) 32 (and-snd (eqb (length (h .cells)) 1024) _ s);
+        whole = ok .size ∙ eqb-true (sizes .records (d .desk)) 32 (and-snd (eqb (length (h .cells)) 1024) _ s);
       }
 
   -- ---- what the protocol sees
@@ -121,7 +121,7 @@ module _ (ws : List ℕ) (accept : planVerdict ws ≡ accepted) (class : Operati
     now-seen =
         ap₂ (λ (s : Store) (m : Outcome).
         (record { store = s; queue = view h .queue; awaited = d .awaited }, desk.replied (client, m .reply)))
-        (sym (one-seen ws class records o (h .cells) (p .runs))) (sym (ran-is ws class records o (h .cells) (p .runs)))
+        (sym (one-seen ws class sizes o (h .cells) (p .runs))) (sym (ran-is ws class sizes o (h .cells) (p .runs)))
 
     join-seen : (b : Bool) → ltb (d .waiting) 32 ≡ b →
         seen (cond b (enqueued h r) (unchanged h (asked.requestRefused 9)))
@@ -163,9 +163,9 @@ module _ (ws : List ℕ) (accept : planVerdict ws ≡ accepted) (class : Operati
   -- ---- the desk stands behind the call
 
   abbrev After : Requested → Type 0
-  After m = Sound ws records (d .desk) (holdingAfter h (requested m))
+  After m = Sound ws (sizes .records) (d .desk) (holdingAfter h (requested m))
 
-  kept : (cells : List ℕ) → Sound ws records (d .desk) (record { state = d; cells = cells; queue = h .queue })
+  kept : (cells : List ℕ) → Sound ws (sizes .records) (d .desk) (record { state = d; cells = cells; queue = h .queue })
   kept cells = record { desk = refl; fits = ok .fits; size = ok .size; room = ok .room; runs = ok .runs }
 
   joins-sound : Passes → d .waiting < 32 → classOf (planOf ws) o ≡ global → own ≡ true → After (enqueued h r)

@@ -25,7 +25,7 @@ use Rattle.serial.specs.Desk as desk
 use Rattle.serial.specs.Step as step
 use Rattle.history.proofs.Transactions.{apply-agrees}
 use Rattle.history.proofs.Operations.{Runs, decided-of-is}
-use Rattle.history.proofs.Protocol.{ran, system}
+use Rattle.history.proofs.Protocol.{Sizes, ran, system}
 
 abbrev pub requestSeen : Request → desk.Request Operation
 requestSeen r = record { client = r .client; op = operationOf r }
@@ -63,12 +63,12 @@ sent-seen p (u ∷ us) = ap (λ (l : List (ℕ × Update)). (p, u) ∷ l) (sent-
 
 -- ---- runs
 
-module _ (ws : List ℕ) (class : Operation → Class) (records : ℕ → ℕ) where
+module _ (ws : List ℕ) (class : Operation → Class) (sizes : Sizes) where
   -- the protocol of the plan
   abbrev pub S : System
-  S = system ws class records
+  S = system ws class sizes
 
-  pub ran-is : (o : Operation) (s : Store) → IsOperation (planOf ws) o → ran ws class records o s ≡ run (planOf ws) o s
+  pub ran-is : (o : Operation) (s : Store) → IsOperation (planOf ws) o → ran ws class sizes o s ≡ run (planOf ws) o s
   ran-is o s i = rw (decided-of-is (planOf ws) o i) refl
 
   pub one-seen : (o : Operation) (s : Store) → IsOperation (planOf ws) o →

@@ -18,12 +18,11 @@ use Rattle.serial.specs.Desk as desk
 use Rattle.serial.specs.Step as step
 use Rattle.serial.specs.Order as order
 use Rattle.serial.specs.SerialRun as run
-use Rattle.serial.specs.History as history
 use Rattle.serial.proofs.Assign.{assign-map}
 use Rattle.history.specs.History.{Call, request, visit}
 use Rattle.history.specs.Order.{Slot, globalRun, immediateRun, Finished}
 use Rattle.history.specs.SerialRun.{Serial, noteRequest, noteRun, noteJoin, noteVisit, ranked, note, noteAll}
-use Rattle.history.proofs.Protocol.{classSeen, system}
+use Rattle.history.proofs.Protocol.{Sizes, classSeen, system}
 use Rattle.history.proofs.Seen.{requestSeen}
 use Rattle.history.proofs.View.{callSeen}
 
@@ -43,10 +42,10 @@ serialSeen s =
     made (λ (p : ℕ). map requestSeen (s .queues p)) (s .heard) (map requestSeen (s .globals)) (s .latest) (map finishedSeen (s .finished))
     (s .calls)
 
-module _ (ws : List ℕ) (class : Operation → Class) (records : ℕ → ℕ) where
+module _ (ws : List ℕ) (class : Operation → Class) (sizes : Sizes) where
   -- the protocol of the plan
   abbrev pub S : System
-  S = system ws class records
+  S = system ws class sizes
 
   ranked-seen : (i k : ℕ) (q : List Request) → map finishedSeen (ranked i k q) ≡ run.ranked S i k (map requestSeen q)
   ranked-seen i k [] = refl

@@ -46,10 +46,10 @@ six ws h e =
     }
 
 -- what a new desk holds is sound
-pub start-sound : (ws cells : List ℕ) (rows : ℕ → List Request) (p : ℕ) → p < planOf ws .desks →
-    Sound ws (λ q. length (rows q)) p (start cells rows p)
+pub start-sound : (ws cells : List ℕ) (rows : ℕ → List Request) (snapshots : ℕ → List ℕ) (p : ℕ) → p < planOf ws .desks →
+    Sound ws (λ q. length (rows q)) p (start cells rows snapshots p .holding)
 unfolding deskFits every
-start-sound ws cells rows p h =
+start-sound ws cells rows snapshots p h =
     record {
       desk = refl;
       fits = and-true _ _ (lt-ltb p (planOf ws .desks) h)

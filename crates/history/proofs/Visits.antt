@@ -34,6 +34,7 @@ use Rattle.visits.specs.Admission.{visitBuffersFit, turnVerdict}
 use Rattle.token.specs.Forward.{foreign, applyAll}
 use Rattle.visits.specs.Visit.{Visited, caughtUp, outgoingUpdates, outgoingFrame, acceptedVisit, visitedBy, visitVerdict}
 use Rattle.visits.specs.Visit.{visitResult}
+use Rattle.visits.specs.Snapshot.{snapshotTaken}
 use Rattle.visits.specs.Waiting.{runAll, updatesOf, repliesOf}
 use Rattle.serial.specs.System.{System}
 use Rattle.serial.specs.Store as store
@@ -41,7 +42,7 @@ use Rattle.serial.specs.Frame as frame
 use Rattle.serial.specs.Desk as desk
 use Rattle.serial.specs.Step as step
 use Rattle.history.specs.History.{visited, holdingAfter}
-use Rattle.history.proofs.Protocol.{Brought, visitAsked, system}
+use Rattle.history.proofs.Protocol.{Sizes, Brought, visitAsked, system}
 use Rattle.history.proofs.Outgoing.{outgoing-formed}
 use Rattle.history.proofs.Seen.{requestSeen, updateSeen, frameSeen, answeredSeen, foreign-seen, apply-seen, sent-seen, runAll-seen}
 use Rattle.history.proofs.Seen.{updates-seen, replies-seen}
@@ -57,11 +58,12 @@ pub record Turn (ws : List ℕ) (d : Desk) (ft : List ℕ) : Type 0 where
   pub reads : frameVerdict (planOf ws .desks) ft ≡ accepted
   pub number : frameVisit ft ≡ d .awaited
 
-pub turn-of : (ws : List ℕ) (h : Holding) (ft out replies : List ℕ) → visitVerdict ws h ft out replies ≡ accepted → Turn ws (h .state) ft
+pub turn-of : (ws : List ℕ) (h : Holding) (snapshot ft out replies : List ℕ) → visitVerdict ws h snapshot ft out replies ≡ accepted
+    → Turn ws (h .state) ft
 unfolding visitVerdict turnVerdict
-turn-of ws h ft out replies e =
+turn-of ws h snapshot ft out replies e =
     let a = then-accepted (planVerdict ws) _ e .1 in
-    let b = ask-then-accepted 5 (deskBuffersFit (h .cells) (h .queue) && visitBuffersFit out replies) _ a .1 in
+    let b = ask-then-accepted 5 (deskBuffersFit (h .cells) (h .queue) && visitBuffersFit snapshot out replies) _ a .1 in
     let c = ask-then-accepted 6 (deskFits (planOf ws) (h .state) (h .queue)) _ b .1 in
     let f = then-accepted (frameVerdict (planOf ws .desks) ft) _ c in
     let t = ask-then-accepted 13 (eqb (addressedDesk (headOf ft)) (h .state .desk)) _ (f .1) .1 in
@@ -70,8 +72,8 @@ turn-of ws h ft out replies e =
       number = eqb-true (frameVisit ft) (h .state .awaited) (ask-then-accepted 14 (eqb (frameVisit ft) (h .state .awaited)) _ t .0);
     }
 
-module _ (ws : List ℕ) (accept : planVerdict ws ≡ accepted) (records : ℕ → ℕ) (h : Holding)
-    (ok : Sound ws records (h .state .desk) h) (ft out replies : List ℕ) where
+module _ (ws : List ℕ) (accept : planVerdict ws ≡ accepted) (sizes : Sizes) (h : Holding)
+    (ok : Sound ws (sizes .records) (h .state .desk) h) (snapshot ft out replies : List ℕ) where
   abbrev d : Desk
   d = h .state
 
@@ -94,10 +96,10 @@ module _ (ws : List ℕ) (accept : planVerdict ws ≡ accepted) (records : ℕ �
   sends = outgoingFrame (planOf ws) h ft
 
   abbrev left : Visited
-  left = acceptedVisit (planOf ws) h ft out replies
+  left = acceptedVisit (planOf ws) h ft (snapshotTaken (planOf ws) (h .cells) snapshot) out replies
 
   abbrev asking : Verdict
-  asking = visitVerdict ws h ft out replies
+  asking = visitVerdict ws h snapshot ft out replies
 
   -- ---- what is written reads
 
@@ -123,7 +125,7 @@ module _ (ws : List ℕ) (accept : planVerdict ws ≡ accepted) (records : ℕ �
   -- ---- the desk stands behind the call
 
   abbrev After : Visited → Type 0
-  After m = Sound ws records (d .desk) (holdingAfter h (visited m))
+  After m = Sound ws (sizes .records) (d .desk) (holdingAfter h (visited m))
 
   accepted-sound : Turn ws d ft → After left
   unfolding deskFits every
@@ -140,21 +142,21 @@ module _ (ws : List ℕ) (accept : planVerdict ws ≡ accepted) (records : ℕ �
         runs = tt;
       }
 
-  visited-sound : (v : Verdict) → (v ≡ accepted → Turn ws d ft) → After (visitedBy (planOf ws) h ft out replies v)
+  visited-sound : (v : Verdict) → (v ≡ accepted → Turn ws d ft) → After (visitedBy (planOf ws) h ft snapshot out replies v)
   visited-sound accepted f = accepted-sound (f refl)
   visited-sound (refused k) f =
       record { desk = refl; fits = ok .fits; size = ok .size; room = ok .room; runs = ok .runs }
 
-  pub visit-sound : After (visitResult ws h ft out replies)
+  pub visit-sound : After (visitResult ws h snapshot ft out replies)
   unfolding visitResult
-  visit-sound = visited-sound asking (turn-of ws h ft out replies)
+  visit-sound = visited-sound asking (turn-of ws h snapshot ft out replies)
 
   -- ---- what the protocol sees
 
-  module _ (class : Operation → Class) where
+  module _ (class : Operation → Class) (long : length snapshot ≡ sizes .words (d .desk)) where
     -- the protocol of the plan
     abbrev pub S : System
-    S = system ws class records
+    S = system ws class sizes
 
     abbrev Seen : Type 0
     Seen = desk.Desk Operation × desk.Answer Reply
@@ -165,9 +167,9 @@ module _ (ws : List ℕ) (accept : planVerdict ws ≡ accepted) (records : ℕ �
     abbrev brought : Brought
     brought = record { frame = ft; out = out; replies = replies }
 
-    asking-is : asking ≡ visitAsked ws class records (h .cells) (d .desk) (d .awaited) brought
-    unfolding visitVerdict deskBuffersFit turnVerdict
-    asking-is = rw (accept, ok .fits, ok .size) refl
+    asking-is : asking ≡ visitAsked ws class sizes (h .cells) (d .desk) (d .awaited) brought
+    unfolding visitVerdict deskBuffersFit visitBuffersFit turnVerdict
+    asking-is = rw (accept, ok .fits, ok .size, long) refl
 
     caught-seen : step.caughtUp S (d .desk) (view h) (frameSeen ft) ≡ c
     caught-seen =
@@ -177,7 +179,7 @@ module _ (ws : List ℕ) (accept : planVerdict ws ≡ accepted) (records : ℕ �
     made-seen : step.made S (d .desk) (view h) (frameSeen ft) ≡ map updateSeen (map (sent (d .desk)) (updatesOf (planOf ws) q c))
     made-seen =
         ap (λ (s : Store). frame.tag (d .desk) (step.updatesOf S (map requestSeen q) s)) caught-seen
-        ∙ ap (frame.tag (d .desk)) (updates-seen ws class records q c (ok .runs))
+        ∙ ap (frame.tag (d .desk)) (updates-seen ws class sizes q c (ok .runs))
         ∙ sent-seen (d .desk) (updatesOf (planOf ws) q c)
 
     outgoing-seen : Turn ws d ft → frameSeen sends ≡ step.outgoing S (d .desk) (view h) (frameSeen ft)
@@ -192,29 +194,29 @@ module _ (ws : List ℕ) (accept : planVerdict ws ≡ accepted) (records : ℕ �
     store-seen : runAll (planOf ws) q c ≡ step.runAll S (map requestSeen q)
         (step.caughtUp S (d .desk) (view h) (frameSeen ft))
     store-seen =
-        sym (ap (step.runAll S (map requestSeen q)) caught-seen ∙ runAll-seen ws class records q c (ok .runs))
+        sym (ap (step.runAll S (map requestSeen q)) caught-seen ∙ runAll-seen ws class sizes q c (ok .runs))
 
     given-seen : map answeredSeen (repliesOf (planOf ws) q c) ≡ step.repliesOf S (map requestSeen q)
         (step.caughtUp S (d .desk) (view h) (frameSeen ft))
     given-seen =
-        sym (ap (step.repliesOf S (map requestSeen q)) caught-seen ∙ replies-seen ws class records q c (ok .runs))
+        sym (ap (step.repliesOf S (map requestSeen q)) caught-seen ∙ replies-seen ws class sizes q c (ok .runs))
 
     accepted-seen : Turn ws d ft → seen left ≡ step.visitStep S (d .desk) (view h) (frameSeen ft)
     accepted-seen t =
         ap₂ (λ (s : Store) (a : desk.Answer Reply). (record { store = s; queue = []; awaited = frameVisit ft + n }, a)) store-seen
         (ap₂ desk.forwarded (ap frameSeen (take-append-seam sends (drop (length sends) out)) ∙ outgoing-seen t) given-seen)
 
-    visited-seen : (v : Verdict) → (v ≡ accepted → Turn ws d ft) → seen (visitedBy (planOf ws) h ft out replies v)
+    visited-seen : (v : Verdict) → (v ≡ accepted → Turn ws d ft) → seen (visitedBy (planOf ws) h ft snapshot out replies v)
         ≡ cond (eqb (frameVisit ft) (d .awaited) && isAccepted v)
         (step.visitStep S (d .desk) (view h) (frameSeen ft)) (view h, desk.refused)
     visited-seen accepted f = rw (eq-eqb (frameVisit ft) (d .awaited) (f refl .number)) (accepted-seen (f refl))
     visited-seen (refused k) f = rw (and-false (eqb (frameVisit ft) (d .awaited))) refl
 
     -- the state and the answer are the protocol's
-    pub visit-seen : seen (visitResult ws h ft out replies)
+    pub visit-seen : seen (visitResult ws h snapshot ft out replies)
         ≡ step.serve S (view h) (desk.visit (d .desk) (frameSeen ft) brought)
     unfolding visitResult
     visit-seen =
-        visited-seen asking (turn-of ws h ft out replies)
+        visited-seen asking (turn-of ws h snapshot ft out replies)
         ∙ ap (λ (v : Verdict). cond (eqb (frameVisit ft) (d .awaited) && isAccepted v)
         (step.visitStep S (d .desk) (view h) (frameSeen ft)) (view h, desk.refused)) asking-is

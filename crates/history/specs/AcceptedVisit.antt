@@ -29,23 +29,24 @@ module _ (plan : List ℕ) (h : Holding) (frame : List ℕ) where
     pub updates : frameUpdates sent ≡ outgoingUpdates (planOf plan) h frame
 
   -- "A "no" gives its number; nothing lent and no state changes"
-  abbrev pub RefusedWith : List ℕ → List ℕ → ℕ → Type 0
-  RefusedWith out replies question =
-      visitResult plan h frame out replies
-      ≡ record { answer = visitRefused question; state = h .state; cells = h .cells; out = out; replies = replies }
+  abbrev pub RefusedWith : List ℕ → List ℕ → List ℕ → ℕ → Type 0
+  RefusedWith snapshot out replies question =
+      visitResult plan h snapshot frame out replies
+      ≡ record { answer = visitRefused question; state = h .state; cells = h .cells; snapshot = snapshot; out = out; replies = replies }
 
 -- the frame that an accepted visit writes: the first words of the outgoing ones, as many as its answer says
 abbrev pub VisitFrameReads : Type 0
 VisitFrameReads =
-    (plan : List ℕ) (h : Holding) (frame out replies : List ℕ) (words count : ℕ)
-    → visitResult plan h frame out replies .answer ≡ forwarded words count → RecordsFit (h .queue)
-    → Sends plan h frame (take words (visitResult plan h frame out replies .out))
+    (plan : List ℕ) (h : Holding) (snapshot frame out replies : List ℕ) (words count : ℕ)
+    → visitResult plan h snapshot frame out replies .answer ≡ forwarded words count → RecordsFit (h .queue)
+    → Sends plan h frame (take words (visitResult plan h snapshot frame out replies .out))
 
 -- where the plan is accepted and questions 5 and 6 pass: word i is changed to another word x
 abbrev pub ChangedWordRefused : Type 0
 ChangedWordRefused =
-    (plan : List ℕ) (h : Holding) (frame out replies : List ℕ) → planVerdict plan ≡ accepted
-    → deskBuffersFit (h .cells) (h .queue) && visitBuffersFit out replies ≡ true → deskFits (planOf plan) (h .state) (h .queue) ≡ true
+    (plan : List ℕ) (h : Holding) (snapshot frame out replies : List ℕ) → planVerdict plan ≡ accepted
+    → deskBuffersFit (h .cells) (h .queue) && visitBuffersFit snapshot out replies ≡ true
+    → deskFits (planOf plan) (h .state) (h .queue) ≡ true
     → AllWords frame → frameVerdict (planOf plan .desks) frame ≡ accepted
     → (i x : ℕ) → i < length frame → x < 2 ^ 32 → (x ≡ getD frame i 0 → ⊥)
-    → RefusedWith plan h (set frame i x) out replies 10 ⊎ RefusedWith plan h (set frame i x) out replies 11
+    → RefusedWith plan h (set frame i x) snapshot out replies 10 ⊎ RefusedWith plan h (set frame i x) snapshot out replies 11

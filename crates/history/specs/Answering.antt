@@ -15,7 +15,7 @@ use Rattle.requests.specs.Request as asked
 use Rattle.visits.specs.Visit.{forwarded, Visited, caughtUp, visitResult}
 use Rattle.visits.specs.Waiting.{replySize, runAll, replyWords}
 use Rattle.visits.specs.Running.{replyTo}
-use Rattle.history.specs.History.{Call, request, visit, isRefused, outcomeAt, stepAt, holdingsAfter}
+use Rattle.history.specs.History.{Call, request, visit, isRefused, Kept, outcomeAt, stepAt, holdingsAfter}
 
 -- ---- a waiting request, and its reply
 
@@ -48,40 +48,41 @@ module _ (plan : List ℕ) (h : Holding) (frame : List ℕ) where
 -- an accepted visit answers all that wait, and no other
 abbrev pub VisitAnswersWaiting : Type 0
 VisitAnswersWaiting =
-    (plan : List ℕ) (h : Holding) (frame out replies : List ℕ) (words count : ℕ)
-    → visitResult plan h frame out replies .answer ≡ forwarded words count
-    → AnswersWaiting plan h frame replies count (visitResult plan h frame out replies)
+    (plan : List ℕ) (h : Holding) (snapshot frame out replies : List ℕ) (words count : ℕ)
+    → visitResult plan h snapshot frame out replies .answer ≡ forwarded words count
+    → AnswersWaiting plan h frame replies count (visitResult plan h snapshot frame out replies)
 
 -- ---- from the request to the visit
 
 -- a request that is told to wait is the next record after those that waited
 abbrev pub RequestWaits : Type 0
 RequestWaits =
-    (plan : List ℕ) (w : ℕ → Holding) (p client k : ℕ) (ps : List ℕ)
-    → requestResult plan (w p) (recordOf client k ps) .answer ≡ asked.waits
-    → WaitsAt (w p .state .waiting) (recordOf client k ps) (stepAt plan w (request p client k ps) p)
+    (plan : List ℕ) (w : ℕ → Kept) (p client k : ℕ) (ps : List ℕ)
+    → requestResult plan (w p .holding) (recordOf client k ps) .answer ≡ asked.waits
+    → WaitsAt (w p .holding .state .waiting) (recordOf client k ps) (stepAt plan w (request p client k ps) p .holding)
 
 -- the call is no accepted visit at desk p
-abbrev pub NoVisit : List ℕ → ℕ → (ℕ → Holding) → Call → Type 0
+abbrev pub NoVisit : List ℕ → ℕ → (ℕ → Kept) → Call → Type 0
 NoVisit plan p w (request q client k ps) = Unit {0}
 NoVisit plan p w (visit q frame out replies) = p ≡ q → isRefused (outcomeAt plan w (visit q frame out replies)) ≡ true
 
-abbrev pub NoVisits : List ℕ → ℕ → (ℕ → Holding) → List Call → Type 0
+abbrev pub NoVisits : List ℕ → ℕ → (ℕ → Kept) → List Call → Type 0
 NoVisits plan p w [] = Unit {0}
 NoVisits plan p w (c ∷ cs) = NoVisit plan p w c × NoVisits plan p (stepAt plan w c) cs
 
 -- until its desk's next accepted visit each waiting record stays at its place
 abbrev pub WaitingStays : Type 0
 WaitingStays =
-    (plan : List ℕ) (p : ℕ) (cs : List Call) (w : ℕ → Holding) → NoVisits plan p w cs → (k : ℕ) (r : Request)
-    → WaitsAt k r (w p) → WaitsAt k r (holdingsAfter plan w cs p)
+    (plan : List ℕ) (p : ℕ) (cs : List Call) (w : ℕ → Kept) → NoVisits plan p w cs → (k : ℕ) (r : Request)
+    → WaitsAt k r (w p .holding) → WaitsAt k r (holdingsAfter plan w cs p .holding)
 
 -- "each waiting request is answered at its desk's next accepted visit": r is record k at desk p, the calls cs have no accepted visit
 -- at p, and then one is accepted. RequestWaits says which record a request is that is told to wait.
 abbrev pub AnsweredAtNextVisit : Type 0
 AnsweredAtNextVisit =
-    (plan : List ℕ) (p : ℕ) (cs : List Call) (w : ℕ → Holding) → NoVisits plan p w cs → (k : ℕ) (r : Request) → WaitsAt k r (w p)
+    (plan : List ℕ) (p : ℕ) (cs : List Call) (w : ℕ → Kept) → NoVisits plan p w cs → (k : ℕ) (r : Request) → WaitsAt k r (w p .holding)
     → (frame out replies : List ℕ) (words count : ℕ)
-    → visitResult plan (holdingsAfter plan w cs p) frame out replies .answer ≡ forwarded words count
-    → (k < count) × (replyPart k (visitResult plan (holdingsAfter plan w cs p) frame out replies .replies)
-    ≡ replyWords (replyTo (planOf plan) r (storeBefore plan (holdingsAfter plan w cs p) frame k)))
+    → let h = holdingsAfter plan w cs p in
+    visitResult plan (h .holding) (h .snapshot) frame out replies .answer ≡ forwarded words count
+    → (k < count) × (replyPart k (visitResult plan (h .holding) (h .snapshot) frame out replies .replies)
+    ≡ replyWords (replyTo (planOf plan) r (storeBefore plan (h .holding) frame k)))

@@ -12,11 +12,10 @@ use Rattle.operation.specs.Operation.{Operation}
 use Rattle.operation.specs.Store.{Store}
 use Rattle.conflict.specs.Class.{Class, classOf, JustOne}
 use Rattle.queue.specs.declared.record.Request.{Request}
-use Rattle.desk.specs.Holding.{Holding}
 use Rattle.requests.specs.Request as asked
 use Rattle.visits.specs.Visit as visiting
 use Rattle.visits.specs.Waiting.{Answered, repliesWords}
-use Rattle.history.specs.History.{Call, request, visit, Outcome, requested, visited, isRefused, outcomes, holdingsAfter}
+use Rattle.history.specs.History.{Call, request, visit, Outcome, requested, visited, isRefused, Kept, outcomes, holdingsAfter}
 use Rattle.history.specs.History.{start, ProperFromStart}
 use Rattle.history.specs.SerialRun.{Classifies, Serial, serial, order, storeAfter, due}
 
@@ -51,28 +50,31 @@ EachGives replies i (c ∷ cs) (o ∷ os) = Gives c o (replies i) × EachGives r
 -- ---- the claim
 
 -- b the starting cells, os the outcomes of the calls cs, w the holdings at the end, s the serial run at the end
-pub record Serializable (p : Plan) (b : Store) (cs : List Call) (os : List Outcome) (w : ℕ → Holding) (s : Serial) : Type 0 where
+pub record Serializable (p : Plan) (b : Store) (cs : List Call) (os : List Outcome) (w : ℕ → Kept) (s : Serial) : Type 0 where
   pub all-replies : EachGives (λ i. due p i (order s) b) 0 cs os
   -- "A request finished at once is answered with its reply. A visit puts out the replies of what it finished": the calls give all
   -- that is due, and past the last of them nothing is
   pub none-further : (i : ℕ) → length cs ≤ i → due p i (order s) b ≡ []
   -- "A cell that just one desk may touch has its serial value in that desk's book"
-  pub one-desk : (c d : ℕ) → JustOne p c d → getD (w d .cells) c 0 ≡ getD (storeAfter p (order s) b) c 0
+  pub one-desk : (c d : ℕ) → JustOne p c d → getD (w d .holding .cells) c 0 ≡ getD (storeAfter p (order s) b) c 0
   -- "any other, at the desk of the latest accepted visit (desk 0 before any)"
-  pub any-other : (c : ℕ) → ((d : ℕ) → JustOne p c d → ⊥) → getD (w (s .latest) .cells) c 0 ≡ getD (storeAfter p (order s) b) c 0
+  pub any-other : (c : ℕ) → ((d : ℕ) → JustOne p c d → ⊥) → getD (w (s .latest) .holding .cells) c 0 ≡ getD (storeAfter p (order s) b) c 0
 
--- every history that satisfies the premise, "all with one plan that the plan reader accepts", from equal cells and any queues
+-- every history that satisfies the premise, "all with one plan that the plan reader accepts", from equal cells, any queues and any
+-- snapshots
 abbrev pub Claim : Type 0
 Claim =
     (plan : List ℕ) → planVerdict plan ≡ accepted → (class : Operation → Class) → Classifies (planOf plan) class
-    → (cells : List ℕ) (rows : ℕ → List Request) (cs : List Call) → ProperFromStart plan cells rows cs
-    → Serializable (planOf plan) cells cs (outcomes plan (start cells rows) cs) (holdingsAfter plan (start cells rows) cs)
-    (serial (planOf plan) class cs (map isRefused (outcomes plan (start cells rows) cs)))
+    → (cells : List ℕ) (rows : ℕ → List Request) (snapshots : ℕ → List ℕ) (cs : List Call) → ProperFromStart plan cells rows snapshots cs
+    → let w = start cells rows snapshots in
+    Serializable (planOf plan) cells cs (outcomes plan w cs) (holdingsAfter plan w cs)
+    (serial (planOf plan) class cs (map isRefused (outcomes plan w cs)))
 
 -- the claim with the class that the engine computes
 abbrev pub ComputedClaim : Type 0
 ComputedClaim =
-    (plan : List ℕ) → planVerdict plan ≡ accepted → (cells : List ℕ) (rows : ℕ → List Request) (cs : List Call)
-    → ProperFromStart plan cells rows cs
-    → Serializable (planOf plan) cells cs (outcomes plan (start cells rows) cs) (holdingsAfter plan (start cells rows) cs)
-    (serial (planOf plan) (classOf (planOf plan)) cs (map isRefused (outcomes plan (start cells rows) cs)))
+    (plan : List ℕ) → planVerdict plan ≡ accepted → (cells : List ℕ) (rows : ℕ → List Request) (snapshots : ℕ → List ℕ) (cs : List Call)
+    → ProperFromStart plan cells rows snapshots cs
+    → let w = start cells rows snapshots in
+    Serializable (planOf plan) cells cs (outcomes plan w cs) (holdingsAfter plan w cs)
+    (serial (planOf plan) (classOf (planOf plan)) cs (map isRefused (outcomes plan w cs)))

@@ -3,7 +3,7 @@ use Prim.Native.Nat.{ℕ}
 use mathlib.Core.Path.{_≡_}
 use mathlib.Core.Logic.{_⊎_, inl, inr}
 use mathlib.Core.Bool.{true}
-use mathlib.Core.List.{List, [], _∷_, map}
+use mathlib.Core.List.{List, [], _∷_, _++_, map}
 use lib.ListN.{getD, replicate}
 use Rattle.plan.specs.Decode.{planOf}
 use Rattle.conflict.specs.Class.{classOf}
@@ -12,7 +12,7 @@ use Rattle.queue.specs.declared.record.Request.{Request}
 use Rattle.requests.specs.Request as asked
 use Rattle.visits.specs.Visit as visiting
 use Rattle.visits.specs.Waiting.{Answered}
-use Rattle.starred.specs.Table.{planP, sentFrame}
+use Rattle.starred.specs.Table.{planP, sentFrame, sentOn}
 use Rattle.history.specs.History.{Call, request, visit, Outcome, requested, visited, isRefused, outcomes, start, ProperFromStart}
 use Rattle.history.specs.Order.{Finished}
 use Rattle.history.specs.SerialRun.{Serial, serial, order, storeAfter, due}
@@ -36,22 +36,32 @@ blank p = replicate 32 noRequest
 abbrev visitWith : ℕ → List ℕ → Call
 visitWith p frame = visit p frame (replicate 6404 0) (replicate 224 0)
 
--- T2(1) at desk 1, T1(0, 3) at desk 0, visit 0, T2(1) again, visit 1, a replay, and T2(1) once more; of clients 5, 7, 6 and 8
+-- T2(1) at desk 1, T1(0, 3) at desk 0, visit 0, T2(1) again, visit 1, a replay, T2(1) once more, and visit 2; of clients 5, 7, 6 and 8
 abbrev pub calls : List Call
 calls =
     request 1 5 2 (1 ∷ 0 ∷ 0 ∷ 0 ∷ []) ∷ request 0 7 1 (0 ∷ 3 ∷ 0 ∷ 0 ∷ []) ∷ visitWith 0 starting ∷ request 1 6 2 (1 ∷ 0 ∷ 0 ∷ 0 ∷ [])
-    ∷ visitWith 1 sending ∷ visitWith 1 sending ∷ request 1 8 2 (1 ∷ 0 ∷ 0 ∷ 0 ∷ []) ∷ []
+    ∷ visitWith 1 sending ∷ visitWith 1 sending ∷ request 1 8 2 (1 ∷ 0 ∷ 0 ∷ 0 ∷ []) ∷ visitWith 0 sentOn ∷ []
 
 abbrev says : Outcome → asked.Response ⊎ visiting.Forwarding
 says (requested r) = inl (r .answer)
 says (visited v) = inr (v .answer)
 
+-- what a visit leaves in cell 128 of its desk's snapshot
+abbrev page : Outcome → List ℕ
+page (requested r) = []
+page (visited v) = getD (v .snapshot) 128 0 ∷ []
+
+abbrev pages : List Outcome → List ℕ
+pages [] = []
+pages (o ∷ os) = page o ++ pages os
+
 abbrev serialRun : List Outcome → Serial
 serialRun os = serial (planOf planP) (classOf (planOf planP)) calls (map isRefused os)
 
--- the answers; the replies due to visit 0, call 2; the serial order, by clients; and the serial value of the cell that T1 writes
+-- the answers; the replies due to visit 0, call 2; the serial order, by clients; the serial value of the cell that T1 writes; and that cell
+-- in the snapshot of each visit's desk
 abbrev pub Rows : Type 0
-Rows = List (asked.Response ⊎ visiting.Forwarding) × List Answered × List ℕ × ℕ
+Rows = List (asked.Response ⊎ visiting.Forwarding) × List Answered × List ℕ × ℕ × List ℕ
 
 abbrev pub found : List Outcome → Rows
 found os = (
@@ -59,21 +69,23 @@ found os = (
   due (planOf planP) 2 (order (serialRun os)) zeros,
   map (λ (e : Finished). e .request .client) (order (serialRun os)),
   getD (storeAfter (planOf planP) (order (serialRun os)) zeros) 128 0,
+  pages os,
 )
 
 -- "T2(1) at desk 1 gives 0 before visit 1, 3 after"; "reply C0000001 00000007 00000003", with nothing told; "The frame twice at desk 1:
 -- 14". "A read at one desk may precede, in this order, a global already answered at another": client 6 is answered 0 after client 7's T1,
--- and stands before it
+-- and stands before it. The 3 is in the snapshot of desk 0 by its second visit, when both desks have heard of it
 abbrev pub expected : Rows
 expected = (
   inl (done 0) ∷ inl asked.waits ∷ inr (visiting.forwarded 7 1) ∷ inl (done 0) ∷ inr (visiting.forwarded 7 0)
-      ∷ inr (visiting.visitRefused 14) ∷ inl (done 3) ∷ [],
+      ∷ inr (visiting.visitRefused 14) ∷ inl (done 3) ∷ inr (visiting.forwarded 4 0) ∷ [],
   record { client = 7; reply = record { done = true; number = 3; told0 = 0; told1 = 0; told2 = 0; told3 = 0 } } ∷ [],
   5 ∷ 6 ∷ 7 ∷ 8 ∷ [],
   3,
+  0 ∷ 0 ∷ 0 ∷ 3 ∷ [],
 )
 
 -- the premise of the claim is met, and the calls give these answers
 pub record Course : Type 0 where
-  pub proper : ProperFromStart planP zeros blank calls
-  pub gives : found (outcomes planP (start zeros blank) calls) ≡ expected
+  pub proper : ProperFromStart planP zeros blank (λ p. zeros) calls
+  pub gives : found (outcomes planP (start zeros blank (λ p. zeros)) calls) ≡ expected

@@ -51,10 +51,27 @@ abbrev pub isRefused : Outcome → Bool
 isRefused (requested r) = isRefusedResponse (r .answer)
 isRefused (visited v) = isRefusedForwarding (v .answer)
 
+-- what a desk keeps from call to call: what every call at it is lent, and the snapshot (02: bulletin), which is lent "to every visit, and
+-- to no other call"
+pub record Kept : Type 0 where
+  pub holding : Holding
+  pub snapshot : List ℕ
+
+abbrev pub kept : Holding → List ℕ → Kept
+kept h snapshot = record { holding = h; snapshot = snapshot }
+
 -- what the desk holds behind the call. "the row of records is untouched" by a visit
 abbrev pub holdingAfter : Holding → Outcome → Holding
 holdingAfter h (requested r) = holding (r .state) (r .cells) (r .queue)
 holdingAfter h (visited v) = holding (v .state) (v .cells) (h .queue)
+
+-- and the snapshot, which a request is not lent
+abbrev pub snapshotAfter : List ℕ → Outcome → List ℕ
+snapshotAfter snapshot (requested r) = snapshot
+snapshotAfter snapshot (visited v) = v .snapshot
+
+abbrev pub keptAfter : Kept → Outcome → Kept
+keptAfter h o = kept (holdingAfter (h .holding) o) (snapshotAfter (h .snapshot) o)
 
 -- the frame that an accepted visit wrote: the first `words` words of its outgoing buffer, `words` being its answer
 abbrev pub frameWritten : visiting.Forwarding → List ℕ → List (List ℕ)
@@ -68,31 +85,31 @@ written (visited v) = frameWritten (v .answer) (v .out)
 -- ---- the course
 
 module _ (plan : List ℕ) where
-  -- the call at a desk with this holding
-  abbrev pub outcome : Holding → Call → Outcome
-  outcome h (request p client k ps) = requested (requestResult plan h (recordOf client k ps))
-  outcome h (visit p frame out replies) = visited (visitResult plan h frame out replies)
+  -- the call at a desk that keeps h
+  abbrev pub outcome : Kept → Call → Outcome
+  outcome h (request p client k ps) = requested (requestResult plan (h .holding) (recordOf client k ps))
+  outcome h (visit p frame out replies) = visited (visitResult plan (h .holding) (h .snapshot) frame out replies)
 
-  abbrev pub outcomeAt : (ℕ → Holding) → Call → Outcome
+  abbrev pub outcomeAt : (ℕ → Kept) → Call → Outcome
   outcomeAt w c = outcome (w (deskCalled c)) c
 
-  -- "State, book and row pass from call to call at their desk."
-  abbrev pub stepAt : (ℕ → Holding) → Call → ℕ → Holding
-  stepAt w c = assign (deskCalled c) (holdingAfter (w (deskCalled c)) (outcomeAt w c)) w
+  -- "State, book and row pass from call to call at their desk.", and so does the snapshot
+  abbrev pub stepAt : (ℕ → Kept) → Call → ℕ → Kept
+  stepAt w c = assign (deskCalled c) (keptAfter (w (deskCalled c)) (outcomeAt w c)) w
 
-  abbrev pub outcomes : (ℕ → Holding) → List Call → List Outcome
+  abbrev pub outcomes : (ℕ → Kept) → List Call → List Outcome
   outcomes w [] = []
   outcomes w (c ∷ cs) = outcomeAt w c ∷ outcomes (stepAt w c) cs
 
-  abbrev pub holdingsAfter : (ℕ → Holding) → List Call → ℕ → Holding
+  abbrev pub holdingsAfter : (ℕ → Kept) → List Call → ℕ → Kept
   holdingsAfter w [] = w
   holdingsAfter w (c ∷ cs) = holdingsAfter (stepAt w c) cs
 
 -- ---- the start
 
--- "At its start each desk is as the new desk call gives it, the books are equal, the rows hold anything."
-abbrev pub start : List ℕ → (ℕ → List Request) → ℕ → Holding
-start cells rows p = holding (newDesk p) cells (rows p)
+-- "At its start each desk is as the new desk call gives it, the books are equal, the rows hold anything.", and so do the snapshots
+abbrev pub start : List ℕ → (ℕ → List Request) → (ℕ → List ℕ) → ℕ → Kept
+start cells rows snapshots p = kept (holding (newDesk p) cells (rows p)) (snapshots p)
 
 abbrev pub NewDeskStarts : Type 0
 NewDeskStarts = (plan : List ℕ) → planVerdict plan ≡ accepted → (p : ℕ) → p < planOf plan .desks → newDeskResult plan p ≡ opened (newDesk p)
@@ -111,12 +128,12 @@ FrameAmong frames (visit p frame out replies) = List·Memᴰ frame frames
 
 -- "each at a desk below n", and an accepted frame is the starting frame or one that an earlier accepted visit wrote: `frames` are
 -- those so far. A refused visit may bring any frame.
-abbrev pub Proper : List ℕ → (ℕ → Holding) → List (List ℕ) → List Call → Type 0
+abbrev pub Proper : List ℕ → (ℕ → Kept) → List (List ℕ) → List Call → Type 0
 Proper plan w frames [] = Unit {0}
 Proper plan w frames (c ∷ cs) =
     (deskCalled c < planOf plan .desks) × WordsFit c
     × (isRefused (outcomeAt plan w c) ≡ false → FrameAmong frames c)
     × Proper plan (stepAt plan w c) (frames ++ written (outcomeAt plan w c)) cs
 
-abbrev pub ProperFromStart : List ℕ → List ℕ → (ℕ → List Request) → List Call → Type 0
-ProperFromStart plan cells rows cs = Proper plan (start cells rows) (startingFrame ∷ []) cs
+abbrev pub ProperFromStart : List ℕ → List ℕ → (ℕ → List Request) → (ℕ → List ℕ) → List Call → Type 0
+ProperFromStart plan cells rows snapshots cs = Proper plan (start cells rows snapshots) (startingFrame ∷ []) cs

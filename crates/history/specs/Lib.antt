@@ -6,4 +6,6 @@ pub mod Answering
 pub mod AcceptedVisit
 pub mod OrderRule
 pub mod VisitNumbers
+pub mod Snapshot
+pub mod SnapshotTaking
 pub mod Course

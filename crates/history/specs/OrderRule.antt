@@ -31,5 +31,5 @@ InOrder es = (none : Finished) (i j : ℕ) → i < j → j < length es → Prece
 abbrev pub OrderFollowsRule : Type 0
 OrderFollowsRule =
     (plan : List ℕ) → planVerdict plan ≡ accepted → (class : Operation → Class) → Classifies (planOf plan) class
-    → (cells : List ℕ) (rows : ℕ → List Request) (cs : List Call) → ProperFromStart plan cells rows cs
-    → InOrder (order (serial (planOf plan) class cs (map isRefused (outcomes plan (start cells rows) cs))))
+    → (cells : List ℕ) (rows : ℕ → List Request) (snapshots : ℕ → List ℕ) (cs : List Call) → ProperFromStart plan cells rows snapshots cs
+    → InOrder (order (serial (planOf plan) class cs (map isRefused (outcomes plan (start cells rows snapshots) cs))))

@@ -25,6 +25,7 @@ acceptedVisits (c ∷ cs) (false ∷ refusals) = visitBy c ++ acceptedVisits cs 
 
 abbrev pub VisitsNumbered : Type 0
 VisitsNumbered =
-    (plan : List ℕ) → planVerdict plan ≡ accepted → (cells : List ℕ) (rows : ℕ → List Request) (cs : List Call)
-    → ProperFromStart plan cells rows cs → (v : ℕ) → v < length (acceptedVisits cs (map isRefused (outcomes plan (start cells rows) cs)))
-    → getD (acceptedVisits cs (map isRefused (outcomes plan (start cells rows) cs))) v (0, 0) ≡ (v % planOf plan .desks, v)
+    (plan : List ℕ) → planVerdict plan ≡ accepted → (cells : List ℕ) (rows : ℕ → List Request) (snapshots : ℕ → List ℕ) (cs : List Call)
+    → ProperFromStart plan cells rows snapshots cs
+    → let vs = acceptedVisits cs (map isRefused (outcomes plan (start cells rows snapshots) cs)) in
+    (v : ℕ) → v < length vs → getD vs v (0, 0) ≡ (v % planOf plan .desks, v)

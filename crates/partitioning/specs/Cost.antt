@@ -8,8 +8,6 @@ use mathlib.Core.Path.{_≡_}
 use mathlib.Core.Bool.{Bool, true, _&&_, cond}
 use mathlib.Core.List.{List, [], _∷_}
 use mathlib.Core.Logic.{_↔_}
-use lib.Count.{ones}
-use lib.Dec.{ltb}
 use lib.ListN.{length}
 use Rattle.verdict.specs.Verdict.{accepted}
 use Rattle.lists.specs.Lists.{some, someBelow}
@@ -20,6 +18,7 @@ use Rattle.operation.specs.Operation.{Operation}
 use Rattle.operation.specs.Admission.{IsOperation}
 use Rattle.operation.specs.Store.{storeSize}
 use Rattle.conflict.specs.Touch.{deskMask}
+use Rattle.conflict.specs.Shared.{isShared}
 use Rattle.conflict.specs.Written.{stepWrites}
 use Rattle.conflict.specs.Class.{Global}
 
@@ -44,7 +43,7 @@ pub record Costs (p : Plan) (c : ℕ) : Type 0 where
 
 -- two desks or more may touch the cell
 abbrev pub shared : Plan → ℕ → Bool
-shared p c = ltb 1 (ones (deskMask p c))
+shared p c = isShared (deskMask p c)
 
 -- the step may write such a cell
 unfoldable pub writesShared : Plan → Step → Bool

@@ -5,11 +5,15 @@ use crate::answers::note_question;
 use crate::desks;
 use crate::layout::AFTER;
 use crate::layout::BEFORE;
+use crate::layout::BULLETIN_AFTER;
+use crate::layout::BULLETIN_BEFORE;
+use crate::layout::CELL_COUNT;
 use crate::layout::CLIENT;
 use crate::layout::FOURTH_PARAMETER;
 use crate::layout::FOURTH_TOLD;
 use crate::layout::HAND;
 use crate::layout::HAND_WORDS;
+use crate::layout::LENT_BULLETIN;
 use crate::layout::LENT_CELLS;
 use crate::layout::LENT_OUTGOING;
 use crate::layout::LENT_REPLIES;
@@ -108,22 +112,30 @@ fn note_request(m: &mut Memory, answer: RequestAnswer) -> &mut Memory {
     }
 }
 
-// A request at the desk at hand of the operation at hand.
+// A request at the desk at hand of the operation at hand. It is not lent the bulletin.
 pub fn request(m: &mut Memory) -> &mut Memory {
     let mut cells = [0u32; 1040];
     let mut row = [0u32; 198];
     let result = ask(m, &mut cells, &mut row);
     let given = result.answer;
     let m = store(store(m, AFTER, &cells), RECORDS_AFTER, &row);
+    let m = copy(m, BULLETIN_BEFORE, BULLETIN_AFTER, CELL_COUNT);
     note_request(desks::put_state(m, result.state), given)
 }
 
-// The visit itself by the words of the line, on a copy of the cells and on marked buffers, with as much lent as is set.
-fn pass(m: &Memory, cells: &mut [u32], out: &mut [u32], replies: &mut [u32]) -> VisitResult {
+// The visit itself by the words of the line, on copies of cells and bulletin and on marked buffers, with as much lent as is set.
+fn pass(
+    m: &Memory,
+    cells: &mut [u32],
+    bulletin: &mut [u32],
+    out: &mut [u32],
+    replies: &mut [u32],
+) -> VisitResult {
     conveyor::visit_on_words(
         counted(m, PLAN, PLAN_WORDS),
         desks::state(m),
         load(m, BEFORE, LENT_CELLS, cells),
+        load(m, BULLETIN_BEFORE, LENT_BULLETIN, bulletin),
         counted(m, LENT_ROW, RECORDS_BEFORE),
         counted(m, HAND, HAND_WORDS),
         load(m, MARKS, LENT_OUTGOING, out),
@@ -148,11 +160,13 @@ fn note_visit(m: &mut Memory, answer: VisitAnswer) -> &mut Memory {
 // A visit at the desk at hand by the words of the line. It leaves the row as it is.
 pub fn visit(m: &mut Memory) -> &mut Memory {
     let mut cells = [0u32; 1040];
+    let mut bulletin = [0u32; 1040];
     let mut out = [0u32; 6420];
     let mut replies = [0u32; REPLIES_SIZE];
-    let result = pass(m, &mut cells, &mut out, &mut replies);
+    let result = pass(m, &mut cells, &mut bulletin, &mut out, &mut replies);
     let given = result.answer;
-    let m = store(store(m, AFTER, &cells), OUTGOING_WORDS, &out);
+    let m = store(store(m, AFTER, &cells), BULLETIN_AFTER, &bulletin);
+    let m = store(m, OUTGOING_WORDS, &out);
     let m = copy(
         store(m, REPLIES, &replies),
         RECORDS_BEFORE,

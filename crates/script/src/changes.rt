@@ -2,6 +2,8 @@
 // stands apart, and the lent buffers behind the frames.
 use crate::layout::AFTER;
 use crate::layout::BEFORE;
+use crate::layout::BULLETIN_AFTER;
+use crate::layout::BULLETIN_BEFORE;
 use crate::layout::CELL_COUNT;
 use crate::layout::CHANGED;
 use crate::layout::CHANGED_CELLS;
@@ -31,15 +33,15 @@ use crate::output::say_changes;
 use crate::sums;
 use crate::texts;
 
-// The cells that changed, or how many they are and the sums over the whole book.
-fn say_cells(m: &mut Memory) -> &mut Memory {
-    let changed = differences(m, BEFORE, AFTER, 0, CELL_COUNT);
+// The cells that changed of the book or of the bulletin, each by one text, or by the other how many they are and the sums over all.
+fn say_cells(m: &mut Memory, before: usize, after: usize, one: u32, many: u32) -> &mut Memory {
+    let changed = differences(m, before, after, 0, CELL_COUNT);
     if changed <= 24 {
-        return say_changes(m, texts::CHANGED_CELL, AFTER, BEFORE, 1, CELL_COUNT);
+        return say_changes(m, one, after, before, 1, CELL_COUNT);
     }
     say(
-        sums::take(put(m, CHANGED_CELLS, changed), AFTER, CELL_COUNT),
-        texts::CHANGED_CELLS,
+        sums::take(put(m, CHANGED_CELLS, changed), after, CELL_COUNT),
+        many,
     )
 }
 
@@ -69,8 +71,16 @@ pub fn say_all(m: &mut Memory) -> &mut Memory {
         return m;
     }
     let m = say(memory::count_above(m, CHANGED, QUESTION, 0), texts::CHANGED);
+    let m = say_cells(m, BEFORE, AFTER, texts::CHANGED_CELL, texts::CHANGED_CELLS);
+    let m = say_cells(
+        m,
+        BULLETIN_BEFORE,
+        BULLETIN_AFTER,
+        texts::CHANGED_BULLETIN,
+        texts::CHANGED_BULLETINS,
+    );
     let m = say_changes(
-        say_cells(m),
+        m,
         texts::CHANGED_RECORD,
         RECORDS_AFTER,
         RECORDS_BEFORE,

@@ -1,9 +1,10 @@
-// What a desk holds: its state, its cells and its records, by the new desk call or by hand.
+// What a desk holds: its state, its cells, its records and its bulletin, by the new desk call or by hand.
 use crate::answers::note;
 use crate::answers::note_question;
 use crate::layout::AWAITED_AFTER;
 use crate::layout::AWAITED_BEFORE;
 use crate::layout::BEFORE;
+use crate::layout::BULLETIN_BEFORE;
 use crate::layout::CELL_COUNT;
 use crate::layout::CLIENT;
 use crate::layout::DESK;
@@ -38,6 +39,7 @@ use crate::memory::on;
 use crate::memory::put;
 use crate::memory::size;
 use crate::output::say;
+use crate::output::say_changes;
 use crate::output::say_each;
 use crate::scanner;
 use crate::scanner::WORD;
@@ -136,11 +138,19 @@ pub fn set_records(m: &mut Memory) -> &mut Memory {
     m
 }
 
-// `show desk 0`: its state, the records that wait, and the cells that are not zero.
+// `show desk 0`: its state, the records that wait, the cells that are not zero, and those of the bulletin that are others than these.
 pub fn show(m: &mut Memory) -> &mut Memory {
     let waiting = size(m, WAITING_BEFORE);
     let records = if waiting < 33 { waiting } else { 33 };
     let m = say(copy(m, MADE_BEFORE, ITEM, 5), texts::STATE);
     let m = say_each(m, texts::SHOWN_RECORD, RECORDS_BEFORE, 6, records);
-    say_each(m, texts::SHOWN_CELL, BEFORE, 1, CELL_COUNT)
+    let m = say_each(m, texts::SHOWN_CELL, BEFORE, 1, CELL_COUNT);
+    say_changes(
+        m,
+        texts::SHOWN_BULLETIN,
+        BULLETIN_BEFORE,
+        BEFORE,
+        1,
+        CELL_COUNT,
+    )
 }

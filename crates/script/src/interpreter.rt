@@ -6,6 +6,7 @@ use crate::events;
 use crate::forms;
 use crate::frames;
 use crate::layout::BEFORE;
+use crate::layout::BULLETIN_BEFORE;
 use crate::layout::CELL_COUNT;
 use crate::layout::DESK;
 use crate::layout::DESKS;
@@ -14,6 +15,7 @@ use crate::layout::DONE;
 use crate::layout::FROM;
 use crate::layout::HAND;
 use crate::layout::LENT;
+use crate::layout::LENT_COUNT;
 use crate::layout::LENT_NEXT;
 use crate::layout::MADE_BEFORE;
 use crate::layout::PLAN;
@@ -81,6 +83,8 @@ const CELL: u64 = 0x6365_6c6c;
 
 const CELLS: u64 = 0x63_656c_6c73;
 
+const BULLETIN: u64 = 0x6275_6c6c_6574_696e;
+
 const RECORDS: u64 = 0x72_6563_6f72_6473;
 
 const LEND: u64 = 0x6c65_6e64;
@@ -97,7 +101,7 @@ const FRAME: u64 = 0x66_7261_6d65;
 fn reset(m: &mut Memory) -> &mut Memory {
     let m = memory::fill(m, DESKS, DESKS_REST, 0);
     let m = loans::put_all(put(put(m, PLAN, 0), SENT, 0));
-    memory::copy(m, LENT_NEXT, LENT, 4)
+    memory::copy(m, LENT_NEXT, LENT, LENT_COUNT)
 }
 
 // Says the rest of the line behind one more byte.
@@ -136,6 +140,7 @@ fn read_rest(m: &mut Memory, name: u64) -> &mut Memory {
             scanner::WORD,
         ),
         CELLS => desks::read_drawn(desks::read_made(m)),
+        BULLETIN => desks::read_made(m),
         RECORDS => operations::read_of_client(number_to(
             number_to(desks::read_made(m), FROM, 33),
             TO,
@@ -167,8 +172,9 @@ fn perform(m: &mut Memory, name: u64) -> &mut Memory {
         STATE_NAME => memory::copy(m, ITEM, MADE_BEFORE, 5),
         CELL => desks::set_cell(m),
         CELLS => draw(m, BEFORE, CELL_COUNT),
+        BULLETIN => memory::copy(m, BEFORE, BULLETIN_BEFORE, CELL_COUNT),
         RECORDS => desks::set_records(m),
-        LEND => memory::copy(m, LENT_NEXT, LENT, 4),
+        LEND => memory::copy(m, LENT_NEXT, LENT, LENT_COUNT),
         RESET => reset(m),
         SHOW => match get(m, SHOWN) {
             0 => plans::show(m),
@@ -270,7 +276,7 @@ fn run_block(m: &mut Memory) -> bool {
 
 // Reads a script from standard input, and writes what is said to it.
 pub fn run() {
-    let mut m = [0u32; 540672];
+    let mut m = [0u32; 548864];
     begin_line(reset(install_marks(texts::install(&mut m))));
     for _turn in 0..0xffff_ffff_ffffusize {
         if !run_block(&mut m) {

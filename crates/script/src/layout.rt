@@ -99,24 +99,30 @@ pub const FACTOR: usize = 21;
 
 pub const INCREMENT: usize = 23;
 
-// How many cells, words of records, outgoing words and reply words are lent, and the same as a line sets them.
-pub const LENT: usize = 24;
+// How many cells, words of records, outgoing words, reply words and cells of the bulletin are lent, and the same as a line sets them.
+pub const LENT: usize = 128;
 
-pub const LENT_CELLS: usize = 24;
+pub const LENT_CELLS: usize = 128;
 
-pub const LENT_ROW: usize = 25;
+pub const LENT_ROW: usize = 129;
 
-pub const LENT_OUTGOING: usize = 26;
+pub const LENT_OUTGOING: usize = 130;
 
-pub const LENT_REPLIES: usize = 27;
+pub const LENT_REPLIES: usize = 131;
 
-pub const LENT_NEXT: usize = 28;
+pub const LENT_BULLETIN: usize = 132;
+
+pub const LENT_COUNT: usize = 5;
+
+pub const LENT_NEXT: usize = 136;
 
 pub const NEXT_ROW: usize = LENT_NEXT + 1;
 
 pub const NEXT_OUTGOING: usize = LENT_NEXT + 2;
 
 pub const NEXT_REPLIES: usize = LENT_NEXT + 3;
+
+pub const NEXT_BULLETIN: usize = LENT_NEXT + 4;
 
 // Calls by the text of their answer. Of these, calls by the question that refused them, and in front those that no question did; how
 // many numbers there are for questions, with 0; and requests by what became of them.
@@ -141,14 +147,14 @@ pub const HAND_WORDS: usize = HAND + 1;
 
 pub const HAND_VISIT: usize = HAND + 2;
 
-pub const OUTGOING: usize = 521792;
+pub const OUTGOING: usize = 531152;
 
 pub const OUTGOING_WORDS: usize = OUTGOING + 1;
 
 pub const MOST_WORDS: usize = 6420;
 
 // The latest frames, each a number of words and these behind it.
-pub const FRAMES: usize = 110656;
+pub const FRAMES: usize = 120016;
 
 pub const FRAME_SIZE: usize = 6424;
 
@@ -158,18 +164,18 @@ pub const FRAMES_KEPT: usize = 64;
 // the one at hand, are the words behind the first.
 pub const DESKS: usize = 99136;
 
-pub const DESK_SIZE: usize = 1280;
+pub const DESK_SIZE: usize = 2320;
 
 pub const DESK_REST: usize = DESK_SIZE - 1;
 
 pub const DESKS_REST: usize = DESK_SIZE * 9 - 1;
 
-pub const BEFORE: usize = 109376;
+pub const BEFORE: usize = 117696;
 
-pub const AFTER: usize = 530432;
+pub const AFTER: usize = 538112;
 
-// Of a desk: its cells, its records, and whether it is made with its state: desk, waiting, awaited low and high. The state
-// stands in the item at hand too.
+// Of a desk: its cells, its records, whether it is made with its state (desk, waiting, awaited low and high), and its bulletin, which has
+// as many cells. The state stands in the item at hand too.
 pub const CELL_COUNT: usize = 1040;
 
 pub const RECORDS_BEFORE: usize = BEFORE + 1040;
@@ -192,6 +198,10 @@ pub const WAITING_AFTER: usize = AFTER + 1242;
 
 pub const AWAITED_AFTER: usize = AFTER + 1243;
 
+pub const BULLETIN_BEFORE: usize = BEFORE + 1280;
+
+pub const BULLETIN_AFTER: usize = AFTER + 1280;
+
 pub const ITEM_DESK: usize = ITEM + 1;
 
 pub const ITEM_WAITING: usize = ITEM + 2;
@@ -208,14 +218,14 @@ pub const THIRD_TOLD: usize = ITEM + 5;
 pub const FOURTH_TOLD: usize = ITEM + 6;
 
 // The reply words that a call left, so many a reply.
-pub const REPLIES: usize = 528224;
+pub const REPLIES: usize = 537584;
 
 pub const REPLIES_SIZE: usize = 240;
 
 pub const REPLY_SIZE: usize = 7;
 
 // What the lent buffers hold before a call: each word is the one before and 1.
-pub const MARKS: usize = 532480;
+pub const MARKS: usize = 540672;
 
 pub const BEFORE_MARKS: u32 = 0xf0ef_ffff;
 

@@ -1,5 +1,6 @@
 // How much is lent to a call.
 use crate::layout::LENT_NEXT;
+use crate::layout::NEXT_BULLETIN;
 use crate::layout::NEXT_OUTGOING;
 use crate::layout::NEXT_REPLIES;
 use crate::layout::NEXT_ROW;
@@ -13,7 +14,8 @@ use crate::texts;
 // Sizes as the paper asks for them.
 pub fn put_all(m: &mut Memory) -> &mut Memory {
     let m = put(put(m, LENT_NEXT, 1024), NEXT_ROW, 192);
-    put(put(m, NEXT_OUTGOING, 6404), NEXT_REPLIES, 224)
+    let m = put(put(m, NEXT_OUTGOING, 6404), NEXT_REPLIES, 224);
+    put(m, NEXT_BULLETIN, 1024)
 }
 
 // A size by its name.
@@ -22,6 +24,8 @@ fn read_size(m: &mut Memory) -> &mut Memory {
     match scanner::name(m) {
         // book
         0x626f_6f6b => number_to(m, LENT_NEXT, 1040),
+        // bulletin
+        0x6275_6c6c_6574_696e => number_to(m, NEXT_BULLETIN, 1040),
         // row
         0x72_6f77 => {
             let m = number_to(m, NEXT_ROW, 33);

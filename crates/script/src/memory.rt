@@ -1,7 +1,7 @@
 // The interpreter's memory: one array of words, lent to every function. Places past its end read as 0 and are not written. The words
 // at places 33 to 126 are registers: a text names one by the byte of its number. A function that writes hands the memory on.
 
-pub type Memory = [u32; 540672];
+pub type Memory = [u32; 548864];
 
 // Text that is still to be written, one byte a word, and how many bytes; it is written where there are more than the most.
 pub const OUTPUT: usize = 4096;
@@ -77,7 +77,7 @@ pub const FREE: usize = 86272;
 
 // The word at a place.
 pub fn get(m: &Memory, place: usize) -> u32 {
-    if place < 540672 { m[place] } else { 0 }
+    if place < 548864 { m[place] } else { 0 }
 }
 
 // The word at a place, as a size.
@@ -87,7 +87,7 @@ pub fn size(m: &Memory, place: usize) -> usize {
 
 // Stores a word.
 pub fn put(m: &mut Memory, place: usize, word: u32) -> &mut Memory {
-    if place < 540672 {
+    if place < 548864 {
         m[place] = word;
     }
     m

@@ -126,7 +126,13 @@ pub const FILLED: u32 = 95;
 
 pub const CHANGED_PLAN: u32 = 96;
 
-const TEXTS: [u8; 3019] = *b"\
+pub const CHANGED_BULLETIN: u32 = 97;
+
+pub const CHANGED_BULLETINS: u32 = 98;
+
+pub const SHOWN_BULLETIN: u32 = 99;
+
+const TEXTS: [u8; 3124] = *b"\
 @\
 no such command\n@\
 a number from 0 to &S is expected\n@\
@@ -142,7 +148,7 @@ this frame is not kept\n@\
 there are no such words\n@\
 more than 6420 words\n@\
 plan, desk or frame is expected\n@\
-book, row, out or replies is expected\n@\
+book, bulletin, row, out or replies is expected\n@\
 @\
 no head of kind 1 with the count of the words, 1 to 417\n@\
 desks or transactions out of range\n@\
@@ -212,7 +218,10 @@ frame %u: %h word~s}, visit %j to desk $iYE\n@\
 choose@\
 : cost %r@\
 ; T%p <hQEOby p$hQE}>hQEO<hQEPopen}>hQEPby none}, word %w is now #h@\
-?oCHANGED: %o other word~s}?o changed\n}@";
+?oCHANGED: %o other word~s}?o changed\n}@\
+; bulletin cell %p is now %h@\
+; %g bulletin cells changed, sums #x #y@\
+\x20\x20bulletin cell %p is %h\n@";
 
 // Installs the texts.
 pub fn install(m: &mut Memory) -> &mut Memory {

@@ -23,3 +23,6 @@ pub mod Answered
 pub mod Standing
 pub mod Quiescence
 pub mod Prefixes
+pub mod AtOnce
+pub mod Cuts
+pub mod Snapshots

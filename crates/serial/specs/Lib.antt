@@ -11,3 +11,4 @@ pub mod AtEnd
 pub mod Claim
 pub mod Hearing
 pub mod Machine
+pub mod Snapshot

@@ -2,7 +2,7 @@
 -- Assumes nothing.
 use mathlib.Core.Path.{refl}
 use lib.Count.{ones}
-use Rattle.lists.specs.Lists.{every, some}
+use Rattle.lists.specs.Lists.{every, some, tabulate}
 use Rattle.word.specs.Reserved.{sourceField, reservedZero}
 use Rattle.plan.specs.Decode.{accessBy, actionBy, stepOf, partBy, transactionsOf, planOf}
 use Rattle.plan.specs.Admission.{hasHead, countsInRange, transactionFormed, stepFormed, tellCount, wellFormed, sourceExists, stepExists}
@@ -24,6 +24,7 @@ use Rattle.desk.specs.Admission.{deskBuffersFit, waitsHere, deskFits}
 use Rattle.visits.specs.Admission.{visitBuffersFit, turnVerdict}
 use Rattle.visits.specs.Waiting.{runAll, updatesOf, repliesOf, repliesWords}
 use Rattle.token.specs.Forward.{foreign, applyAll}
+use Rattle.visits.specs.Snapshot.{copiedBy}
 use Rattle.visits.specs.Visit.{visitVerdict, visitResult}
 use Rattle.starred.specs.Table.{Starred}
 
@@ -34,5 +35,5 @@ unfolding ones sourceField reservedZero accessBy actionBy stepOf partBy transact
     rowTouched cellTouched stepTouches deskMask cellGiven stepWrites written classBy classifyResult
     readVerdict frameVerdict frameHeaded sumsRight updatesRight frames.wellFormed updateFormed cellFormed fewPerDesk deskCount writesFrom
     updatesFrom sumsFrom frameAround writeWords updateWords updatesWords act runFrom applyUpdate deskBuffersFit visitBuffersFit waitsHere
-    deskFits turnVerdict runAll updatesOf repliesOf repliesWords foreign applyAll visitVerdict visitResult
+    deskFits turnVerdict runAll updatesOf repliesOf repliesWords foreign applyAll visitVerdict visitResult copiedBy tabulate
 starred = refl

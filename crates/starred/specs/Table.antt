@@ -80,12 +80,12 @@ pub data Result : Type 0 where
 abbrev shown : visiting.Visited → Left
 shown v = left (v .answer) (v .state) (take 7 (v .out)) (take replySize (v .replies))
 
--- "State, book and row pass from call to call at their desk": each visit runs on what the one before left
-abbrev visitsFrom : Holding → List (List ℕ) → List Left
-visitsFrom h [] = []
-visitsFrom h (ws ∷ frames) =
-    let v = visitResult planP h ws (replicate longestFrame 0) (replicate repliesSize 0) in
-    shown v ∷ visitsFrom (holding (v .state) (v .cells) (h .queue)) frames
+-- "State, book and row pass from call to call at their desk", and so does the snapshot: each visit runs on what the one before left
+abbrev visitsFrom : Holding → List ℕ → List (List ℕ) → List Left
+visitsFrom h snapshot [] = []
+visitsFrom h snapshot (ws ∷ frames) =
+    let v = visitResult planP h snapshot ws (replicate longestFrame 0) (replicate repliesSize 0) in
+    shown v ∷ visitsFrom (holding (v .state) (v .cells) (h .queue)) (v .snapshot) frames
 
 abbrev pub resultOf : Input → Result
 resultOf readPlan = verdict (planVerdict planP)
@@ -95,7 +95,8 @@ resultOf (cellsWritten k ps) = cells (writeSet (planOf planP) (operation k ps))
 resultOf (startFrame out) = started (startVerdict out) (startWords out)
 resultOf (readFrame ws) = frame (visitRead (readVerdict planP ws) ws) (updatesFrom 0 (partRead (readVerdict planP ws) ws))
 resultOf (visits d waiting frames) =
-    visited (visitsFrom (holding d (replicate storeSize 0) (waiting ++ replicate (queueSize - length waiting) noRequest)) frames)
+    visited (visitsFrom (holding d (replicate storeSize 0) (waiting ++ replicate (queueSize - length waiting) noRequest))
+    (replicate storeSize 0) frames)
 
 pub record Row : Type 0 where
   pub input : Input

@@ -6,3 +6,4 @@ pub mod Outgoing
 pub mod Visited
 pub mod ReadsWaiting
 pub mod ReplyWord
+pub mod SharedCopied

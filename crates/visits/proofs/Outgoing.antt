@@ -24,14 +24,14 @@ use Rattle.desk.specs.Holding.{Holding, waitingAt}
 use Rattle.visits.specs.Waiting.{runAll, updatesOf}
 use Rattle.visits.specs.Running.{allMade, allReplies, AllRun}
 use Rattle.visits.specs.Visit.{Forwarding, forwarded, Visited, acceptedVisit}
-use Rattle.visits.proofs.Questions.{Passable}
+use Rattle.visits.specs.Core.{Passable}
 use Rattle.visits.proofs.OwnUpdates.{updates-count, replies-count, all-fit}
 use Rattle.visits.proofs.Assembled.{frame-length}
 
-visited-same : (a b : Forwarding) (t u : Desk) (c c′ o o′ q q′ : List ℕ) → a ≡ b → t ≡ u → c ≡ c′ → o ≡ o′ → q ≡ q′
-    → _≡_ {A = Visited} (record { answer = a; state = t; cells = c; out = o; replies = q })
-    (record { answer = b; state = u; cells = c′; out = o′; replies = q′ })
-visited-same a b t u c c′ o o′ q q′ ea et ec eo eq = rw (ea, et, ec, eo, eq)
+visited-same : (a b : Forwarding) (t u : Desk) (c c′ taken o o′ q q′ : List ℕ) → a ≡ b → t ≡ u → c ≡ c′ → o ≡ o′ → q ≡ q′
+    → _≡_ {A = Visited} (record { answer = a; state = t; cells = c; snapshot = taken; out = o; replies = q })
+    (record { answer = b; state = u; cells = c′; snapshot = taken; out = o′; replies = q′ })
+visited-same a b t u c c′ taken o o′ q q′ ea et ec eo eq = rw (ea, et, ec, eo, eq)
 
 pub frame-size : (n : ℕ) (f : List ℕ) → frameVerdict n f ≡ accepted → (leastFrame ≤ length f) × (length f ≤ longestFrame)
 frame-size n f e = let h = headed f (admitted n f e .head) in (h .low, h .high)
@@ -94,15 +94,16 @@ module _ (ws : List ℕ) (h : Holding) (f out replies : List ℕ) (a : Passable 
         → o ≡ overwritten (frameAround ((frameVisit f + 1) % n) (frameVisit f + 1)
         (foreignWords (h .state .desk) body ++ allMade (planOf ws) (h .state .desk) (waitingAt h) s)) out
         → q ≡ overwritten (allReplies (planOf ws) (waitingAt h) s) replies
-        → _≡_ {A = Visited} (record {
+        → (taken : List ℕ) → _≡_ {A = Visited} (record {
           answer = forwarded (end + 2) (h .state .waiting);
           state = record { desk = h .state .desk; waiting = 0; awaited = frameVisit f + n };
           cells = s′;
+          snapshot = taken;
           out = o;
           replies = q;
-        }) (acceptedVisit (planOf ws) h f out replies)
+        }) (acceptedVisit (planOf ws) h f taken out replies)
     unfolding allReplies
-    accepted-is n end s′ o q en ee es eo eq =
+    accepted-is n end s′ o q en ee es eo eq taken =
         let caught : s ≡ applyAll (foreign (h .state .desk) (frameUpdates f)) (h .cells) =
         e ∙ ap (λ (t : List ℕ). applyAll (foreign (h .state .desk) (updatesFrom 0 t)) (h .cells)) b in
         let rs = waitingAt h in
@@ -111,7 +112,7 @@ module _ (ws : List ℕ) (h : Holding) (f out replies : List ℕ) (a : Passable 
         let count : h .state .waiting ≡ length rs =
         sym (length-take-le (h .state .waiting) (h .queue) (omega (arith, a .waiting, a .queueLong))) in
         rw (← caught)
-        (visited-same _ _ _ _ _ _ _ _ _ _
+        (visited-same _ _ _ _ _ _ _ _ _ _ _
         (ap₂ forwarded
         (omega (arith, ee, ap length words-are, frame-length (v % planOf ws .desks) v (updatesWords us)))
         (count ∙ sym (replies-count (planOf ws) rs s)))

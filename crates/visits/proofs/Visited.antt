@@ -12,7 +12,7 @@ use lib.ListN.{length}
 use native.Mathlib.Omega.{arith}
 use borrow.Author.Tests.{eqb-true, ne-eqb}
 use Rattle.verdict.specs.Verdict.{Verdict, accepted, refused, ask, _then_}
-use Rattle.verdict.proofs.Verdicts.{then-accepted, ask-accepted, then-associates}
+use Rattle.verdict.proofs.Verdicts.{then-accepted, ask-accepted}
 use Rattle.lists.proofs.Laws.{and-fst, and-snd, by-same}
 use Rattle.plan.specs.Decode.{planOf}
 use Rattle.plan.specs.Admission.{planVerdict}
@@ -24,24 +24,27 @@ use Rattle.desk.specs.declared.state.Desk.{Desk}
 use Rattle.desk.specs.Holding.{Holding, holding}
 use Rattle.desk.specs.Admission.{deskBuffersFit, deskFits}
 use Rattle.visits.specs.Admission.{visitBuffersFit, turnVerdict}
+use Rattle.visits.specs.Snapshot.{snapshotTaken}
 use Rattle.visits.specs.Visit.{unchanged, acceptedVisit, visitVerdict, visitResult}
 use Rattle.visits.specs.Core.{openingVerdict, tokenVerdict}
+use Rattle.visits.proofs.Questions.{buffers-before-state}
 
 -- ---- questions 1 to 4, 17 and 5
 
-module _ (ws cells row out replies : List ℕ) where
+module _ (ws cells snapshot row out replies : List ℕ) where
   abbrev buffersFit : Bool
-  buffersFit = deskBuffersFit cells (queueIn row) && visitBuffersFit out replies
+  buffersFit = deskBuffersFit cells (queueIn row) && visitBuffersFit snapshot out replies
 
-  pub plan-refused : (question : ℕ) → planVerdict ws ≡ refused question → openingVerdict ws cells row out replies ≡ refused question
+  pub plan-refused : (question : ℕ) → planVerdict ws ≡ refused question
+      → openingVerdict ws cells snapshot row out replies ≡ refused question
   unfolding openingVerdict
   plan-refused question e = rw e
 
-  pub by-buffers : planVerdict ws ≡ accepted → openingVerdict ws cells row out replies ≡ ask 5 buffersFit
+  pub by-buffers : planVerdict ws ≡ accepted → openingVerdict ws cells snapshot row out replies ≡ ask 5 buffersFit
   unfolding openingVerdict
   by-buffers e = rw e
 
-  module _ (e : openingVerdict ws cells row out replies ≡ accepted) where
+  module _ (e : openingVerdict ws cells snapshot row out replies ≡ accepted) where
     pub plan-passes : planVerdict ws ≡ accepted
     unfolding openingVerdict
     plan-passes = then-accepted (planVerdict ws) _ e .0
@@ -74,45 +77,47 @@ module _ (ws : List ℕ) (d : Desk) (records : List Request) (frame : List ℕ) 
 
 -- ---- all of them
 
-module _ (ws : List ℕ) (d : Desk) (cells row frame out replies : List ℕ) where
+module _ (ws : List ℕ) (d : Desk) (cells snapshot row frame out replies : List ℕ) where
   -- what the desk holds
   abbrev held : Holding
   held = holding d cells (queueIn row)
 
-  asked : visitVerdict ws held frame out replies
-      ≡ (openingVerdict ws cells row out replies then tokenVerdict ws d (queueIn row) frame)
-  unfolding visitVerdict openingVerdict tokenVerdict
-  asked = then-associates (planVerdict ws) _ _
+  asked : visitVerdict ws held snapshot frame out replies
+      ≡ (openingVerdict ws cells snapshot row out replies then tokenVerdict ws d (queueIn row) frame)
+  unfolding openingVerdict
+  asked = buffers-before-state ws held snapshot frame out replies
 
-  refused-leaves : (question : ℕ) → visitVerdict ws held frame out replies ≡ refused question
-      → unchanged held out replies question ≡ visitResult ws held frame out replies
+  refused-leaves : (question : ℕ) → visitVerdict ws held snapshot frame out replies ≡ refused question
+      → unchanged held snapshot out replies question ≡ visitResult ws held snapshot frame out replies
   unfolding visitResult
   refused-leaves question e = rw e
 
-  pub opening-refused : (question : ℕ) → openingVerdict ws cells row out replies ≡ refused question
-      → unchanged held out replies question ≡ visitResult ws held frame out replies
+  pub opening-refused : (question : ℕ) → openingVerdict ws cells snapshot row out replies ≡ refused question
+      → unchanged held snapshot out replies question ≡ visitResult ws held snapshot frame out replies
   opening-refused question e =
       refused-leaves question (asked ∙ ap (λ (v : Verdict). v then tokenVerdict ws d (queueIn row) frame) e)
 
-  module _ (e : openingVerdict ws cells row out replies ≡ accepted) where
-    opened : visitVerdict ws held frame out replies ≡ tokenVerdict ws d (recordsIn row) frame
+  module _ (e : openingVerdict ws cells snapshot row out replies ≡ accepted) where
+    opened : visitVerdict ws held snapshot frame out replies ≡ tokenVerdict ws d (recordsIn row) frame
     opened =
         asked ∙ ap (λ (v : Verdict). v then tokenVerdict ws d (queueIn row) frame) e
-        ∙ ap (λ (rs : List Request). tokenVerdict ws d rs frame) (row-whole ws cells row out replies e)
+        ∙ ap (λ (rs : List Request). tokenVerdict ws d rs frame) (row-whole ws cells snapshot row out replies e)
 
     pub token-refused : (question : ℕ) → tokenVerdict ws d (recordsIn row) frame ≡ refused question
-        → unchanged held out replies question ≡ visitResult ws held frame out replies
+        → unchanged held snapshot out replies question ≡ visitResult ws held snapshot frame out replies
     token-refused question h = refused-leaves question (opened ∙ h)
 
     module _ (h : tokenVerdict ws d (recordsIn row) frame ≡ accepted) where
-      pub all-pass : visitVerdict ws (holding d cells (recordsIn row)) frame out replies ≡ accepted
+      pub all-pass : visitVerdict ws (holding d cells (recordsIn row)) snapshot frame out replies ≡ accepted
       all-pass =
-          ap (λ (rs : List Request). visitVerdict ws (holding d cells rs) frame out replies) (sym (row-whole ws cells row out replies e))
+          ap (λ (rs : List Request). visitVerdict ws (holding d cells rs) snapshot frame out replies)
+          (sym (row-whole ws cells snapshot row out replies e))
           ∙ opened ∙ h
 
-      pub accepted-leaves : acceptedVisit (planOf ws) (holding d cells (recordsIn row)) frame out replies
-          ≡ visitResult ws held frame out replies
+      pub accepted-leaves : (taken : List ℕ) → taken ≡ snapshotTaken (planOf ws) cells snapshot
+          → acceptedVisit (planOf ws) (holding d cells (recordsIn row)) frame taken out replies
+          ≡ visitResult ws held snapshot frame out replies
       unfolding visitResult
-      accepted-leaves =
-          rw (opened ∙ h) (ap (λ (rs : List Request). acceptedVisit (planOf ws) (holding d cells rs) frame out replies)
-          (sym (row-whole ws cells row out replies e)))
+      accepted-leaves taken t =
+          rw (opened ∙ h, t) (ap (λ (rs : List Request). acceptedVisit (planOf ws) (holding d cells rs) frame
+          (snapshotTaken (planOf ws) cells snapshot) out replies) (sym (row-whole ws cells snapshot row out replies e)))

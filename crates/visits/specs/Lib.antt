@@ -1,5 +1,6 @@
 pub mod Waiting
 pub mod Admission
+pub mod Snapshot
 pub mod Running
 pub mod Core
 pub mod Visit

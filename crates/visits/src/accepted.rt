@@ -1,12 +1,11 @@
 // What a visit does once all its questions are answered with yes.
 ghost use mathlib.Core.Path.{_≡_};
-ghost use Rattle.verdict.specs.Verdict.{accepted};
 ghost use Rattle.plan.specs.Decode.{planOf};
 ghost use Rattle.plan.specs.Place.{transactionPlaces};
 ghost use Rattle.queue.specs.Words.{recordsIn};
 ghost use Rattle.desk.specs.Holding.{holding};
-ghost use Rattle.visits.specs.Visit.{visitVerdict, acceptedVisit};
-ghost use Rattle.visits.specs.Answer.{visitedOf};
+ghost use Rattle.visits.specs.Core.{Passable};
+ghost use Rattle.visits.specs.Answer.{LeavesAccepted};
 use crate::running;
 use crate::visiting::VisitAnswer;
 use crate::visiting::VisitResult;
@@ -14,6 +13,7 @@ use desk::Desk;
 use word::fields;
 
 // Drops the desk's own updates, applies the others and sends them on, runs the waiting requests, and seals the frame for the next visit.
+// The snapshot is taken before, and is no matter here.
 pub(crate) fn accepted_visit(
     plan: &[u32],
     places: &[usize],
@@ -24,11 +24,10 @@ pub(crate) fn accepted_visit(
     out: &mut [u32],
     replies: &mut [u32],
 ) -> VisitResult
-    requires { ⌜ (visitVerdict (now plan) (holding state (now cells) (recordsIn (now row))) (now frame) (now out) (now replies) ≡ accepted)
+    requires { ⌜ Passable (now plan) (holding state (now cells) (recordsIn (now row))) (now frame) (now out) (now replies)
         × (now places ≡ transactionPlaces (now plan)) ⌝ }
-    ensures { λ r. ⌜ visitedOf r (now (cells .exit)) (now (out .exit)) (now (replies .exit))
-        ≡ acceptedVisit (planOf (now (plan .entry))) (holding state (now (cells .entry)) (recordsIn (now (row .entry))))
-        (now (frame .entry)) (now (out .entry)) (now (replies .entry)) ⌝ }
+    ensures { λ r. ⌜ LeavesAccepted (planOf (now (plan .entry))) (holding state (now (cells .entry)) (recordsIn (now (row .entry))))
+        (now (frame .entry)) (now (out .entry)) (now (replies .entry)) r (now (cells .exit)) (now (out .exit)) (now (replies .exit)) ⌝ }
 {
     let desk = state.desk;
     let waiting = state.waiting as usize;

@@ -14,16 +14,26 @@ pub fn visit_by_value(
     plan: &[u32],
     state: Desk,
     cells: &mut [u32],
+    snapshot: &mut [u32],
     size: usize,
     row: [u32; QUEUE_WORDS],
     frame: &[u32],
     out: &mut [u32],
     replies: &mut [u32],
 ) -> VisitResult
-    ensures { λ r. ⌜ visitedOf r (now (cells .exit)) (now (out .exit)) (now (replies .exit))
-        ≡ visitResult (now (plan .entry)) (holding state (now (cells .entry)) (queueOf size row))
+    ensures { λ r. ⌜ visitedOf r (now (cells .exit)) (now (snapshot .exit)) (now (out .exit)) (now (replies .exit))
+        ≡ visitResult (now (plan .entry)) (holding state (now (cells .entry)) (queueOf size row)) (now (snapshot .entry))
         (now (frame .entry)) (now (out .entry)) (now (replies .entry)) ⌝ }
 {
     let words = queue::words_of(size);
-    visiting::visit_on_words(plan, state, cells, &row[..words], frame, out, replies)
+    visiting::visit_on_words(
+        plan,
+        state,
+        cells,
+        snapshot,
+        &row[..words],
+        frame,
+        out,
+        replies,
+    )
 }

@@ -13,7 +13,7 @@ use Rattle.queue.specs.Words.{recordsIn}
 use Rattle.desk.specs.Holding.{holding}
 use Rattle.desk.specs.Queueing.{waitingIn}
 use Rattle.visits.specs.Running.{allMade}
-use Rattle.visits.proofs.Questions.{Passable, questions-give}
+use Rattle.visits.specs.Core.{Passable}
 use Rattle.visits.proofs.Assembled.{Copied, Joined, copied-length, copied-room, end-is, all-length, sealed-over}
 use Rattle.visits.proofs.Outgoing.{frame-size, part-is, written, body-room, words-fit, all-run, accepted-is}
 use borrow.Author.Needs.{needs}
@@ -38,7 +38,7 @@ cast-waiting c = search needs
 adm : (c : tie.Start)
     → let a = c .args in
     Passable (a .plan .now) (holding (a .state) (a .cells .now) (recordsIn (a .row .now))) (a .frame .now) (a .out .now) (a .replies .now)
-adm c = questions-give _ _ _ _ _ (c .pre .0)
+adm c = c .pre .0
 
 low : (c : tie.Start) → 4 ≤ length (c .args .frame .now)
 low c = frame-size _ _ (adm c .frame) .0

@@ -21,23 +21,23 @@ words-of-requires c κs = search needs
 
 -- the start of the call, where it is known how many words are lent
 abbrev start : tie.After-words-of → tie.Start
-start c = c .before .before .before .before .before .before
+start c = c .before .before .before .before .before .before .before
 
-long : (c : tie.Start) → length (c .args .t5) ≡ 192
+long : (c : tie.Start) → length (c .args .t6) ≡ 192
 long c = search needs
 
 at-most : (b : Bool) → cond b 192 0 ≤ 192
 at-most true = omega arith
 at-most false = omega arith
 
-within : (c : tie.After-words-of) → c .words-of .result ≤ length (start c .args .t5)
+within : (c : tie.After-words-of) → c .words-of .result ≤ length (start c .args .t6)
 within c = omega (arith, c .words-of .ensures, at-most (eqb (start c .args .size) 32), long (start c))
 
 array-share-prefix-row : tie.Need-array-share-prefix-row
-array-share-prefix-row c = within (c .before)
+array-share-prefix-row c = within (c .before .before)
 
 slice-aggregate-visit-on-words : tie.Need-slice-aggregate-visit-on-words
-slice-aggregate-visit-on-words c = sym (length-take-le _ _ (within (c .before .before)))
+slice-aggregate-visit-on-words c = sym (length-take-le _ _ (within (c .before .before .before)))
 
 visit-on-words-requires : tie.Need-visit-on-words-requires
 visit-on-words-requires c κs = search needs
@@ -51,16 +51,19 @@ same-length-2 c = search needs
 same-length-3 : tie.Need-same-length-3
 same-length-3 c = search needs
 
+same-length-4 : tie.Need-same-length-4
+same-length-4 c = search needs
+
 returns : tie.Need-returns
 returns c =
-    let v = c .before .before .before .before .before .before in
-    let w = v .before .before .before .before .before in
+    let v = c .before .before .before .before .before .before .before .before in
+    let w = v .before .before .before .before .before .before in
     let a = start w .args in
     v .visit-on-words .ensures
-    ∙ ap (λ (n : ℕ). visitResult (a .plan .now) (holding (a .state) (a .cells .now) (queueIn (take n (a .t5)))) (a .frame .now)
-    (a .out .now) (a .replies .now)) (w .words-of .ensures)
-    ∙ sym (visit-same (a .plan .now) (a .state) (a .cells .now) (queueOf (a .size) (a .t5)) (queueIn (take (wordsOf (a .size)) (a .t5)))
-    (a .frame .now) (a .out .now) (a .replies .now) (lent-same (a .state .waiting) (a .size) (a .t5) (long (start w))))
+    ∙ ap (λ (n : ℕ). visitResult (a .plan .now) (holding (a .state) (a .cells .now) (queueIn (take n (a .t6)))) (a .snapshot .now)
+    (a .frame .now) (a .out .now) (a .replies .now)) (w .words-of .ensures)
+    ∙ sym (visit-same (a .plan .now) (a .state) (a .cells .now) (queueOf (a .size) (a .t6)) (queueIn (take (wordsOf (a .size)) (a .t6)))
+    (a .snapshot .now) (a .frame .now) (a .out .now) (a .replies .now) (lent-same (a .state .waiting) (a .size) (a .t6) (long (start w))))
 
 pub visit-by-value-spec : {M : Type 1} → statement M
 visit-by-value-spec =
@@ -73,4 +76,5 @@ visit-by-value-spec =
     same-length
     same-length-2
     same-length-3
+    same-length-4
     returns)

@@ -17,11 +17,27 @@ returns-2 c = rw (eq-eqb _ _ (c .before .if1 .left), queueIn-none _ (ne-eqb _ _ 
 
 returns-3 : tie.Need-returns-3
 unfolding deskBuffersFit visitBuffersFit
-returns-3 c = rw (eq-eqb _ _ (c .before .before .if1 .left), length-queueIn _ (c .before .if2 .left), lt-leb _ _ (c .if3 .taken))
+returns-3 c = rw (eq-eqb _ _ (c .before .before .if1 .left), length-queueIn _ (c .before .if2 .left), ne-eqb _ _ (c .if3 .taken))
 
 returns-4 : tie.Need-returns-4
 unfolding deskBuffersFit visitBuffersFit
-returns-4 c = rw (eq-eqb _ _ (c .before .before .if1 .left), length-queueIn _ (c .before .if2 .left), le-leb _ _ (c .if3 .left))
+returns-4 c =
+    rw (
+      eq-eqb _ _ (c .before .before .before .if1 .left),
+      length-queueIn _ (c .before .before .if2 .left),
+      eq-eqb _ _ (c .before .if3 .left),
+      lt-leb _ _ (c .if4 .taken),
+    )
+
+returns-5 : tie.Need-returns-5
+unfolding deskBuffersFit visitBuffersFit
+returns-5 c =
+    rw (
+      eq-eqb _ _ (c .before .before .before .if1 .left),
+      length-queueIn _ (c .before .before .if2 .left),
+      eq-eqb _ _ (c .before .if3 .left),
+      le-leb _ _ (c .if4 .left),
+    )
 
 pub buffers-fit-spec : {M : Type 1} → statement M
-buffers-fit-spec = tie.close (tie.spec returns returns-2 returns-3 returns-4)
+buffers-fit-spec = tie.close (tie.spec returns returns-2 returns-3 returns-4 returns-5)

@@ -16,8 +16,8 @@ enum-known-question c = search needs
 
 returns : tie.Need-returns
 returns c =
-    let d = c .before .before .before .before .before .before .before .before .before in
-    sym (plan-refused (d .args .plan .now) (d .args .cells .now) (d .args .row .now) (d .args .out .now) (d .args .replies .now) _
+    let a = c .before .before .before .before .before .before .before .before .before .before .args in
+    sym (plan-refused (a .plan .now) (a .cells .now) (a .snapshot .now) (a .row .now) (a .out .now) (a .replies .now) _
     (sym (c .before .before .before .read-plan .ensures) ∙ ap verdictOf (c .before .question .given .1)))
 
 enum-told : tie.Need-enum-told
@@ -28,13 +28,13 @@ buffers-fit-requires c κs = search needs
 
 -- the plan passes, and the buffers decide
 decided : (c : tie.After-buffers-fit)
-    → let a = c .before .before .before .before .before .before .before .before .before .args in
-    openingVerdict (a .plan .now) (a .cells .now) (a .row .now) (a .out .now) (a .replies .now)
+    → let a = c .before .before .before .before .before .before .before .before .before .before .args in
+    openingVerdict (a .plan .now) (a .cells .now) (a .snapshot .now) (a .row .now) (a .out .now) (a .replies .now)
     ≡ ask 5 (c .buffers-fit .result)
 decided c =
     let e = c .before in
-    let a = e .before .before .before .before .before .before .before .before .args in
-    by-buffers (a .plan .now) (a .cells .now) (a .row .now) (a .out .now) (a .replies .now)
+    let a = e .before .before .before .before .before .before .before .before .before .args in
+    by-buffers (a .plan .now) (a .cells .now) (a .snapshot .now) (a .row .now) (a .out .now) (a .replies .now)
     (sym (e .before .before .read-plan .ensures) ∙ ap verdictOf (e .enum-told .given .1))
     ∙ ap (ask 5) (sym (c .buffers-fit .ensures))
 

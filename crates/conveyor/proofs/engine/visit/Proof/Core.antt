@@ -33,11 +33,11 @@ module _ {M : Type 1} (𝓤 : URA M) (H : Heap 𝓤) (A : Atoms 𝓤) (mem : Mem
   CoreTriple = tripleOf 𝓤 H A core.signature (core.spec 𝓤 H A mem run)
 
 module _ (x : Entry) where
-  abbrev pub coreLfts : Lft × (Lft × (Lft × (Lft × (Lft × Unit {0}))))
-  coreLfts = (x .plan .lft, (x .cells .lft, (x .frame .lft, (x .out .lft, (x .replies .lft, tt)))))
+  abbrev pub coreLfts : Lft × (Lft × (Lft × (Lft × (Lft × (Lft × Unit {0})))))
+  coreLfts = (x .plan .lft, (x .cells .lft, (x .snapshot .lft, (x .frame .lft, (x .out .lft, (x .replies .lft, tt))))))
 
   abbrev pub CoreArgs : Type 0
-  CoreArgs = Words x × (Desk × (Words x × (ℕ × (List ℕ × (Words x × (Words x × (Words x × Unit {0})))))))
+  CoreArgs = Words x × (Desk × (Words x × (Words x × (ℕ × (List ℕ × (Words x × (Words x × (Words x × Unit {0}))))))))
 
   abbrev pub core-args : CoreArgs
   core-args = (
@@ -47,8 +47,11 @@ module _ (x : Entry) where
       (
         refAt (x .cells),
         (
-          length (x .queue .now),
-          (copy x, (refAt (x .frame), (refAt (x .out), (refAt (x .replies), tt)))),
+          refAt (x .snapshot),
+          (
+            length (x .queue .now),
+            (copy x, (refAt (x .frame), (refAt (x .out), (refAt (x .replies), tt)))),
+          ),
         ),
       ),
     ),
@@ -59,7 +62,10 @@ module _ (x : Entry) where
     to-core w = (
       (
         coreLfts,
-        (x .plan .share, (x .cells .share, (x .frame .share, (x .out .share, (x .replies .share, tt))))),
+        (
+          x .plan .share,
+          (x .cells .share, (x .snapshot .share, (x .frame .share, (x .out .share, (x .replies .share, tt))))),
+        ),
         tt,
         core-args,
         (
@@ -69,8 +75,11 @@ module _ (x : Entry) where
             (
               refVal (x .cells) ∷ [],
               (
-                vint w64 (length (x .queue .now)) ∷ [],
-                (w ∷ [], (refVal (x .frame) ∷ [], (refVal (x .out) ∷ [], (refVal (x .replies) ∷ [], tt)))),
+                refVal (x .snapshot) ∷ [],
+                (
+                  vint w64 (length (x .queue .now)) ∷ [],
+                  (w ∷ [], (refVal (x .frame) ∷ [], (refVal (x .out) ∷ [], (refVal (x .replies) ∷ [], tt)))),
+                ),
               ),
             ),
           ),
@@ -81,18 +90,20 @@ module _ (x : Entry) where
 
     -- what is had when it is called
     abbrev pub Asks : List (Item 𝓤)
-    Asks = ‵ (token (x .plan)) ∷ ‵ (token (x .cells)) ∷ ‵ (token (x .frame)) ∷ ‵ (token (x .out)) ∷ ‵ (token (x .replies)) ∷
-        ‵ (Reads (x .plan)) ∷ ‵ (Writes (x .cells)) ∷ ‵ (Reads (x .frame)) ∷ ‵ (Writes (x .out)) ∷ ‵ (Writes (x .replies)) ∷ []
+    Asks = ‵ (token (x .plan)) ∷ ‵ (token (x .cells)) ∷ ‵ (token (x .snapshot)) ∷ ‵ (token (x .frame)) ∷ ‵ (token (x .out)) ∷
+        ‵ (token (x .replies)) ∷ ‵ (Reads (x .plan)) ∷ ‵ (Writes (x .cells)) ∷ ‵ (Writes (x .snapshot)) ∷ ‵ (Reads (x .frame)) ∷
+        ‵ (Writes (x .out)) ∷ ‵ (Writes (x .replies)) ∷ []
 
     pub goes-core : Given 𝓤 H A → Fits x → (w : Val) → Is Row (copy x) (w ∷ [])
         → ent 𝓤 (⋆ 𝓤 H A Asks) (CoreTriple 𝓤 H A mem run .pre (to-core w))
     goes-core W f w is =
         qed W Asks ∵
-        nothing ! $ move ! (10 ∷ 0 ∷ []) $ fjoin ! $ move ! (9 ∷ 0 ∷ []) $ fjoin ! $ move ! (8 ∷ 0 ∷ []) $ fjoin ! $
+        nothing ! $ move ! (12 ∷ 0 ∷ []) $ fjoin ! $ move ! (11 ∷ 0 ∷ []) $ fjoin ! $ move ! (10 ∷ 0 ∷ []) $ fjoin ! $
         owned ! Row (Is Row) (row-makes 𝓤 H A W) (copy x) _ is $ fjoin ! $
         owned ! usize (Is usize) (size-makes 𝓤 H A W) (length (x .queue .now)) _ (refl, f .size) $ fjoin ! $
-        move ! (7 ∷ 0 ∷ []) $ fjoin ! $
+        move ! (9 ∷ 0 ∷ []) $ fjoin ! $ move ! (8 ∷ 0 ∷ []) $ fjoin ! $
         owned ! D.the-row (Is D.the-row) (desk-makes 𝓤 H A W) (x .state) _ (f .state) $ fjoin ! $
-        move ! (6 ∷ 0 ∷ []) $ fjoin ! $
-        nothing ! $ move ! (6 ∷ 0 ∷ []) $ join ! $ move ! (5 ∷ 0 ∷ []) $ join ! $ move ! (4 ∷ 0 ∷ []) $ join ! $
-        move ! (3 ∷ 0 ∷ []) $ join ! $ move ! (2 ∷ 0 ∷ []) $ join ! $ join ! $ frame ! $ nothing ! $ done !
+        move ! (7 ∷ 0 ∷ []) $ fjoin ! $
+        nothing ! $ move ! (7 ∷ 0 ∷ []) $ join ! $ move ! (6 ∷ 0 ∷ []) $ join ! $ move ! (5 ∷ 0 ∷ []) $ join ! $
+        move ! (4 ∷ 0 ∷ []) $ join ! $ move ! (3 ∷ 0 ∷ []) $ join ! $ move ! (2 ∷ 0 ∷ []) $ join ! $ join ! $ frame ! $ nothing ! $
+        done !
