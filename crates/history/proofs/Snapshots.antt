@@ -5,26 +5,27 @@ use Prim.Native.Nat.{ℕ, suc, _<_}
 use mathlib.Core.Path.{_≡_, refl, sym, _∙_, ap}
 use mathlib.Core.Bool.{Bool, true, false, cond}
 use mathlib.Core.List.{List, [], _∷_, map}
+use native.Mathlib.Omega.{arith}
 use lib.ListN.{length, getD}
 use Rattle.verdict.specs.Verdict.{accepted}
 use Rattle.plan.specs.Plan.{Plan}
 use Rattle.plan.specs.Decode.{planOf}
 use Rattle.plan.specs.Admission.{planVerdict}
-use Rattle.operation.specs.Operation.{Operation, deskOf}
+use Rattle.operation.specs.Operation.{Operation}
 use Rattle.operation.specs.Store.{Store}
 use Rattle.conflict.specs.Class.{Class}
 use Rattle.conflict.specs.Meaning.{Toucher}
 use Rattle.conflict.specs.Shared.{Shared}
 use Rattle.queue.specs.declared.record.Request.{Request}
-use Rattle.serial.specs.System.{System}
+use Rattle.serial.specs.System.{System, Touches}
 use Rattle.serial.specs.SerialRun as run
 use Rattle.serial.specs.Order as protocolOrder
 use Rattle.serial.specs.Snapshot.{Snapshots, newSnapshots, snapshotsOf, Unowned, through}
 use Rattle.serial.specs.Snapshot as protocol
 use Rattle.serial.specs.AtEnd.{serialOf}
-use Rattle.serial.specs.Hearing.{OwnCell}
 use Rattle.serial.specs.Machine.{Machine, Words}
 use Rattle.serial.proofs.Bridge.{machine-called, machine-desks}
+use Rattle.serial.proofs.Standing.{shared-hears}
 use Rattle.serial.proofs.Snapshots.{snapshots-show, store-through}
 use Rattle.history.specs.History.{Call, request, visit, Kept, holdingsAfter, start, ProperFromStart}
 use Rattle.history.specs.Order.{globalRun, Finished, before}
@@ -108,14 +109,13 @@ module _ (ws : List ℕ) (accept : planVerdict ws ≡ accepted) (class : Operati
         ∙ ap (λ (es : List (protocolOrder.Finished Operation)). run.storeAfter S es cells) (sym (cut-seen p m (order s) h))
         ∙ store-seen ws class sizes (throughGlobal m (order s)) cells (cut-runs p m (order s) h)
 
-    -- no local operation may write a shared cell: any operation that touches what it writes is of its desk
-    own-desk : (q c d : ℕ) (o : OwnCell S q c) → Toucher p d c → d ≡ deskOf p (o .0)
-    own-desk q c d o t =
-        sym (t .2) ∙ laws ws accept class right sizes .local-alone (o .0) (o .1) c (o .3) (t .0)
-        (of-touch ws accept class right sizes (t .0) c (t .1) (t .3))
-
+    -- no local operation may write a shared cell: every desk hears of it, also another than the operation's
     unowned : (c : ℕ) → Shared p c → Unowned S c
-    unowned c h q o = h .2 (own-desk q c (h .0) o (h .3) ∙ sym (own-desk q c (h .1) o (h .4)))
+    unowned c h q o =
+        let touches : (d : ℕ) (t : Toucher p d c) → Touches S (t .0) c =
+        λ d t. of-touch ws accept class right sizes (t .0) c (t .1) (t .3) in
+        shared-hears S (laws ws accept class right sizes) (h .3 .0) (h .4 .0) c (touches (h .0) (h .3)) (touches (h .1) (h .4))
+        (λ e. h .2 (sym (h .3 .2) ∙ e ∙ h .4 .2)) (suc q) q (λ e. omega arith) o
 
     store-heard : (q : ℕ) → q < p .desks → (c : ℕ) → Shared p c →
         getD (holdingsAfter ws w cs q .holding .cells) c 0 ≡ getD (storeThrough p cells s (s .heard q)) c 0
