@@ -13,11 +13,11 @@ use Rattle.word.specs.Reserved.{sourceField, zeroBits, reservedZero}
 
 -- ---- fields
 
-pub lowest-zero : (count w : ℕ) → eqb (w % 2 ^ count) 0 ≡ eqb (field 0 count w) 0
-lowest-zero count w = ap (λ (x : ℕ). eqb (x % 2 ^ count) 0) (sym (div-one w))
+pub lowest-field-zero : (count w : ℕ) → eqb (w % 2 ^ count) 0 ≡ eqb (field 0 count w) 0
+lowest-field-zero count w = ap (λ (x : ℕ). eqb (x % 2 ^ count) 0) (sym (div-one w))
 
-pub empty-zero : (w : ℕ) → true ≡ eqb (field 0 0 w) 0
-empty-zero w = sym (eq-eqb (field 0 0 w) 0 (omega arith))
+pub empty-field-zero : (w : ℕ) → true ≡ eqb (field 0 0 w) 0
+empty-field-zero w = sym (eq-eqb (field 0 0 w) 0 (omega arith))
 
 -- ---- by kind
 
@@ -30,17 +30,17 @@ neighbour-kinds j k s w l h e =
     ⊎-elim (λ q. ap (λ (i : ℕ). zeroBits i s w) q) (λ (g : j < k). e ∙ same-kind (suc j) k s w g h) (eq-or-lt-of-le l)
 
 pub none-from-14 : (k s w : ℕ) → 14 ≤ k → k ≤ 15 → true ≡ zeroBits k s w
-none-from-14 k s w l h = empty-zero w ∙ neighbour-kinds 14 k s w l h refl
+none-from-14 k s w l h = empty-field-zero w ∙ neighbour-kinds 14 k s w l h refl
 
 -- ---- the word's own kind and source
 
 pub none-below-2 : (w : ℕ) → kindOf w < 2 → true ≡ reservedZero w
 unfolding reservedZero
-none-below-2 w h = empty-zero w ∙ neighbour-kinds 0 (kindOf w) (sourceField w) w (omega arith) (omega arith) refl
+none-below-2 w h = empty-field-zero w ∙ neighbour-kinds 0 (kindOf w) (sourceField w) w (omega arith) (omega arith) refl
 
 pub transaction-zero : (w : ℕ) → 2 ≤ kindOf w → kindOf w ≤ 2 → eqb (w % 2 ^ 8) 0 ≡ reservedZero w
 unfolding reservedZero
-transaction-zero w l h = lowest-zero 8 w ∙ same-kind 2 (kindOf w) (sourceField w) w l h
+transaction-zero w l h = lowest-field-zero 8 w ∙ same-kind 2 (kindOf w) (sourceField w) w l h
 
 pub access-zero : (s w : ℕ) → s ≡ sourceField w → 3 ≤ kindOf w → kindOf w ≤ 4 → zeroBits 3 s w ≡ reservedZero w
 unfolding reservedZero
@@ -58,7 +58,7 @@ operand-zero s w e l h =
       le-leb (kindOf w) 8 h,
     )
 
-source-none : (w : ℕ) → 9 ≤ kindOf w → 0 ≡ sourceField w
+pub source-none : (w : ℕ) → 9 ≤ kindOf w → 0 ≡ sourceField w
 unfolding sourceField
 source-none w h = simp (le-ltb (kindOf w) 3 (omega arith), lt-leb (kindOf w) 4 (omega arith), lt-leb (kindOf w) 8 h)
 
