@@ -4,8 +4,8 @@
 
 Every line is followed by the interpreter of script.py over the model as soon as it is written, so that the plan, the states, the frames
 and all answers are known while the next line is drawn. At the end of a history that keeps the premise of demand 3 the model's answers are
-held to the serial run of model.py, and so are the bulletins if they began as the books. A history is drawn by its number and the seed
-alone, so that it can be drawn without those before it.
+held to the serial run of model.py, and so are the rows, and the bulletins if they began as the books. A history is drawn by its number and
+the seed alone, so that it can be drawn without those before it.
 """
 
 import random
@@ -14,7 +14,7 @@ from collections import deque
 
 from model import ACTS, CELLS, FIXED, MOST_OPEN, OUTGOING, REPLIES, REPLY_WORDS, ROWS, STARTING_FRAME, WORD
 from model import Desk, Serial, cell_of, field, question_6, refused, run
-from plans import PlanDrawing, changes, damage, hexadecimal, opened, transaction_damage, transaction_places
+from plans import PlanDrawing, changes, damage, hexadecimal, made_urgent, opened, transaction_damage, transaction_places
 from script import Interpreter
 from tally import Difference, Tally
 
@@ -43,8 +43,8 @@ def any_word(rng):
 class History:
     """One history. `premise` says whether it keeps the premise so far; a forging one is drawn so that it mostly does not. The token is
     the number of the frame that the latest accepted visit sent, and `by_hand` the desk whose state is not as the calls left it, if any.
-    `chosen` are the places of the transactions whose fields were chosen. What is drawn of bulletins is drawn apart, and changes no other
-    draw; `other_bulletins` says whether they begin unlike the books."""
+    `chosen` are the places of the transactions whose fields were chosen. What is drawn of bulletins and of urgent requests is drawn apart,
+    and is no other draw's; `other_bulletins` says whether they begin unlike the books."""
 
     def __init__(self, number, seed, interpreter, lines, tally):
         self.number, self.rng = number, random.Random("%d %d" % (seed, number))
@@ -54,6 +54,7 @@ class History:
         self.request_share = self.rng.choice((84, 78, 70, 62))
         self.apart = random.Random("bulletins %d %d" % (seed, number))
         self.other_bulletins = self.forging and self.apart.randrange(3) == 0
+        self.urgent = random.Random("urgent %d %d" % (seed, number))
         self.calls, self.token, self.premise, self.by_hand = 0, 0, True, None
         self.clients, self.given, self.visits, self.highest = [], [], [], 0
 
@@ -119,7 +120,7 @@ class History:
         """The plan, often with open fields, which are then chosen. With more than six one is closed as it was drawn."""
         rng, count = self.rng, 0 if self.shape == "no partition" else self.rng.choice(OPENED)
         drawing = PlanDrawing(rng, self.shape, count)
-        words = drawing.draw()
+        words = made_urgent(self.urgent, drawing.draw())
         places, paired = transaction_places(words)[drawing.kept :], drawing.paired
         self.chosen = places[:paired] + rng.sample(places[paired:], count - paired)
         self.call("plan " + hexadecimal(opened(words, self.chosen)))
@@ -165,6 +166,8 @@ class History:
 
     def next_call(self):
         """A request, a visit, or an odd call, which is mostly refused or changes nothing."""
+        if self.urgent.randrange(24) == 0:
+            self.besides(self.out_of_order)
         form, waiting = self.rng.randrange(100), any(self.holding(desk).state.waiting for desk in range(self.n))
         if form < (self.request_share if waiting else 83):
             self.usual_request()
@@ -233,7 +236,10 @@ class History:
 
     def request(self, desk, transaction, params):
         client, book = self.client(), self.book_of(desk)
+        waiting = self.holding(desk).row[: self.holding(desk).state.waiting]
         answer = self.call("request %d client %d %s" % (desk, client, text_of(transaction, params)))
+        if answer[0] != "refused" or answer == refused(9):
+            self.tally.request_by_sort(self.plan, transaction, answer, waiting)
         if answer[0] == "refused":
             return
         params, name = four(params), len(self.clients)
@@ -256,11 +262,24 @@ class History:
             params[rng.randrange(len(params))] = rng.choice((32, 33, rng.randrange(ROWS, WORD)))
         self.request(rng.randrange(self.n), transaction, params)
 
+    def is_urgent(self, transaction):
+        return self.plan.transactions[transaction].urgent
+
+    def sorts(self, desk):
+        """A global operation of a desk that is not urgent, and one that is, each as a transaction and its parameters; or None of a sort of
+        which none was drawn."""
+        found = [self.global_operation(desk) for _ in range(8)]
+        return [next((f[1:] for f in found if f and self.is_urgent(f[1]) == urgent), None) for urgent in (False, True)]
+
     def burst(self):
-        """One global operation until its desk's row is full, and some more."""
+        """One global operation until its desk's row is full, and some more; or both sorts as they are drawn, or 31 or 32 that are not
+        urgent and then urgent ones."""
         found = self.global_operation()
-        for _ in range(33 + self.rng.randrange(3) if found else 0):
-            self.request(*found)
+        sorts = self.besides(self.sorts, found[0]) if found else [None]
+        form = "one" if None in sorts else self.urgent.choice(("one", "both", 31, 32))
+        for k in range(33 + self.rng.randrange(3) if found else 0):
+            one = found[1:] if form == "one" else sorts[self.urgent.randrange(2) if form == "both" else int(k >= form)]
+            self.request(found[0], *one)
 
     def own_cells(self):
         """The global that writes a cell of its own desk, the local that writes it afterwards, the token once around, and the reader."""
@@ -461,7 +480,7 @@ class History:
         replies = "replies %d" % rng.choice((REPLIES - 1, REPLIES, rng.randrange(REPLIES), REPLIES + rng.randrange(17)))
         if rng.randrange(3):
             self.lent(rng.choice((book, row, out, replies, out + " " + replies)), self.token_visit)
-            self.lent("bulletin %d" % self.bulletin_size(), self.besides)
+            self.lent("bulletin %d" % self.bulletin_size(), lambda: self.besides(self.bulletin_visit))
         else:
             self.lent(rng.choice((book, row, book + " " + row, out)) + " bulletin %d" % self.bulletin_size(), self.usual_request)
 
@@ -469,14 +488,49 @@ class History:
         """A size that no bulletin may have."""
         return self.apart.choice((1023, 1025, 0, 1040, self.apart.randrange(CELLS)))
 
-    def besides(self):
-        """The token's visit, refused for the size of the bulletin. It is not one of the 60, so that the others are drawn as without it."""
-        calls = self.calls
+    def besides(self, action, *arguments):
+        """An action that draws by what is drawn apart for urgent requests. Its calls are not of the 60, so that the others are drawn as
+        without it."""
+        rng, calls, self.rng = self.rng, self.calls, self.urgent
+        result = action(*arguments)
+        self.rng, self.calls = rng, calls
+        return result
+
+    def bulletin_visit(self):
+        """The token's visit, refused for the size of the bulletin."""
         self.token_visit()
         if self.interpreter.last.answer != refused(5):
             raise Difference("history %d: a bulletin of a wrong size is not refused" % self.number)
-        self.calls = calls
         self.tally.counts["bulletins of a wrong size"] += 1
+
+    def set_record(self, desk, place, record):
+        self.write("records %d %d %d client %d %s" % (desk, place, place + 1, record[0], text_of(record[1], record[2:])))
+
+    def out_of_order(self):
+        """A call at a desk in whose row a waiting urgent record follows one that is not: two records of both sorts change places, or such
+        are put behind those that wait. Afterwards records and state are as they were."""
+        desk = self.addressed(self.token) if self.rng.randrange(2) else self.rng.randrange(self.n)
+        state, row = self.holding(desk).state, list(self.holding(desk).row)
+        places = [[k for k in range(state.waiting) if self.is_urgent(row[k].transaction) == urgent] for urgent in (False, True)]
+        if all(places):
+            i, j = (self.rng.choice(sort) for sort in places)
+            put = {i: row[j], j: row[i]}
+        else:
+            sorts = self.sorts(desk)
+            added = sorts[1:] if places[0] else sorts
+            if None in added or state.waiting + len(added) > 32:
+                return
+            put = {state.waiting + k: (self.client(), one[0], *four(one[1])) for k, one in enumerate(added)}
+        for place in put:
+            self.set_record(desk, place, put[place])
+        waiting = max(state.waiting, *(place + 1 for place in put))
+        self.with_state(desk, state._replace(waiting=waiting), lambda: self.call_at(desk))
+        if self.interpreter.last.answer != refused(6):
+            raise Difference("history %d: a row out of order is not refused" % self.number)
+        ordered = self.plan.urgent_first(self.holding(desk).row[:waiting])
+        self.tally.counts["rows refused for their order alone"] += question_6(self.plan, state._replace(waiting=waiting), ordered)
+        for place in put:
+            self.set_record(desk, place, row[place])
 
     def set_state(self, desk, state):
         self.write("state %d desk %d waiting %d awaits %d" % (desk, *state))
@@ -673,8 +727,18 @@ class History:
                 raise Difference("history %d: cell %d is not that of the serial run" % (self.number, cell))
         self.tally.counts["serial replies checked"] += len(given)
         self.tally.counts["serial cells checked"] += CELLS
+        for desk in range(self.n):
+            self.check_row(desk)
         if not self.other_bulletins:
             self.tally.bulletins([self.check_bulletin(desk, cuts) for desk in range(self.n)])
+
+    def check_row(self, desk):
+        """Holds the waiting records of a desk to the line of the serial run: what was accepted there and not finished, urgent requests
+        before the others, each sort by arrival."""
+        waiting = self.holding(desk).row[: self.holding(desk).state.waiting]
+        if waiting != [(self.clients[name], transaction, *params) for name, transaction, params in self.serial.line(desk)]:
+            raise Difference("history %d: the row of desk %d is not the line of the serial run" % (self.number, desk))
+        self.tally.checked_row(self.plan, waiting)
 
     def check_bulletin(self, desk, cuts):
         """Holds a desk's bulletin, and its book where two or more desks may touch it, to the serial run cut behind some global: the book

@@ -21,7 +21,7 @@ MOST_OPEN, MOST_TRIED = 6, 3
 
 Step = namedtuple("Step", "kind table column source fixed")
 # The place is the index of the transaction's word in the plan.
-Transaction = namedtuple("Transaction", "place params partition weight steps")
+Transaction = namedtuple("Transaction", "place params partition weight urgent steps")
 Request = namedtuple("Request", "client transaction p0 p1 p2 p3")
 Desk = namedtuple("Desk", "desk waiting awaited")
 Run = namedtuple("Run", "done number told update acts")
@@ -46,7 +46,7 @@ def transaction_well_formed(word):
         and field(word, 27, 24) <= 4
         and 1 <= field(word, 23, 20) <= 12
         and (field(word, 19, 16) <= 3 or field(word, 19, 16) in (OPEN, NO_PARTITION))
-        and field(word, 7, 0) == 0
+        and field(word, 6, 0) == 0
     )
 
 
@@ -88,7 +88,8 @@ def walk(words):
         steps = tuple(decode_step(w) for w in steps)
         if sum(s.kind == TELL for s in steps) > MOST_TOLD:
             return None
-        transactions.append(Transaction(at, field(head, 27, 24), field(head, 19, 16), field(head, 15, 8), steps))
+        urgent = field(head, 7, 7) == 1
+        transactions.append(Transaction(at, field(head, 27, 24), field(head, 19, 16), field(head, 15, 8), urgent, steps))
         at += 1 + len(steps)
     return transactions if at == len(words) else None
 
@@ -195,6 +196,10 @@ class Plan:
         if all(self.touchers[c] <= {desk} for c in writes):
             return ("local", desk)
         return ("global", desk)
+
+    def urgent_first(self, requests):
+        """Waiting requests, each with its transaction in second place: the urgent ones before the others, each sort in the order given."""
+        return sorted(requests, key=lambda r: not self.transactions[r[1]].urgent)
 
     def has_global(self, number):
         """Whether a transaction has some global operation, by trying those of each write step."""
@@ -438,7 +443,8 @@ def question_6(plan, state, row):
     """Whether the state is fit."""
     if state.desk >= plan.desks or state.waiting > 32 or state.awaited % plan.desks != state.desk:
         return False
-    return all(plan.class_of(r[1], r[2:6]) == ("global", state.desk) for r in row[: state.waiting])
+    waiting = row[: state.waiting]
+    return all(plan.class_of(r[1], r[2:6]) == ("global", state.desk) for r in waiting) and waiting == plan.urgent_first(waiting)
 
 
 def request(plan, state, book, row, client, transaction, params):
@@ -460,8 +466,9 @@ def request(plan, state, book, row, client, transaction, params):
         return ("replied", *reply_of(result)), state
     if state.waiting >= 32:
         return refused(9), state
-    row[state.waiting] = Request(client, transaction, *params)
-    return ("waits",), state._replace(waiting=state.waiting + 1)
+    waiting = [*row[: state.waiting], Request(client, transaction, *params)]
+    row[: len(waiting)] = plan.urgent_first(waiting)
+    return ("waits",), state._replace(waiting=len(waiting))
 
 
 def visit_question(plan, state, book, bulletin, row, frame, out, replies):
@@ -508,12 +515,13 @@ def visit(plan, state, book, bulletin, row, frame, out, replies):
 
 
 class Serial:
-    """The serial run of a history, told of each accepted call. An operation is (name, transaction, params); names are the caller's. Of the
-    accepted visits it is noted how many globals the first k of them finished, and of each desk its latest visit."""
+    """The serial run of a history, told of each accepted call. An operation is (name, transaction, params); names are the caller's. What
+    waits at a desk is noted by arrival. Of the accepted visits it is noted how many globals the first k of them finished, and of each desk
+    its latest visit."""
 
     def __init__(self, plan):
         self.plan = plan
-        self.lines = [[] for _ in range(plan.desks)]
+        self.arrived = [[] for _ in range(plan.desks)]
         self.g = [0] * plan.desks
         self.globals = 0
         self.finished = []
@@ -526,11 +534,15 @@ class Serial:
             key = (self.g[desk], 1, desk, len(self.finished))
             self.finished.append((key, name, transaction, params))
         elif found == ("global", desk):
-            self.lines[desk].append((name, transaction, params))
+            self.arrived[desk].append((name, transaction, params))
+
+    def line(self, desk):
+        """What waits at a desk, in the order in which its next visit finishes it: what is urgent, then what is not."""
+        return [r for urgent in (True, False) for r in self.arrived[desk] if self.plan.transactions[r[1]].urgent == urgent]
 
     def accepted_visit(self, desk, number):
         """Gives the names of what the visit of this number finishes, in the order of its replies."""
-        line, self.lines[desk] = self.lines[desk], []
+        line, self.arrived[desk] = self.line(desk), []
         for name, transaction, params in line:
             self.globals += 1
             self.finished.append(((self.globals, 0, 0, 0), name, transaction, params))

@@ -3,8 +3,8 @@ With `write` it writes the files instead: python3 tools/outputs.py write
 
 The expected outputs are the answers of script.py: to each example alone, to what `belt` is run on (all examples, then questions.txt) and
 to what `histories` is run on (random histories). The values that the paper states of its own course stand below as they are printed
-there, and values of sums at the two ends of a word and of bulletins, reckoned by hand; the run of `belt` is held to all of them first, then
-to the claims of choices.py.
+there, and values of sums at the two ends of a word, of bulletins and of urgent requests, reckoned by hand; the run of `belt` is held to all
+of them first, then to the claims of choices.py.
 """
 
 import sys
@@ -136,6 +136,67 @@ BULLETIN = [
     ("show desk 2", "desk 2: 0 waiting, awaits visit 14\n  cell 20 is 24\n  cell 128 is 6\n  bulletin cell 20 is 0\n"),
 ]
 
+# Urgent requests, on the plan of examples/9-urgent.txt for three desks, from level 1 on: "The waiting row holds urgent requests before the
+# others, each sort by arrival, and a visit runs it so. An arriving urgent request moves the waiting others up by a place." T1 declares the
+# level, cell 128, and is urgent; T0 edits an event, cells 256 + 4 * event and the next, and notes the level with it.
+URGENT_PLAN = "13040010 23400000 54000000 44100000 32700000 44900000 22400080 32700000 D0000000 52000000 42700000 "
+URGENT_PLAN += "21100000 32700000 22200000 52000000 40000000"
+URGENT = [
+    ("class T0 1 5 31", "T0(1, 5, 31): global at desk 1\n"),
+    ("class T1 1 3", "T1(1, 3): global at desk 1\n"),
+    ("request 1 client 11 T0 1 5 31", "desk 1: T0(1, 5, 31) of client 11: waits; record 0 is now client 11 T0(1, 5, 31, 0); 1 waiting,"),
+    ("request 1 client 12 T0 1 6 27", "desk 1: T0(1, 6, 27) of client 12: waits; record 1 is now client 12 T0(1, 6, 27, 0); 2 waiting,"),
+    ("request 1 client 11 T0 1 5 33", "desk 1: T0(1, 5, 33) of client 11: waits; record 2 is now client 11 T0(1, 5, 33, 0); 3 waiting,"),
+    (
+        "request 1 client 20 T1 1 3",
+        "desk 1: T1(1, 3) of client 20: waits; record 0 is now client 20 T1(1, 3, 0, 0); record 1 is now client 11 T0(1, 5, 31, 0); "
+        "record 2 is now client 12 T0(1, 6, 27, 0); record 3 is now client 11 T0(1, 5, 33, 0); 4 waiting, awaits visit 1\n",
+    ),
+    ("request 1 client 13 T3 4 24", "desk 1: T3(4, 24) of client 13: done, 24; cell 16 is now 24\n"),
+    ("request 1 client 12 T0 1 7 40", "desk 1: T0(1, 7, 40) of client 12: waits; record 4 is now client 12 T0(1, 7, 40, 0); 5 waiting,"),
+    (
+        "request 1 client 20 T1 1 4",
+        "desk 1: T1(1, 4) of client 20: waits; record 1 is now client 20 T1(1, 4, 0, 0); record 2 is now client 11 T0(1, 5, 31, 0); "
+        "record 3 is now client 12 T0(1, 6, 27, 0); record 4 is now client 11 T0(1, 5, 33, 0); record 5 is now client 12 T0(1, 7, 40, 0); "
+        "6 waiting, awaits visit 1\n",
+    ),
+    ("request 0 client 10 T0 0 8 15", "desk 0: T0(0, 8, 15) of client 10: waits; record 0 is now client 10 T0(0, 8, 15, 0); 1 waiting,"),
+    (
+        "visit 0",
+        "desk 0: visit 0 by frame 0: 1 reply, client 10 done, 1; sends frame 1 of 9 words: 91000009 00000001 A0200000 B0000120 0000000F "
+        "B0000121 00000001 9120025B 37A00735; cell 288 is now 15; cell 289 is now 1; 0 waiting, awaits visit 3\n",
+    ),
+    (
+        "visit 1",
+        "desk 1: visit 1 by frame 1: 6 replies, client 20 done, 3, told 1 0 0 0, client 20 done, 4, told 3 0 0 0, client 11 done, 4, "
+        "client 12 done, 4, client 11 done, 4, client 12 done, 4; sends frame 2 of 35 words,",
+    ),
+    (
+        "show frame 2",
+        "frame 2: 35 words, visit 2 to desk 2\n  update of desk 0: cell 288 is 15, cell 289 is 1\n"
+        "  update of desk 1: cell 128 is 3\n  update of desk 1: cell 128 is 4\n  update of desk 1: cell 276 is 31, cell 277 is 4\n"
+        "  update of desk 1: cell 280 is 27, cell 281 is 4\n  update of desk 1: cell 276 is 33, cell 277 is 4\n"
+        "  update of desk 1: cell 284 is 40, cell 285 is 4\n",
+    ),
+    ("request 1 client 14 T2 1", "desk 1: T2(1) of client 14: done, 4\n"),
+    ("visit 2", "desk 2: visit 2 by frame 2: 0 replies; sends frame 3 of 35 words,"),
+    ("request 2 client 15 T2 2", "desk 2: T2(2) of client 15: done, 4\n"),
+    ("request 1 client 14 T2 1", "desk 1: T2(1) of client 14: refused 6:"),
+    ("request 1 client 14 T2 1", "desk 1: T2(1) of client 14: done, 4\n"),
+]
+# The same requests on the plan with bit 7 of T1 cleared: all by arrival.
+BY_ARRIVAL_PLAN = URGENT_PLAN.replace("22400080", "22400000")
+BY_ARRIVAL = [
+    ("request 1 client 11 T0 1 5 33", "desk 1: T0(1, 5, 33) of client 11: waits; record 2 is now client 11 T0(1, 5, 33, 0); 3 waiting,"),
+    ("request 1 client 20 T1 1 3", "desk 1: T1(1, 3) of client 20: waits; record 3 is now client 20 T1(1, 3, 0, 0); 4 waiting,"),
+    ("request 1 client 20 T1 1 4", "desk 1: T1(1, 4) of client 20: waits; record 5 is now client 20 T1(1, 4, 0, 0); 6 waiting,"),
+    (
+        "visit 1",
+        "desk 1: visit 1 by frame 4: 6 replies, client 11 done, 1, client 12 done, 1, client 11 done, 1, client 20 done, 3, told 1 0 0 0, "
+        "client 12 done, 3, client 20 done, 4, told 3 0 0 0;",
+    ),
+]
+
 
 def followed(script):
     """Each line of a script, without its comment: the command, the plan before it, its answer, the call that it made, or None, and the
@@ -198,6 +259,8 @@ def expected():
     hold_to_stated(belt, PLAN, STATED)
     hold_to_stated(belt, GAS_PLAN, GAS)
     hold_to_stated(belt, BULLETIN_PLAN, BULLETIN)
+    hold_to_stated(belt, URGENT_PLAN, URGENT)
+    hold_to_stated(belt, BY_ARRIVAL_PLAN, BY_ARRIVAL)
     hold_to_claims(belt)
     drawn = histories.script(HISTORIES, SEED)
     for name, script in (("belt", belt), ("histories", drawn)):

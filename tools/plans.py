@@ -1,8 +1,9 @@
-"""Draws plans that are accepted, opens fields of plans, and draws damages of plans that are then refused."""
+"""Draws plans that are accepted, makes some of their transactions urgent, opens fields of plans, and draws damages of plans that are then
+refused."""
 
 from model import FIXED, MOST_TOLD, NO_PARTITION, OPEN, ROWS, TELL, WORD, field, names_missing, walk
 
-MOST_FIXED, MOST_STEPS, TELL_WORD = (1 << 25) - 1, 12, TELL << 28
+MOST_FIXED, MOST_STEPS, TELL_WORD, URGENT = (1 << 25) - 1, 12, TELL << 28, 1 << 7
 
 
 def hexadecimal(words):
@@ -204,16 +205,23 @@ def transaction_places(words):
     return [places.start - 1 for places in step_places(words)]
 
 
+def made_urgent(rng, words):
+    """The words of a plan with some of its transactions urgent, of which a share is drawn for the plan."""
+    share = rng.choice((20, 35, 50, 50, 65))
+    places = [place for place in transaction_places(words) if rng.randrange(100) < share]
+    return [word | URGENT if k in places else word for k, word in enumerate(words)]
+
+
 def opened(words, places):
     """The words of a plan with the fields of the transactions at these places open."""
     return [word & ~(15 << 16) | OPEN << 16 if k in places else word for k, word in enumerate(words)]
 
 
 def transaction_damage(rng, words):
-    """One of the lowest eight bits of a transaction's word set, or its partitioning field 4 to 13: question 3."""
+    """One of the lowest seven bits of a transaction's word set, or its partitioning field 4 to 13: question 3."""
     others, place = list(words), rng.choice(transaction_places(words))
     if rng.randrange(2):
-        others[place] |= 1 << rng.randrange(8)
+        others[place] |= 1 << rng.randrange(7)
     else:
         others[place] = words[place] & ~(15 << 16) | rng.randrange(4, OPEN) << 16
     return changes(words, others)

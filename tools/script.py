@@ -23,7 +23,7 @@ QUESTIONS = {
     3: "a word out of place or range, a bit that must be zero, or a fifth tell",
     4: "a parameter that the transaction does not have",
     5: "a buffer of the wrong size",
-    6: "a state or a waiting record that does not fit this desk",
+    6: "a state or waiting records that do not fit this desk",
     7: "no such transaction",
     8: "a row above 31 or an unused parameter that is not zero",
     9: "32 wait already",
@@ -205,9 +205,9 @@ def changed_words_text(plan, words):
 def transaction_text(number, t):
     """A transaction as `show plan` has it."""
     by = "" if t.partition == NO_PARTITION else " " + partition_text(t.partition)
-    weight = ", weight %d" % t.weight if t.weight else ""
+    rest = (", weight %d" % t.weight if t.weight else "") + (", urgent" if t.urgent else "")
     name = operation_text(number, ["p%d" % k for k in range(t.params)])
-    return "%s%s%s: %s" % (name, by, weight, "; ".join(step_text(s) for s in t.steps))
+    return "%s%s%s: %s" % (name, by, rest, "; ".join(step_text(s) for s in t.steps))
 
 
 def step_text(step):

@@ -26,12 +26,16 @@ COUNTS += [*ENDS.values(), "runs that told", "declined after telling", "runs tha
 COUNTS += ["told %s" % count for count in TOLD] + ["visits accepted", "visits with several replies"]
 COUNTS += ["operations finished by visits", "changed frames accepted"] + ["refused by %d" % q for q in range(1, 18)]
 # What is held to the serial run; it is written last.
-CHECKED = ["serial replies checked", "serial cells checked", "histories with bulletins checked", "histories with a visit shown"]
+CHECKED = ["serial replies checked", "serial cells checked", "waiting records checked", "rows of both sorts checked"]
+CHECKED += ["histories with bulletins checked", "histories with a visit shown"]
 CHECKED += ["histories with a global shown", "bulletins checked", "bulletins that show a visit", "bulletins that show a global"]
 CHECKED += ["bulletin cells checked", "shared bulletin cells checked", "shared bulletin cells unlike the book"]
 CHECKED += ["shared bulletin cells unlike the starting book"]
 COUNTS += ["histories with other bulletins", "bulletins of a wrong size", "visits that changed a bulletin cell"]
 COUNTS += ["visits that changed many bulletin cells", "visits that left an unshared bulletin cell unlike the book"]
+COUNTS += ["urgent transactions in plans", "urgent requests that wait", "urgent requests that moved others"]
+COUNTS += ["urgent requests at once", "urgent requests elsewhere", "urgent requests refused by 9", "others that wait behind urgent ones"]
+COUNTS += ["visits that ran both sorts", "urgent runs at a visit", "urgent runs declined at a visit", "rows refused for their order alone"]
 COUNTS += CHECKED
 LEAST = {"choices that cost more with the rest left out": 10, "choices where plan order decides": 20}
 LEAST.update({"declined by add": 300, "declined by take": 300, "histories with other bulletins": 25})
@@ -40,11 +44,12 @@ LEAST.update({"histories with a global shown": 100, "bulletins that show a globa
 LEAST.update({"shared bulletin cells unlike the book": 500, "shared bulletin cells unlike the starting book": 1000})
 LEAST.update({name: 5 if "seven" in name else 10 for name in FAULTS})
 RANGES = {name + where: count for where in (" in plans", " in runs") for name, count in (("tables", 8), ("columns", 4), ("rows", ROWS))}
-RANGES.update({"low bits of damaged transactions": 8, "fields of damaged transactions": 10})
+RANGES.update({"low bits of damaged transactions": 7, "fields of damaged transactions": 10, "places of urgent requests": ROWS})
 LARGEST = {"largest fixed number in plans": MOST_FIXED, "largest fixed number in runs": MOST_FIXED}
 LARGEST.update({"largest cell in an accepted forged frame": CELLS - 1, "longest frame taken": OUTGOING, "longest frame sent": OUTGOING})
 LARGEST["highest visit accepted with the premise"] = 1 << 16
 LARGEST["most tells in a transaction of a damaged plan"] = MOST_TOLD + 1
+LARGEST["most others moved by an urgent request"] = ROWS - 1
 LARGEST.update({"largest weight in plans": 255, "highest cost of a choice": 1 << 10, "most fillings of a choice": 1 << 10})
 
 
@@ -69,6 +74,7 @@ class Tally:
     def plan(self, plan):
         """Notes a plan that is accepted."""
         self.seen["largest weight in plans"] |= {t.weight for t in plan.transactions}
+        self.counts["urgent transactions in plans"] += sum(t.urgent for t in plan.transactions)
         for step in (s for t in plan.transactions for s in t.steps):
             self.step(step, " in plans", step.fixed if step.source == FIXED else None)
         self.compare(plan.words)
@@ -108,8 +114,8 @@ class Tally:
         self.counts["faults by %d beside seven open fields" % question] += opened > MOST_OPEN
 
     def damaged_transaction(self, word):
-        """Notes the word of a transaction that has one of its lowest eight bits set, or a field 4 to 13."""
-        self.seen["low bits of damaged transactions"] |= {bit for bit in range(8) if word >> bit & 1}
+        """Notes the word of a transaction that has one of its lowest seven bits set, or a field 4 to 13."""
+        self.seen["low bits of damaged transactions"] |= {bit for bit in range(7) if word >> bit & 1}
         self.seen["fields of damaged transactions"] |= {field(word, 19, 16)} & set(range(4, 14))
 
     def run(self, t, params, book, reply, where):
@@ -122,6 +128,8 @@ class Tally:
         for step in t.steps if result.done else []:
             self.step(step, " in runs", cell_of(step, params) % 128 // 4 if step.kind in (3, 4) else None)
         self.counts["declined at a " + where] += not result.done
+        self.counts["urgent runs at a " + where] += t.urgent
+        self.counts["urgent runs declined at a " + where] += t.urgent and not result.done
         self.acts(t, result, where)
         if result.told:
             self.counts["runs that told"] += 1
@@ -151,6 +159,27 @@ class Tally:
         self.counts[plan.class_of(transaction, params)[0] + " runs"] += 1
         self.run(plan.transactions[transaction], params, book, answer[1:], "request")
 
+    def request_by_sort(self, plan, transaction, answer, waiting):
+        """Notes what became of a request by its sort, with the records that waited before it; refused it may be by question 9 alone."""
+        before = sum(plan.transactions[r.transaction].urgent for r in waiting)
+        if not plan.transactions[transaction].urgent:
+            self.counts["others that wait behind urgent ones"] += answer[0] == "waits" and before > 0
+            return
+        cases = {"replied": "at once", "elsewhere": "elsewhere", "refused": "refused by 9", "waits": "that wait"}
+        self.counts["urgent requests " + cases[answer[0]]] += 1
+        if answer[0] == "waits":
+            self.counts["urgent requests that moved others"] += before < len(waiting)
+            self.seen["places of urgent requests"].add(before)
+            self.seen["most others moved by an urgent request"].add(len(waiting) - before)
+
+    def of_both_sorts(self, plan, records):
+        return len({plan.transactions[r.transaction].urgent for r in records}) > 1
+
+    def checked_row(self, plan, waiting):
+        """Notes a row that was held to the serial run."""
+        self.counts["waiting records checked"] += len(waiting)
+        self.counts["rows of both sorts checked"] += self.of_both_sorts(plan, waiting)
+
     def bulletins(self, bulletins):
         """Notes the bulletins of a history, which were held to the serial run: of each how many visits it shows with how many globals, and
         its shared cells, each as it is in the bulletin, in the book and in the starting book."""
@@ -174,6 +203,7 @@ class Tally:
         unshared = set(range(CELLS)).difference(plan.shared)
         self.counts["visits that left an unshared bulletin cell unlike the book"] += any(holding.bulletin[c] != book[c] for c in unshared)
         self.counts["visits with several replies"] += call.answer[2] > 1
+        self.counts["visits that ran both sorts"] += self.of_both_sorts(plan, holding.row[: call.answer[2]])
         self.counts["operations finished by visits"] += call.answer[2]
         for desk, update in updates_of(call.words[2:-2]):
             apply_update(update if desk != holding.state.desk else [], book)

@@ -1,5 +1,5 @@
-// The two calls that take the lent queue. Its length is read and the records that wait; all else is reckoned on those, and a request then
-// stores at most one record.
+// The two calls that take the lent queue. Its length is read and the records that wait; all else is reckoned on their words, and a request
+// then stores the records that have changed.
 ghost use mathlib.Core.Path.{_≡_};
 ghost use Rattle.desk.specs.Holding.{holding};
 ghost use Rattle.requests.specs.Request.{recordOf, requestResult};
@@ -36,7 +36,7 @@ pub fn request(
         transaction,
         params,
     );
-    queue::store(queue, step.place, step.request);
+    queue::store_back(queue, step.row, step.from, step.end);
     step.result
 }
 

@@ -5,12 +5,13 @@ use mathlib.Core.Bool.{true, false}
 use mathlib.Core.List.{List}
 use Prim.Native.Nat.{ℕ, _<_}
 use native.Mathlib.Omega.{arith}
-use lib.ListN.{length, getD}
-use borrow.Author.Tests.{ltb-true}
+use lib.Dec.{eqb}
+use lib.ListN.{length, getD, List·getD-eq-default}
+use borrow.Author.Tests.{ltb-true, ltb-false}
 use Rattle.verdict.specs.Verdict.{Verdict, accepted, refused, ask, isAccepted}
 use Rattle.verdict.proofs.Verdicts.{ask-accepted, ask-then-accepted, isAccepted-accepted}
-use Rattle.word.specs.Field.{headDesks, headTransactions, partitioningField}
-use Rattle.plan.specs.Plan.{Transaction}
+use Rattle.word.specs.Field.{headDesks, headTransactions, partitioningField, urgentField}
+use Rattle.plan.specs.Plan.{Transaction, noTransaction}
 use Rattle.plan.specs.Decode.{planOf, headOf, partBy}
 use Rattle.plan.specs.Admission.{planVerdict}
 use Rattle.plan.specs.Place.{StandsAt, transactionPlace, transactionPlaces, transactionFrom}
@@ -24,7 +25,7 @@ use Rattle.execution.specs.Run.{runTransaction, run}
 use Rattle.conflict.specs.Class.{classBy, classOf}
 use Rattle.queue.specs.Queue.{paramsOf}
 use Rattle.queue.specs.declared.record.Request.{Request}
-use Rattle.desk.specs.Queueing.{operationOf}
+use Rattle.desk.specs.Queueing.{operationOf, isUrgent}
 use Rattle.desk.specs.Admission.{Admitted}
 use Rattle.desk.specs.Place.{standsAt, placeRefused, placeBy, Placed}
 
@@ -47,6 +48,12 @@ module _ (ws : List ℕ) (r : Request) where
   unfolding operationVerdict
   no-transaction h = rw h
 
+  pub none-urgent : transactionExists (planOf ws) (r .transaction) ≡ false → isUrgent (planOf ws) r ≡ false
+  unfolding transactionExists
+  none-urgent h =
+      ap (λ (t : Transaction). t .urgent)
+      (List·getD-eq-default (planOf ws .transactions) noTransaction (ltb-false (r .transaction) (length (planOf ws .transactions)) h))
+
   -- the transaction exists, and stands at its place
   module _ (e : planVerdict ws ≡ accepted) (h : transactionExists (planOf ws) (r .transaction) ≡ true)
       (at : ℕ) (i : at ≡ transactionPlace ws (r .transaction)) where
@@ -55,6 +62,9 @@ module _ (ws : List ℕ) (r : Request) where
 
     transaction-here : transactionOf (planOf ws) (operationOf r) ≡ transactionFrom ws at
     transaction-here = transaction-is ws e (r .transaction) (below e h) ∙ ap (transactionFrom ws) (sym i)
+
+    pub urgent-here : eqb (urgentField (getD ws at 0)) 1 ≡ isUrgent (planOf ws) r
+    urgent-here = sym (ap (λ (t : Transaction). t .urgent) transaction-here)
 
     -- 8
     pub verdict-here : (ps : List ℕ) → ps ≡ paramsOf r

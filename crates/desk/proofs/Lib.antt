@@ -1,3 +1,5 @@
 pub mod Asked
+pub mod Priority
 pub mod QuestionSix
 pub mod SameWaiting
+pub mod WaitingRecords

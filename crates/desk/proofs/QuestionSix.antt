@@ -4,10 +4,11 @@ use mathlib.Core.Path.{_≡_}
 use mathlib.Core.Bool.{true, false}
 use mathlib.Core.List.{List}
 use Prim.Native.Nat.{ℕ, _%_, _≤_, _<_}
-use lib.Dec.{eqb}
+use lib.Dec.{ltb, leb, eqb}
 use borrow.Author.Tests.{lt-ltb, le-ltb, lt-leb, le-leb, eq-eqb, ne-eqb}
 use Rattle.verdict.specs.Verdict.{accepted, refused}
 use Rattle.lists.specs.Lists.{every}
+use Rattle.lists.proofs.Laws.{and-fst, and-snd}
 use Rattle.word.specs.Field.{headDesks}
 use Rattle.plan.specs.Plan.{Plan}
 use Rattle.plan.specs.Decode.{planOf, headOf}
@@ -17,8 +18,9 @@ use Rattle.operation.specs.Admission.{operationVerdict}
 use Rattle.conflict.specs.Class.{isGlobal, classOf}
 use Rattle.queue.specs.declared.record.Request.{Request}
 use Rattle.desk.specs.declared.state.Desk.{Desk}
-use Rattle.desk.specs.Queueing.{operationOf, waitingIn}
-use Rattle.desk.specs.Admission.{waitsHere, deskFits}
+use Rattle.desk.specs.Queueing.{operationOf, isUrgent, waitingIn}
+use Rattle.desk.specs.Priority.{urgentLead}
+use Rattle.desk.specs.Admission.{waitsHere, queueFits, deskFits}
 
 -- ---- one record
 
@@ -35,6 +37,21 @@ module _ (p : Plan) (desk : ℕ) (r : Request) where
     pub by-desk : isGlobal (classOf p (operationOf r)) ≡ true → waitsHere p desk r ≡ eqb (deskOf p (operationOf r)) desk
     unfolding waitsHere
     by-desk g = rw (e, g)
+
+-- ---- the waiting records
+
+module _ (p : Plan) (desk : ℕ) (waiting : List Request) where
+  pub one-unfit : every (waitsHere p desk) waiting ≡ false → queueFits p desk waiting ≡ false
+  unfolding queueFits
+  one-unfit e = rw e
+
+  pub by-order : every (waitsHere p desk) waiting ≡ true → queueFits p desk waiting ≡ urgentLead (isUrgent p) waiting
+  unfolding queueFits
+  by-order e = rw e
+
+pub none-waits : (p : Plan) (desk : ℕ) (records : List Request) (n : ℕ) → n ≡ 0 → queueFits p desk (waitingIn n records) ≡ true
+unfolding queueFits every urgentLead
+none-waits p desk records n e = rw e
 
 -- ---- the state, with the records
 
@@ -54,6 +71,22 @@ module _ (ws : List ℕ) (d : Desk) (records : List Request) where
       other-visit a = rw (desk-count ws, lt-ltb _ _ h, le-leb _ _ w, ne-eqb _ _ a)
 
       pub by-records : d .awaited % headDesks (headOf ws) ≡ d .desk
-          → deskFits (planOf ws) d records ≡ every (waitsHere (planOf ws) (d .desk)) (waitingIn (d .waiting) records)
+          → deskFits (planOf ws) d records ≡ queueFits (planOf ws) (d .desk) (waitingIn (d .waiting) records)
       unfolding deskFits
       by-records a = rw (desk-count ws, lt-ltb _ _ h, le-leb _ _ w, eq-eqb _ _ a)
+
+-- ---- what question 6 shows where it is answered with yes
+
+module _ (p : Plan) (d : Desk) (records : List Request) (e : deskFits p d records ≡ true) where
+  pub fits-queue : queueFits p (d .desk) (waitingIn (d .waiting) records) ≡ true
+  unfolding deskFits
+  fits-queue =
+      and-snd (eqb (d .awaited % p .desks) (d .desk)) _ (and-snd (leb (d .waiting) 32) _ (and-snd (ltb (d .desk) (p .desks)) _ e))
+
+  pub fits-each : every (waitsHere p (d .desk)) (waitingIn (d .waiting) records) ≡ true
+  unfolding queueFits
+  fits-each = and-fst (every (waitsHere p (d .desk)) (waitingIn (d .waiting) records)) _ fits-queue
+
+  pub fits-ordered : urgentLead (isUrgent p) (waitingIn (d .waiting) records) ≡ true
+  unfolding queueFits
+  fits-ordered = and-snd (every (waitsHere p (d .desk)) (waitingIn (d .waiting) records)) _ fits-queue

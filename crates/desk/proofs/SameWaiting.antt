@@ -12,7 +12,6 @@ use Prim.Native.Nat.{ℕ, _%_, _≤_}
 use lib.Dec.{ltb, leb, eqb}
 use lib.ListN.{length, take}
 use borrow.Author.Tests.{leb-true, ne-eqb}
-use Rattle.lists.specs.Lists.{every}
 use Rattle.lists.proofs.Laws.{by-same}
 use Rattle.plan.specs.Plan.{Plan}
 use Rattle.queue.specs.declared.record.Request.{Request}
@@ -20,7 +19,7 @@ use Rattle.queue.specs.Words.{recordsIn, queueIn, queueOf, wordsOf}
 use Rattle.queue.proofs.Rows.{queueOf-row, length-queueOf, lent-row, lent-none}
 use Rattle.desk.specs.declared.state.Desk.{Desk}
 use Rattle.desk.specs.Queueing.{waitingIn}
-use Rattle.desk.specs.Admission.{deskBuffersFit, waitsHere, deskFits}
+use Rattle.desk.specs.Admission.{deskBuffersFit, queueFits, deskFits}
 
 pub record SameWaiting (waiting : ℕ) (q q′ : List Request) : Type 0 where
   pub long : eqb (length q) 32 ≡ eqb (length q′) 32
@@ -39,10 +38,10 @@ unfolding deskFits
 same-fits p d q q′ s l = ap (λ (b : Bool). ltb (d .desk) (p .desks) && b) (few (leb (d .waiting) 32) refl)
   where
     few : (b : Bool) → leb (d .waiting) 32 ≡ b
-        → (b && (eqb (d .awaited % p .desks) (d .desk) && every (waitsHere p (d .desk)) (waitingIn (d .waiting) q)))
-        ≡ (b && (eqb (d .awaited % p .desks) (d .desk) && every (waitsHere p (d .desk)) (waitingIn (d .waiting) q′)))
+        → (b && (eqb (d .awaited % p .desks) (d .desk) && queueFits p (d .desk) (waitingIn (d .waiting) q)))
+        ≡ (b && (eqb (d .awaited % p .desks) (d .desk) && queueFits p (d .desk) (waitingIn (d .waiting) q′)))
     few true e =
-        ap (λ (l : List Request). eqb (d .awaited % p .desks) (d .desk) && every (waitsHere p (d .desk)) l)
+        ap (λ (l : List Request). eqb (d .awaited % p .desks) (d .desk) && queueFits p (d .desk) l)
         (s .records l (leb-true (d .waiting) 32 e))
     few false e = refl
 

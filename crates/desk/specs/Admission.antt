@@ -17,7 +17,8 @@ use Rattle.conflict.specs.Class.{isGlobal, classOf}
 use Rattle.queue.specs.Queue.{queueSize}
 use Rattle.queue.specs.declared.record.Request.{Request}
 use Rattle.desk.specs.declared.state.Desk.{Desk}
-use Rattle.desk.specs.Queueing.{operationOf, waitingIn}
+use Rattle.desk.specs.Queueing.{operationOf, isUrgent, waitingIn}
+use Rattle.desk.specs.Priority.{urgentLead}
 
 -- the plan is accepted, and the request's operation passes 7 and 8
 pub record Admitted (ws : List ℕ) (r : Request) : Type 0 where
@@ -34,9 +35,13 @@ waitsHere p desk r =
     isAccepted (operationVerdict p (operationOf r))
     && (isGlobal (classOf p (operationOf r)) && eqb (deskOf p (operationOf r)) desk)
 
+-- 6, of the waiting records: each is such a one, and they are in order
+unfoldable pub queueFits : Plan → ℕ → List Request → Bool
+queueFits p desk waiting = every (waitsHere p desk) waiting && urgentLead (isUrgent p) waiting
+
 -- 6: "Is the desk below n, waiting at most 32, the awaited number congruent to the desk modulo n, each waiting record a global operation
--- of this desk?"
+-- of this desk?"; "It refuses with 6 a row in which a waiting urgent record follows a waiting one that is not."
 unfoldable pub deskFits : Plan → Desk → List Request → Bool
 deskFits p d queue =
     ltb (d .desk) (p .desks) && (leb (d .waiting) queueSize && (eqb (d .awaited % p .desks) (d .desk)
-    && every (waitsHere p (d .desk)) (waitingIn (d .waiting) queue)))
+    && queueFits p (d .desk) (waitingIn (d .waiting) queue)))

@@ -14,6 +14,6 @@ pub record Holding : Type 0 where
 abbrev pub holding : Desk → List ℕ → List Request → Holding
 holding d cells queue = record { state = d; cells = cells; queue = queue }
 
--- the requests that wait there, "the earliest first"
+-- the requests that wait there
 abbrev pub waitingAt : Holding → List Request
 waitingAt h = waitingIn (h .state .waiting) (h .queue)

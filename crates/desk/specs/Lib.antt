@@ -1,4 +1,5 @@
 pub mod Queueing
+pub mod Priority
 pub mod Holding
 pub mod Admission
 pub mod Place

@@ -21,6 +21,7 @@ ghost use Rattle.desk.specs.Place.{masksIf};
 use crate::admitted;
 use crate::admitted::Located;
 use crate::state::Desk;
+use crate::urgent;
 use queue::QUEUE_SIZE;
 use queue::Request;
 use word::fields;
@@ -95,5 +96,8 @@ pub fn desk_fits(plan: &[u32], places: &[usize], state: Desk, row: &[u32], masks
     if waiting == 0 {
         return true;
     }
-    all_wait_here(plan, places, desk, waiting, row, masks)
+    if !all_wait_here(plan, places, desk, waiting, row, masks) {
+        return false;
+    }
+    urgent::urgent_lead(plan, places, waiting, row)
 }

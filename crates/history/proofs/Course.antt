@@ -1,4 +1,4 @@
--- The course of 01 as a history of the engine, computed.
+-- The course of 01 as a history of the engine, and one with urgent requests, computed.
 -- Assumes nothing.
 use Prim.Native.Nat.{ℕ, zero, suc, _^_, _<_}
 use mathlib.Core.Path.{refl}
@@ -22,7 +22,8 @@ use Rattle.conflict.specs.Class.{classBy}
 use Rattle.frame.specs.Frame.{writeWords, updateWords, updatesWords, sumsFrom, frameAround}
 use Rattle.frame.specs.Admission.{writesFrom, updatesFrom, deskCount, frameHeaded, sumsRight, updateFormed, cellFormed, wellFormed}
 use Rattle.frame.specs.Admission.{fewPerDesk, updatesRight, frameVerdict}
-use Rattle.desk.specs.Admission.{deskBuffersFit, waitsHere, deskFits}
+use Rattle.desk.specs.Priority.{urgentLead}
+use Rattle.desk.specs.Admission.{deskBuffersFit, waitsHere, queueFits, deskFits}
 use Rattle.visits.specs.Admission.{visitBuffersFit, turnVerdict}
 use Rattle.requests.specs.Request.{requestVerdict, requestResult}
 use Rattle.token.specs.Forward.{foreign, applyAll}
@@ -46,8 +47,8 @@ unfolding ones openPlanVerdict planVerdict hasHead countsInRange transactionsVer
     sourceField frameVerdict frameHeaded sumsRight updatesRight wellFormed updateFormed cellFormed fewPerDesk deskCount writesFrom
     updatesFrom sumsFrom frameAround cellsNamed transactionExists unusedZero rowInRange parametersPass operationVerdict applyUpdate act
     runFrom maskOf some rowTouched cellTouched stepTouches deskMask cellGiven stepWrites written classBy writeWords updateWords
-    updatesWords deskBuffersFit visitBuffersFit waitsHere deskFits turnVerdict requestVerdict requestResult foreign applyAll
-    visitVerdict visitResult copiedBy tabulate runAll updatesOf repliesOf repliesWords
+    updatesWords deskBuffersFit visitBuffersFit waitsHere urgentLead queueFits deskFits turnVerdict requestVerdict requestResult foreign
+    applyAll visitVerdict visitResult copiedBy tabulate runAll updatesOf repliesOf repliesWords
 course =
     record {
       proper = (
@@ -87,4 +88,21 @@ course =
         ),
       );
       gives = refl;
+      urgent-proper = (
+        omega arith,
+        small 0 1 (omega arith) (omega arith),
+        λ e. tt,
+        (
+          omega arith,
+          small 0 2 (omega arith) (omega arith),
+          λ e. tt,
+          (
+            omega arith,
+            small 0 3 (omega arith) (omega arith),
+            λ e. tt,
+            (omega arith, small 0 4 (omega arith) (omega arith), λ e. tt, (omega arith, tt, λ e. List·Memᴰ·head refl, tt)),
+          ),
+        ),
+      );
+      urgent-gives = refl;
     }

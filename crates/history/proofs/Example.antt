@@ -3,7 +3,7 @@
 use Prim.Native.Nat.{ℕ, _<_}
 use mathlib.Core.Path.{_≡_, refl}
 use mathlib.Core.Logic.{_⊎_, inl, inr}
-use mathlib.Core.Bool.{Bool, true, _||_}
+use mathlib.Core.Bool.{Bool, true, false, _||_}
 use mathlib.Core.List.{List, [], _∷_, _++_, List·Memᴰ, List·Memᴰ·eq-of-singleton, List·Memᴰ·not-nil}
 use native.Mathlib.Omega.{arith}
 use lib.ListN.{length}
@@ -31,11 +31,12 @@ transaction column = record {
   params = 2;
   part = byParam 0;
   weight = 0;
+  urgent = false;
   steps = operand sets (param 1) ∷ cell writes 0 column (fixed 0) ∷ [];
 }
 
 abbrev reading : Partitioning → ℕ → Transaction
-reading part column = record { params = 1; part = part; weight = 0; steps = cell reads 0 column (fixed 0) ∷ [] }
+reading part column = record { params = 1; part = part; weight = 0; urgent = false; steps = cell reads 0 column (fixed 0) ∷ [] }
 
 abbrev plan : Plan
 plan =

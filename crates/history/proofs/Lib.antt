@@ -18,6 +18,7 @@ pub mod SnapshotsSeen
 pub mod Notes
 pub mod Given
 pub mod Claim
+pub mod WaitingOrder
 pub mod Snapshots
 pub mod OrderRule
 pub mod Start

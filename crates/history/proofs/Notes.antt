@@ -17,14 +17,14 @@ use Rattle.operation.specs.Operation.{Operation, deskOf}
 use Rattle.conflict.specs.Class.{Class, free, local, global}
 use Rattle.queue.specs.declared.record.Request.{Request}
 use Rattle.desk.specs.Holding.{Holding}
-use Rattle.desk.specs.Queueing.{operationOf}
+use Rattle.desk.specs.Queueing.{operationOf, isUrgent, joinQueue}
 use Rattle.desk.specs.Admission.{deskBuffersFit, deskFits}
 use Rattle.requests.specs.Request.{recordOf, served, requestVerdict, requestResult}
 use Rattle.history.specs.History.{Call, request, visit, deskCalled, isRefusedResponse, isRefused, Kept, outcomeAt, stepAt, outcomes}
 use Rattle.history.specs.History.{written, WordsFit, Proper}
 use Rattle.history.specs.SerialRun.{Serial, noteNothing, noteRun, noteJoin, noteRequest, ranked, noteVisit, note, noteAll}
 use Rattle.history.proofs.Operations.{Runs}
-use Rattle.history.proofs.Requests.{record-runs}
+use Rattle.history.proofs.Requests.{record-runs, join-runs}
 use Rattle.history.proofs.OrderSeen.{RanAs, RunsAll}
 
 -- every line and every finished request
@@ -41,11 +41,11 @@ module _ (p : Plan) where
   run-noted s d r l n k =
       record { lines = n .lines; ended = All-append (RanAs p) (s .finished) _ (n .ended) ((k, l), tt) }
 
-  join-noted : (s : Serial) (d : ℕ) (r : Request) → Noted p s → Runs p r → Noted p (noteJoin s d r)
+  join-noted : (s : Serial) (d : ℕ) (r : Request) → Noted p s → Runs p r → Noted p (noteJoin p s d r)
   join-noted s d r n k =
       record {
-        lines = λ e. either (eqb e d) (s .queues d ++ (r ∷ [])) (s .queues e)
-            (All-append (Runs p) (s .queues d) (r ∷ []) (n .lines d) (k, tt)) (n .lines e);
+        lines = λ e. either (eqb e d) (joinQueue (isUrgent p) (s .queues d) r) (s .queues e) (join-runs p (s .queues d) r (n .lines d) k)
+            (n .lines e);
         ended = n .ended;
       }
 
@@ -53,7 +53,7 @@ module _ (p : Plan) where
   nothing-noted s n = record { lines = n .lines; ended = n .ended }
 
   request-noted : (k : Class) (own : Bool) (s : Serial) (d : ℕ) (r : Request) → d < p .desks → Noted p s → Runs p r →
-      Noted p (noteRequest k own s d r)
+      Noted p (noteRequest p k own s d r)
   request-noted free own s d r l n h = run-noted s d r l n h
   request-noted local true s d r l n h = run-noted s d r l n h
   request-noted local false s d r l n h = nothing-noted s n

@@ -8,7 +8,7 @@ use lib.ListN.{length}
 use Rattle.verdict.specs.Verdict.{Verdict, ask, _then_, isAccepted}
 use Rattle.plan.specs.Plan.{Plan}
 use Rattle.plan.specs.Decode.{planOf}
-use Rattle.operation.specs.Operation.{Operation, deskOf, MayRead, MayWrite}
+use Rattle.operation.specs.Operation.{Operation, deskOf, urgentOf, MayRead, MayWrite}
 use Rattle.operation.specs.Admission.{IsOperation, operationVerdict}
 use Rattle.operation.specs.Store.{Store, storeSize}
 use Rattle.execution.specs.Run.{Reply, Outcome, declined, run}
@@ -18,7 +18,7 @@ use Rattle.frame.specs.Admission.{frameVerdict}
 use Rattle.desk.specs.Queueing.{joinQueue}
 use Rattle.visits.specs.Admission.{turnVerdict}
 use Rattle.visits.specs.Waiting.{repliesSize}
-use Rattle.serial.specs.Desk.{Desk, Call, request, visit}
+use Rattle.serial.specs.Desk.{Request, Desk, Call, request, visit}
 use Rattle.serial.specs.System.{System}
 use Rattle.serial.specs.System as protocol
 use Rattle.history.proofs.Operations.{isOperation}
@@ -53,6 +53,10 @@ module _ (ws : List ℕ) (class : Operation → Class) (sizes : Sizes) where
   -- what is no operation does nothing
   abbrev pub ran : Operation → Store → Outcome
   ran o s = cond (isOperation thePlan o) (run thePlan o s) (declined 0 [])
+
+  -- a waiting request is urgent if its operation is
+  abbrev pub urgentSeen : Request Operation → Bool
+  urgentSeen r = urgentOf thePlan (r .op)
 
   -- 5 for a desk with this store and a queue of as many records as desk p's
   abbrev pub sizesFit : Store → ℕ → Bool
@@ -92,6 +96,6 @@ module _ (ws : List ℕ) (class : Operation → Class) (sizes : Sizes) where
         Writes = λ o c. IsOperation thePlan o × MayWrite thePlan o c;
         reply = λ o s. ran o s .reply;
         update = λ o s. ran o s .update;
-        join = joinQueue;
+        join = joinQueue urgentSeen;
         admits = admission;
       }

@@ -7,7 +7,7 @@ use mathlib.Core.Bool.{Bool, true, false, cond}
 use mathlib.Core.List.{List, []}
 use lib.Dec.{eqb, eqb→eq}
 use Rattle.verdict.specs.Verdict.{accepted}
-use Rattle.lists.proofs.Laws.{and-fst, T-true, true-T, cons-in-snoc, snoc-in-cons, by-same}
+use Rattle.lists.proofs.Laws.{and-fst, T-true, true-T, by-same}
 use Rattle.plan.specs.Decode.{planOf}
 use Rattle.plan.specs.Admission.{planVerdict}
 use Rattle.operation.specs.Operation.{Operation, transactionOf, deskOf, MayRead, MayWrite, MayTouch}
@@ -18,6 +18,7 @@ use Rattle.execution.proofs.Runs.{reads-decide}
 use Rattle.conflict.specs.Class.{Class, free, local, global}
 use Rattle.conflict.proofs.MaskMeaning.{desk-low}
 use Rattle.conflict.proofs.Touching.{some-desk}
+use Rattle.desk.proofs.Priority.{join-member, member-join}
 use Rattle.serial.specs.Store.{Same, Within}
 use Rattle.serial.specs.System.{Laws, Touches}
 use Rattle.serial.specs.System as protocol
@@ -25,7 +26,7 @@ use Rattle.serial.proofs.Stores.{Within-part}
 use Rattle.history.proofs.Transactions.{run-update-writes}
 use Rattle.history.specs.SerialRun.{Is, Classifies}
 use Rattle.history.proofs.Operations.{isOperation, is-of-decided}
-use Rattle.history.proofs.Protocol.{Sizes, classSeen, ran, system}
+use Rattle.history.proofs.Protocol.{Sizes, classSeen, ran, urgentSeen, system}
 
 seen-free : (k : Class) → classSeen k ≡ protocol.free → k ≡ free
 seen-free free e = refl
@@ -96,8 +97,8 @@ module _ (ws : List ℕ) (accept : planVerdict ws ≡ accepted) (class : Operati
         free-writes = λ o e c w. means o free (w .0) (seen-free (class o) e) .0 c (w .1);
         free-reads = λ o e c r o′ w. means o free (r .0) (seen-free (class o) e) .1 c (r .1) o′ (w .0) (w .1);
         local-alone = λ o e c w o′ t. local-one-desk o (seen-local (class o) e) c w o′ (touch-of o′ c t);
-        join-keeps = cons-in-snoc;
-        join-only = snoc-in-cons;
+        join-keeps = member-join (urgentSeen ws class sizes);
+        join-only = join-member (urgentSeen ws class sizes);
         awaited-only = λ d p f x t.
             eqb→eq (f .number) (d .awaited) (true-T _ (and-fst (eqb (f .number) (d .awaited)) _ (T-true _ t)));
       }

@@ -3,16 +3,17 @@
 use Prim.Native.Nat.{ℕ, zero, suc, _+_, _^_, _%_, _<_}
 use mathlib.Core.Path.{_≡_, refl, sym, _∙_, ap, ap₂, subst}
 use mathlib.Core.Bool.{Bool, true, false, _&&_, cond}
-use mathlib.Core.List.{List, [], _∷_, map, map-append}
+use mathlib.Core.List.{List, [], _∷_, map}
 use native.Mathlib.Omega.{arith}
 use lib.Dec.{ltb, eqb}
-use lib.ListN.{length, getD, take, length-map}
+use lib.ListN.{length, getD, length-map}
 use lib.Seq.{length-take-le}
 use borrow.Author.Tests.{ltb-true, eqb-true, le-leb, eq-eqb}
 use Rattle.verdict.specs.Verdict.{Verdict, accepted, refused, isAccepted}
 use Rattle.verdict.proofs.Verdicts.{ask-then-accepted}
 use Rattle.lists.specs.Lists.{every, All}
-use Rattle.lists.proofs.Laws.{and-snd, and-true, every-last, All-append}
+use Rattle.lists.proofs.Laws.{and-snd, and-true, every-member, member-every, All-mem, mem-All}
+use Rattle.plan.specs.Plan.{Plan}
 use Rattle.plan.specs.Decode.{planOf}
 use Rattle.plan.specs.Admission.{planVerdict}
 use Rattle.operation.specs.Operation.{Operation, deskOf}
@@ -24,8 +25,9 @@ use Rattle.conflict.proofs.Classes.{class-free, class-local, class-global}
 use Rattle.queue.specs.declared.record.Request.{Request}
 use Rattle.desk.specs.declared.state.Desk.{Desk}
 use Rattle.desk.specs.Holding.{Holding, waitingAt}
-use Rattle.desk.specs.Queueing.{operationOf, joinQueue}
-use Rattle.desk.specs.Admission.{deskBuffersFit, waitsHere, deskFits}
+use Rattle.desk.specs.Queueing.{operationOf, isUrgent, joinQueue}
+use Rattle.desk.specs.Admission.{deskBuffersFit, waitsHere, queueFits, deskFits}
+use Rattle.desk.proofs.Priority.{join-keeps-order, join-member, join-map}
 use Rattle.requests.specs.Request.{Requested, recordOf, served, routed, ranNow, enqueued, unchanged, requestVerdict}
 use Rattle.requests.specs.Request.{requestResult}
 use Rattle.requests.specs.Request as asked
@@ -36,7 +38,7 @@ use Rattle.serial.specs.Step as step
 use Rattle.history.specs.History.{requested, holdingAfter}
 use Rattle.history.specs.SerialRun.{Is, Classifies}
 use Rattle.history.proofs.Operations.{Runs}
-use Rattle.history.proofs.Protocol.{Sizes, classSeen, roomBy, sizesFit, requestAsked, system}
+use Rattle.history.proofs.Protocol.{Sizes, classSeen, roomBy, sizesFit, requestAsked, urgentSeen, system}
 use Rattle.history.proofs.Seen.{requestSeen, ran-is, one-seen}
 use Rattle.history.proofs.View.{view, responseSeen}
 use Rattle.history.proofs.Sound.{Sound, six}
@@ -60,6 +62,22 @@ pub class-same : (ws : List ℕ) → planVerdict ws ≡ accepted → (o : Operat
 class-same ws e o i free m = class-free ws e o i .1 m
 class-same ws e o i local m = class-local ws e o i .1 m
 class-same ws e o i global m = class-global ws e o i .1 m
+
+-- a request joins those that wait: what held of each, and of it, holds of each
+module _ (p : Plan) (waiting : List Request) (r : Request) where
+  pub join-runs : All (Runs p) waiting → Runs p r → All (Runs p) (joinQueue (isUrgent p) waiting r)
+  join-runs h k =
+      mem-All (Runs p) (joinQueue (isUrgent p) waiting r)
+      (λ t m. All-mem (Runs p) t (r ∷ waiting) (join-member (isUrgent p) waiting r t m) (k, h))
+
+  join-fits : (desk : ℕ) → every (waitsHere p desk) waiting ≡ true → waitsHere p desk r ≡ true
+      → queueFits p desk (joinQueue (isUrgent p) waiting r) ≡ true
+  unfolding queueFits every
+  join-fits desk h k =
+      and-true _ _
+      (member-every (waitsHere p desk) (joinQueue (isUrgent p) waiting r)
+      (λ t m. every-member (waitsHere p desk) (r ∷ waiting) t (and-true _ _ k h) (join-member (isUrgent p) waiting r t m)))
+      (join-keeps-order Request (isUrgent p) waiting r)
 
 module _ (ws : List ℕ) (accept : planVerdict ws ≡ accepted) (class : Operation → Class) (right : Classifies (planOf ws) class)
     (sizes : Sizes) (h : Holding) (ok : Sound ws (sizes .records) (h .state .desk) h) (client k : ℕ) (ps : List ℕ)
@@ -114,8 +132,9 @@ module _ (ws : List ℕ) (accept : planVerdict ws ≡ accepted) (class : Operati
   waiting-count = length-map (waitingAt h) requestSeen ∙ length-take-le (d .waiting) (h .queue) (ok .room)
 
   module _ (p : Passes) where
-    pub joined : d .waiting < 32 → waitingAt (holdingAfter h (requested (enqueued h r))) ≡ joinQueue (waitingAt h) r
-    joined l = joins-queue h r (omega (arith, p .whole))
+    pub joined : d .waiting < 32
+        → waitingAt (holdingAfter h (requested (enqueued h (planOf ws) r))) ≡ joinQueue (isUrgent (planOf ws)) (waitingAt h) r
+    joined l = joins-queue h (planOf ws) r (omega (arith, p .whole))
 
     now-seen : seen (ranNow h (planOf ws) o) ≡ step.requestStep S step.immediate (view h) (requestSeen r)
     now-seen =
@@ -124,11 +143,11 @@ module _ (ws : List ℕ) (accept : planVerdict ws ≡ accepted) (class : Operati
         (sym (one-seen ws class sizes o (h .cells) (p .runs))) (sym (ran-is ws class sizes o (h .cells) (p .runs)))
 
     join-seen : (b : Bool) → ltb (d .waiting) 32 ≡ b →
-        seen (cond b (enqueued h r) (unchanged h (asked.requestRefused 9)))
+        seen (cond b (enqueued h (planOf ws) r) (unchanged h (asked.requestRefused 9)))
         ≡ cond b (step.requestStep S step.enqueue (view h) (requestSeen r)) (view h, desk.refused)
     join-seen true e =
         ap (λ (q : List (desk.Request Operation)). (record { store = h .cells; queue = q; awaited = d .awaited }, desk.waits))
-        (ap (map requestSeen) (joined (ltb-true (d .waiting) 32 e)) ∙ map-append requestSeen (take (d .waiting) (h .queue)) (r ∷ []))
+        (ap (map requestSeen) (joined (ltb-true (d .waiting) 32 e)) ∙ join-map requestSeen (urgentSeen ws class sizes) (waitingAt h) r)
     join-seen false e = refl
 
     routed-seen : (c : Class) (b : Bool) → seen (routed h c b (planOf ws) r)
@@ -168,27 +187,25 @@ module _ (ws : List ℕ) (accept : planVerdict ws ≡ accepted) (class : Operati
   kept : (cells : List ℕ) → Sound ws (sizes .records) (d .desk) (record { state = d; cells = cells; queue = h .queue })
   kept cells = record { desk = refl; fits = ok .fits; size = ok .size; room = ok .room; runs = ok .runs }
 
-  joins-sound : Passes → d .waiting < 32 → classOf (planOf ws) o ≡ global → own ≡ true → After (enqueued h r)
+  joins-sound : Passes → d .waiting < 32 → classOf (planOf ws) o ≡ global → own ≡ true → After (enqueued h (planOf ws) r)
   unfolding deskFits waitsHere
   joins-sound p l c b =
       let s = six ws h (ok .fits) in
-      let long = enqueued-length h r (omega (arith, p .whole)) in
+      let long = enqueued-length h (planOf ws) r (omega (arith, p .whole)) in
       let here : waitsHere (planOf ws) (d .desk) r ≡ true = rw (p .runs .passes, c, b) refl in
       record {
         desk = refl;
         fits = and-true _ _ (s .below)
             (and-true _ _ (le-leb (d .waiting + 1) 32 (omega arith))
             (and-true _ _ (eq-eqb (d .awaited % planOf ws .desks) (d .desk) (s .turn))
-            (ap (every (waitsHere (planOf ws) (d .desk))) (joined p l)
-            ∙ every-last (waitsHere (planOf ws) (d .desk)) (waitingAt h) r (s .each) here)));
+            (ap (queueFits (planOf ws) (d .desk)) (joined p l) ∙ join-fits (planOf ws) (waitingAt h) r (d .desk) (s .each) here)));
         size = long ∙ ok .size;
         room = omega (arith, long, p .whole);
-        runs = subst (All (Runs (planOf ws))) (sym (joined p l))
-            (All-append (Runs (planOf ws)) (waitingAt h) (r ∷ []) (ok .runs) (p .runs, tt));
+        runs = subst (All (Runs (planOf ws))) (sym (joined p l)) (join-runs (planOf ws) (waitingAt h) r (ok .runs) (p .runs));
       }
 
   join-sound : Passes → classOf (planOf ws) o ≡ global → own ≡ true → (t : Bool) → ltb (d .waiting) 32 ≡ t →
-      After (cond t (enqueued h r) (unchanged h (asked.requestRefused 9)))
+      After (cond t (enqueued h (planOf ws) r) (unchanged h (asked.requestRefused 9)))
   join-sound p c b true e = joins-sound p (ltb-true (d .waiting) 32 e) c b
   join-sound p c b false e = kept (h .cells)
 

@@ -11,7 +11,8 @@ use Rattle.plan.specs.Decode.{planOf}
 use Rattle.operation.specs.Operation.{Operation, deskOf}
 use Rattle.conflict.specs.Class.{Class, free, local, global}
 use Rattle.queue.specs.declared.record.Request.{Request}
-use Rattle.desk.specs.Queueing.{operationOf}
+use Rattle.desk.specs.Queueing.{operationOf, isUrgent, joinQueue}
+use Rattle.desk.proofs.Priority.{join-map}
 use Rattle.requests.specs.Request.{recordOf}
 use Rattle.serial.specs.System.{System}
 use Rattle.serial.specs.Desk as desk
@@ -22,7 +23,7 @@ use Rattle.serial.proofs.Assign.{assign-map}
 use Rattle.history.specs.History.{Call, request, visit}
 use Rattle.history.specs.Order.{Slot, globalRun, immediateRun, Finished}
 use Rattle.history.specs.SerialRun.{Serial, noteRequest, noteRun, noteJoin, noteVisit, ranked, note, noteAll}
-use Rattle.history.proofs.Protocol.{Sizes, classSeen, system}
+use Rattle.history.proofs.Protocol.{Sizes, classSeen, urgentSeen, system}
 use Rattle.history.proofs.Seen.{requestSeen}
 use Rattle.history.proofs.View.{callSeen}
 
@@ -61,17 +62,17 @@ module _ (ws : List ℕ) (class : Operation → Class) (sizes : Sizes) where
       (suc (s .calls)))
       (map-append finishedSeen (s .finished) (record { slot = immediateRun (s .heard p) p; by = s .calls; request = r } ∷ []))
 
-  join-noted : (s : Serial) (p : ℕ) (r : Request) → serialSeen (noteJoin s p r)
+  join-noted : (s : Serial) (p : ℕ) (r : Request) → serialSeen (noteJoin (planOf ws) s p r)
       ≡ run.noteRequest S step.enqueue (serialSeen s) p (requestSeen r)
   join-noted s p r =
       ap (λ (qs : ℕ → List (desk.Request Operation)).
       made qs (s .heard) (map requestSeen (s .globals)) (s .latest) (map finishedSeen (s .finished))
       (suc (s .calls)))
-      (assign-map (map requestSeen) p (s .queues p ++ (r ∷ [])) (s .queues)
+      (assign-map (map requestSeen) p (joinQueue (isUrgent (planOf ws)) (s .queues p) r) (s .queues)
       ∙ ap (λ (q : List (desk.Request Operation)). assign p q (λ (p : ℕ). map requestSeen (s .queues p)))
-      (map-append requestSeen (s .queues p) (r ∷ [])))
+      (join-map requestSeen (urgentSeen ws class sizes) (s .queues p) r))
 
-  request-noted : (k : Class) (own : Bool) (s : Serial) (p : ℕ) (r : Request) → serialSeen (noteRequest k own s p r)
+  request-noted : (k : Class) (own : Bool) (s : Serial) (p : ℕ) (r : Request) → serialSeen (noteRequest (planOf ws) k own s p r)
       ≡ run.noteRequest S (step.routeBy (classSeen k) own) (serialSeen s) p (requestSeen r)
   request-noted free own s p r = run-noted s p r
   request-noted local true s p r = run-noted s p r

@@ -6,7 +6,7 @@ use mathlib.Core.Bool.{true}
 use mathlib.Core.List.{List}
 use native.Mathlib.Nat.{mod-eq-of-lt}
 use native.Mathlib.Omega.{arith}
-use lib.Dec.{ltb, leb, eqb}
+use lib.Dec.{ltb, leb}
 use lib.ListN.{length}
 use borrow.Author.Tests.{leb-true, eqb-true, lt-ltb, eq-eqb}
 use Rattle.lists.specs.Lists.{every, All}
@@ -14,7 +14,10 @@ use Rattle.lists.proofs.Laws.{and-fst, and-snd, and-true}
 use Rattle.plan.specs.Decode.{planOf}
 use Rattle.queue.specs.declared.record.Request.{Request}
 use Rattle.desk.specs.Holding.{Holding, waitingAt}
+use Rattle.desk.specs.Queueing.{isUrgent}
+use Rattle.desk.specs.Priority.{urgentLead}
 use Rattle.desk.specs.Admission.{waitsHere, deskFits}
+use Rattle.desk.proofs.QuestionSix.{fits-each, fits-ordered, none-waits}
 use Rattle.history.specs.History.{start}
 use Rattle.history.proofs.Operations.{Runs}
 
@@ -32,6 +35,7 @@ pub record Six (ws : List ℕ) (h : Holding) : Type 0 where
   pub few : h .state .waiting ≤ 32
   pub turn : h .state .awaited % planOf ws .desks ≡ h .state .desk
   pub each : every (waitsHere (planOf ws) (h .state .desk)) (waitingAt h) ≡ true
+  pub ordered : urgentLead (isUrgent (planOf ws)) (waitingAt h) ≡ true
 
 pub six : (ws : List ℕ) (h : Holding) → deskFits (planOf ws) (h .state) (h .queue) ≡ true → Six ws h
 unfolding deskFits
@@ -42,18 +46,19 @@ six ws h e =
       below = and-fst _ _ e;
       few = leb-true (h .state .waiting) 32 (and-fst _ _ a);
       turn = eqb-true (h .state .awaited % planOf ws .desks) (h .state .desk) (and-fst _ _ b);
-      each = and-snd (eqb (h .state .awaited % planOf ws .desks) (h .state .desk)) _ b;
+      each = fits-each (planOf ws) (h .state) (h .queue) e;
+      ordered = fits-ordered (planOf ws) (h .state) (h .queue) e;
     }
 
 -- what a new desk holds is sound
 pub start-sound : (ws cells : List ℕ) (rows : ℕ → List Request) (snapshots : ℕ → List ℕ) (p : ℕ) → p < planOf ws .desks →
     Sound ws (λ q. length (rows q)) p (start cells rows snapshots p .holding)
-unfolding deskFits every
+unfolding deskFits
 start-sound ws cells rows snapshots p h =
     record {
       desk = refl;
       fits = and-true _ _ (lt-ltb p (planOf ws .desks) h)
-          (and-true _ _ refl (and-true _ _ (eq-eqb (p % planOf ws .desks) p (mod-eq-of-lt h)) refl));
+          (and-true _ _ refl (and-true _ _ (eq-eqb (p % planOf ws .desks) p (mod-eq-of-lt h)) (none-waits (planOf ws) p (rows p) 0 refl)));
       size = refl;
       room = omega arith;
       runs = tt;

@@ -13,7 +13,6 @@ use lib.Seq.{take-append-seam, length-take-le}
 use borrow.Author.Tests.{ltb-true, eqb-true, eq-eqb}
 use Rattle.verdict.specs.Verdict.{Verdict, accepted, refused, isAccepted}
 use Rattle.verdict.proofs.Verdicts.{ask-then-accepted, then-accepted}
-use Rattle.lists.specs.Lists.{every}
 use Rattle.lists.proofs.Laws.{and-true}
 use Rattle.word.specs.Field.{addressedDesk}
 use Rattle.plan.specs.Decode.{headOf, planOf}
@@ -30,6 +29,7 @@ use Rattle.queue.specs.declared.record.Request.{Request}
 use Rattle.desk.specs.declared.state.Desk.{Desk}
 use Rattle.desk.specs.Holding.{Holding, waitingAt}
 use Rattle.desk.specs.Admission.{deskBuffersFit, deskFits}
+use Rattle.desk.proofs.QuestionSix.{none-waits}
 use Rattle.visits.specs.Admission.{visitBuffersFit, turnVerdict}
 use Rattle.token.specs.Forward.{foreign, applyAll}
 use Rattle.visits.specs.Visit.{Visited, caughtUp, outgoingUpdates, outgoingFrame, acceptedVisit, visitedBy, visitVerdict}
@@ -128,7 +128,7 @@ module _ (ws : List ℕ) (accept : planVerdict ws ≡ accepted) (sizes : Sizes) 
   After m = Sound ws (sizes .records) (d .desk) (holdingAfter h (visited m))
 
   accepted-sound : Turn ws d ft → After left
-  unfolding deskFits every
+  unfolding deskFits
   accepted-sound t =
       let s = six ws h (ok .fits) in
       record {
@@ -136,7 +136,8 @@ module _ (ws : List ℕ) (accept : planVerdict ws ≡ accepted) (sizes : Sizes) 
         fits = and-true _ _ (s .below)
             (and-true _ _ refl
             (and-true _ _ (eq-eqb ((frameVisit ft + n) % n) (d .desk)
-            (add-mod-right (frameVisit ft) n ∙ ap (λ (v : ℕ). v % n) (t .number) ∙ s .turn)) refl));
+            (add-mod-right (frameVisit ft) n ∙ ap (λ (v : ℕ). v % n) (t .number) ∙ s .turn))
+            (none-waits (planOf ws) (d .desk) (h .queue) 0 refl)));
         size = ok .size;
         room = omega arith;
         runs = tt;

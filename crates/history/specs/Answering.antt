@@ -1,16 +1,27 @@
 -- Demand 2: each waiting request is answered at its desk's next accepted visit. A waiting request is known by its place in the queue, so
 -- that two equal requests are two. None of this asks how the desks came to hold what they hold.
-use Prim.Native.Nat.{ℕ, _*_, _<_}
+--     WaitsAt, replyPart, storeBefore           record k waits; the words of its reply; and the store on which it runs
+--     AnswersWaiting, VisitAnswersWaiting       an accepted visit answers all that wait, and no other
+--     placeAt, RequestWaits                     a request that is told to wait is the record at its place
+--     movedBy, placeAfter, placesAfter          where a waiting record stands after a request at its desk, a call and calls
+--     PlaceItsOwn                               none is moved to the place of the request
+--     NoVisit, NoVisits, WaitingMoves           there it stands until its desk's next accepted visit
+--     PlacesKeepOrder                           none overtakes another, and two stay two
+--     AnsweredAtNextVisit                       and there it is answered
+use Prim.Native.Nat.{ℕ, suc, _*_, _<_}
 use mathlib.Core.Path.{_≡_}
-use mathlib.Core.Bool.{true}
+use mathlib.Core.Bool.{true, _&&_, cond}
 use mathlib.Core.List.{List, [], _∷_}
+use lib.Dec.{leb, eqb}
 use lib.ListN.{getD, take, drop}
 use Rattle.plan.specs.Decode.{planOf}
 use Rattle.operation.specs.Store.{Store}
 use Rattle.queue.specs.Queue.{noRequest}
 use Rattle.queue.specs.declared.record.Request.{Request}
-use Rattle.desk.specs.Holding.{Holding}
-use Rattle.requests.specs.Request.{recordOf, requestResult}
+use Rattle.desk.specs.Queueing.{isUrgent}
+use Rattle.desk.specs.Priority.{joinPlace}
+use Rattle.desk.specs.Holding.{Holding, waitingAt}
+use Rattle.requests.specs.Request.{isWaits, recordOf, requestResult}
 use Rattle.requests.specs.Request as asked
 use Rattle.visits.specs.Visit.{forwarded, Visited, caughtUp, visitResult}
 use Rattle.visits.specs.Waiting.{replySize, runAll, replyWords}
@@ -19,7 +30,7 @@ use Rattle.history.specs.History.{Call, request, visit, isRefused, Kept,
 
 -- ---- a waiting request, and its reply
 
--- "the waiting requests lie in a lent row of 32 records, the earliest first": record k waits, and is r
+-- "the waiting requests lie in a lent row of 32 records": record k waits, and is r
 abbrev pub WaitsAt : ℕ → Request → Holding → Type 0
 WaitsAt k r h = (k < h .state .waiting) × (getD (h .queue) k noRequest ≡ r)
 
@@ -54,12 +65,36 @@ VisitAnswersWaiting =
 
 -- ---- from the request to the visit
 
--- a request that is told to wait is the next record after those that waited
+-- the place of a request among those that wait at a desk that holds h: behind the urgent ones if it is urgent, else behind all
+abbrev pub placeAt : List ℕ → Holding → Request → ℕ
+placeAt plan h r = joinPlace (isUrgent (planOf plan)) (waitingAt h) r
+
+-- a request that is told to wait is the record at its place
 abbrev pub RequestWaits : Type 0
 RequestWaits =
     (plan : List ℕ) (w : ℕ → Kept) (p client k : ℕ) (ps : List ℕ)
     → requestResult plan (w p .holding) (recordOf client k ps) .answer ≡ asked.waits
-    → WaitsAt (w p .holding .state .waiting) (recordOf client k ps) (stepAt plan w (request p client k ps) p .holding)
+    → WaitsAt (placeAt plan (w p .holding) (recordOf client k ps)) (recordOf client k ps) (stepAt plan w (request p client k ps) p .holding)
+
+-- "An arriving urgent request moves the waiting others up by a place.": where record i stands after a request at its desk, one place
+-- further on if the request is told to wait and its place is i or before it
+abbrev pub movedBy : List ℕ → Holding → Request → ℕ → ℕ
+movedBy plan h r i = cond (isWaits (requestResult plan h r .answer) && leb (placeAt plan h r) i) (suc i) i
+
+-- none that waited is moved to the place of the request
+abbrev pub PlaceItsOwn : Type 0
+PlaceItsOwn =
+    (plan : List ℕ) (h : Holding) (r : Request) → requestResult plan h r .answer ≡ asked.waits
+    → (i : ℕ) → movedBy plan h r i ≡ placeAt plan h r → ⊥
+
+-- where record i of desk p stands after a call: no other call moves it
+abbrev pub placeAfter : List ℕ → ℕ → (ℕ → Kept) → Call → ℕ → ℕ
+placeAfter plan p w (request q client k ps) i = cond (eqb p q) (movedBy plan (w q .holding) (recordOf client k ps) i) i
+placeAfter plan p w (visit q frame out replies) i = i
+
+abbrev pub placesAfter : List ℕ → ℕ → (ℕ → Kept) → List Call → ℕ → ℕ
+placesAfter plan p w [] i = i
+placesAfter plan p w (c ∷ cs) i = placesAfter plan p (stepAt plan w c) cs (placeAfter plan p w c i)
 
 -- the call is no accepted visit at desk p
 abbrev pub NoVisit : List ℕ → ℕ → (ℕ → Kept) → Call → Type 0
@@ -70,19 +105,25 @@ abbrev pub NoVisits : List ℕ → ℕ → (ℕ → Kept) → List Call → Type
 NoVisits plan p w [] = Unit {0}
 NoVisits plan p w (c ∷ cs) = NoVisit plan p w c × NoVisits plan p (stepAt plan w c) cs
 
--- until its desk's next accepted visit each waiting record stays at its place
-abbrev pub WaitingStays : Type 0
-WaitingStays =
-    (plan : List ℕ) (p : ℕ) (cs : List Call) (w : ℕ → Kept) → NoVisits plan p w cs → (k : ℕ) (r : Request)
-    → WaitsAt k r (w p .holding) → WaitsAt k r (holdingsAfter plan w cs p .holding)
+-- until its desk's next accepted visit each waiting record waits, at the place to which it was moved
+abbrev pub WaitingMoves : Type 0
+WaitingMoves =
+    (plan : List ℕ) (p : ℕ) (cs : List Call) (w : ℕ → Kept) → NoVisits plan p w cs → (i : ℕ) (r : Request)
+    → WaitsAt i r (w p .holding) → WaitsAt (placesAfter plan p w cs i) r (holdingsAfter plan w cs p .holding)
 
--- "each waiting request is answered at its desk's next accepted visit": r is record k at desk p, the calls cs have no accepted visit
+-- none overtakes another, and two stay two
+abbrev pub PlacesKeepOrder : Type 0
+PlacesKeepOrder =
+    (plan : List ℕ) (p : ℕ) (cs : List Call) (w : ℕ → Kept) (i j : ℕ) → i < j → placesAfter plan p w cs i < placesAfter plan p w cs j
+
+-- "each waiting request is answered at its desk's next accepted visit": r is record i at desk p, the calls cs have no accepted visit
 -- at p, and then one is accepted. RequestWaits says which record a request is that is told to wait.
 abbrev pub AnsweredAtNextVisit : Type 0
 AnsweredAtNextVisit =
-    (plan : List ℕ) (p : ℕ) (cs : List Call) (w : ℕ → Kept) → NoVisits plan p w cs → (k : ℕ) (r : Request) → WaitsAt k r (w p .holding)
+    (plan : List ℕ) (p : ℕ) (cs : List Call) (w : ℕ → Kept) → NoVisits plan p w cs → (i : ℕ) (r : Request) → WaitsAt i r (w p .holding)
     → (frame out replies : List ℕ) (words count : ℕ)
     → let h = holdingsAfter plan w cs p in
+    let k = placesAfter plan p w cs i in
     visitResult plan (h .holding) (h .snapshot) frame out replies .answer ≡ forwarded words count
     → (k < count) × (replyPart k (visitResult plan (h .holding) (h .snapshot) frame out replies .replies)
     ≡ replyWords (replyTo (planOf plan) r (storeBefore plan (h .holding) frame k)))

@@ -1,4 +1,4 @@
--- The course of 01 as a history of the engine: plan P, two desks, cells all zero.
+-- The course of 01 as a history of the engine: plan P, two desks, cells all zero; and one in which urgent requests arrive among others.
 use Prim.Native.Nat.{ℕ}
 use mathlib.Core.Path.{_≡_}
 use mathlib.Core.Logic.{_⊎_, inl, inr}
@@ -9,11 +9,13 @@ use Rattle.plan.specs.Decode.{planOf}
 use Rattle.conflict.specs.Class.{classOf}
 use Rattle.queue.specs.Queue.{noRequest}
 use Rattle.queue.specs.declared.record.Request.{Request}
+use Rattle.desk.specs.Queueing.{waitingIn}
 use Rattle.requests.specs.Request as asked
 use Rattle.visits.specs.Visit as visiting
 use Rattle.visits.specs.Waiting.{Answered}
 use Rattle.starred.specs.Table.{planP, sentFrame, sentOn}
-use Rattle.history.specs.History.{Call, request, visit, Outcome, requested, visited, isRefused, outcomes, start, ProperFromStart}
+use Rattle.history.specs.History.{Call, request, visit, Outcome, requested, visited, isRefused, outcomes}
+use Rattle.history.specs.History.{start, ProperFromStart}
 use Rattle.history.specs.Order.{Finished}
 use Rattle.history.specs.SerialRun.{Serial, serial, order, storeAfter, due}
 
@@ -85,7 +87,42 @@ expected = (
   0 ∷ 0 ∷ 0 ∷ 3 ∷ [],
 )
 
--- the premise of the claim is met, and the calls give these answers
+-- ---- "urgent requests before the others, each sort by arrival"
+
+-- two desks; T0(d, x) and T1(d, x) set cell 128 to x, and T1 is urgent
+abbrev pub planU : List ℕ
+planU = 0x12020007 ∷ 0x22200000 ∷ 0x52000000 ∷ 0x42700000 ∷ 0x22200080 ∷ 0x52000000 ∷ 0x42700000 ∷ []
+
+-- of client x
+abbrev sets : ℕ → ℕ → Call
+sets k x = request 0 x k (0 ∷ x ∷ 0 ∷ 0 ∷ [])
+
+-- an urgent one, another, an urgent one and another arrive at desk 0, and then the token
+abbrev pub urgentCalls : List Call
+urgentCalls = sets 1 1 ∷ sets 0 2 ∷ sets 1 3 ∷ sets 0 4 ∷ visitWith 0 starting ∷ []
+
+-- the clients that wait after a request, and those of the first four replies of a visit
+abbrev clients : Outcome → List ℕ
+clients (requested r) = map (λ (t : Request). t .client) (waitingIn (r .state .waiting) (r .queue))
+clients (visited v) = getD (v .replies) 1 0 ∷ getD (v .replies) 8 0 ∷ getD (v .replies) 15 0 ∷ getD (v .replies) 22 0 ∷ []
+
+-- those that wait after each request and are answered by the visit, and the serial order, by clients
+abbrev pub urgentFound : List Outcome → List (List ℕ) × List ℕ
+urgentFound os = (
+  map clients os,
+  map (λ (e : Finished). e .request .client) (order (serial (planOf planU) (classOf (planOf planU)) urgentCalls (map isRefused os))),
+)
+
+abbrev pub urgentExpected : List (List ℕ) × List ℕ
+urgentExpected = (
+  (1 ∷ []) ∷ (1 ∷ 2 ∷ []) ∷ (1 ∷ 3 ∷ 2 ∷ []) ∷ (1 ∷ 3 ∷ 2 ∷ 4 ∷ []) ∷ (1 ∷ 3 ∷ 2 ∷ 4 ∷ []) ∷ [],
+  1 ∷ 3 ∷ 2 ∷ 4 ∷ [],
+)
+
+-- ---- the premise of the claim is met by both, and the calls give these answers
+
 pub record Course : Type 0 where
   pub proper : ProperFromStart planP zeros blank (λ p. zeros) calls
   pub gives : found (outcomes planP (start zeros blank (λ p. zeros)) calls) ≡ expected
+  pub urgent-proper : ProperFromStart planU zeros blank (λ p. zeros) urgentCalls
+  pub urgent-gives : urgentFound (outcomes planU (start zeros blank (λ p. zeros)) urgentCalls) ≡ urgentExpected

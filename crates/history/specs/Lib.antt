@@ -3,6 +3,7 @@ pub mod Order
 pub mod SerialRun
 pub mod Claim
 pub mod Answering
+pub mod WaitingOrder
 pub mod AcceptedVisit
 pub mod OrderRule
 pub mod VisitNumbers

@@ -16,7 +16,7 @@ use Rattle.operation.specs.Store.{Store, applyUpdate}
 use Rattle.execution.specs.Run.{run}
 use Rattle.conflict.specs.Class.{Class, free, local, global, Free, Local, Global, classOf}
 use Rattle.queue.specs.declared.record.Request.{Request}
-use Rattle.desk.specs.Queueing.{operationOf, joinQueue}
+use Rattle.desk.specs.Queueing.{operationOf, isUrgent, joinQueue}
 use Rattle.requests.specs.Request.{recordOf}
 use Rattle.visits.specs.Waiting.{Answered}
 use Rattle.visits.specs.Running.{replyTo}
@@ -78,11 +78,11 @@ noteRun s p r =
       calls = suc (s .calls);
     }
 
--- "joins that desk's line, in the order laid down for the row"
-abbrev pub noteJoin : Serial → ℕ → Request → Serial
-noteJoin s p r =
+-- "A global one at its own desk joins that desk's line, in the order laid down for the row."
+abbrev pub noteJoin : Plan → Serial → ℕ → Request → Serial
+noteJoin p s d r =
     record {
-      queues = assign p (joinQueue (s .queues p) r) (s .queues);
+      queues = assign d (joinQueue (isUrgent p) (s .queues d) r) (s .queues);
       heard = s .heard;
       globals = s .globals;
       latest = s .latest;
@@ -92,12 +92,12 @@ noteJoin s p r =
 
 -- "Accepted request: its operation .. is finished at once if it is free, or local and at its own desk ..  A global one at its own
 -- desk joins that desk's line .. Any other changes nothing."
-abbrev pub noteRequest : Class → Bool → Serial → ℕ → Request → Serial
-noteRequest free own s p r = noteRun s p r
-noteRequest local true s p r = noteRun s p r
-noteRequest local false s p r = noteNothing s
-noteRequest global true s p r = noteJoin s p r
-noteRequest global false s p r = noteNothing s
+abbrev pub noteRequest : Plan → Class → Bool → Serial → ℕ → Request → Serial
+noteRequest p free own s d r = noteRun s d r
+noteRequest p local true s d r = noteRun s d r
+noteRequest p local false s d r = noteNothing s
+noteRequest p global true s d r = noteJoin p s d r
+noteRequest p global false s d r = noteNothing s
 
 -- the requests of a line, finished by call i as the globals behind the k-th, first to last
 abbrev pub ranked : ℕ → ℕ → List Request → List Finished
@@ -122,7 +122,7 @@ module _ (p : Plan) (class : Operation → Class) where
   abbrev pub note : Bool → Serial → Call → Serial
   note true s c = noteNothing s
   note false s (request d client k ps) =
-      noteRequest (class (operationOf (recordOf client k ps))) (eqb (deskOf p (operationOf (recordOf client k ps))) d) s d
+      noteRequest p (class (operationOf (recordOf client k ps))) (eqb (deskOf p (operationOf (recordOf client k ps))) d) s d
       (recordOf client k ps)
   note false s (visit d frame out replies) = noteVisit s d
 

@@ -12,7 +12,9 @@ pub mod Ends
 pub mod Remainders
 pub mod Tabulate
 pub mod Overwritten
+pub mod Inserted
 pub mod Filled
+pub mod Select
 pub use Bool.{and-fst, and-snd, and-true, or-interchange, bool-ext, T-true, true-T}
 pub use Tests.{eq-or-ne, lt-or-ge, by-same, by-less, eqb-yes, eqb-self, eqb-no, ltb-yes, ltb-no, left-suc}
 pub use Below.{below, below-at}
@@ -26,4 +28,7 @@ pub use Ends.{none-left, none-right, one-more, snoc-own, snoc-other, snoc-nil, c
 pub use Remainders.{take-remainder, put-remainder}
 pub use Tabulate.{length-tabulate, getD-tabulate, whole-table, Tabling, tabling-none, tabling-more, tabling-done}
 pub use Overwritten.{stored-at, write-next, write-two, overwritten-length, overwritten-twice}
+pub use Inserted.{length-inserted, set-inserted, getD-inserted-before, inserted-again, inserted-own}
 pub use Filled.{Filling, fill-none, fill-size, fill-length, fill-same, fill-word, fill-part, fill-done}
+pub use Select.{select-append, select-yes, select-no, select-short, every-select, select-none, select-all}
+pub use Select.{select-member, select-map, some-fails, select-fails, fails-select, select-lengths, member-either}

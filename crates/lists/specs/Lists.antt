@@ -5,6 +5,8 @@ pub mod SomeBelow
 pub mod Properties
 pub mod Tabulate
 pub mod Overwritten
+pub mod Inserted
+pub mod Select
 pub mod Assign
 unfoldable pub use Every.{every}
 unfoldable pub use Some.{some}
@@ -12,4 +14,6 @@ unfoldable pub use SomeBelow.{someBelow}
 pub use Properties.{All, Pairs}
 unfoldable pub use Tabulate.{tabulate}
 pub use Overwritten.{overwritten}
+pub use Inserted.{inserted}
+pub use Select.{select}
 pub use Assign.{assign}

@@ -32,6 +32,10 @@ deskBy n undecided ps = 0
 abbrev pub deskOf : Plan → Operation → ℕ
 deskOf p o = deskBy (p .desks) (transactionOf p o .part) (o .params)
 
+-- "Bit 7 of a transaction word marks it urgent.": an operation is urgent if its transaction is
+abbrev pub urgentOf : Plan → Operation → Bool
+urgentOf p o = transactionOf p o .urgent
+
 -- "Cell number = table × 128 + row × 4 + column"
 abbrev pub cellNumber : ℕ → ℕ → ℕ → ℕ
 cellNumber table row column = table * 128 + row * 4 + column

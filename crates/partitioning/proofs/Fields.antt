@@ -7,7 +7,7 @@ use Prim.Native.Nat.{ℕ, _+_, _*_, _/_, _%_, _^_, _≤_, _<_}
 use native.Mathlib.Omega.{arith}
 use lib.Dec.{eqb}
 use borrow.Author.Tests.{ne-eqb, lt-ltb, ltb-true}
-use Rattle.word.specs.Field.{kindOf, parameterCount, stepCount, partitioningField, weightField}
+use Rattle.word.specs.Field.{kindOf, parameterCount, stepCount, partitioningField, weightField, urgentField}
 use Rattle.word.specs.Reserved.{reservedZero}
 use Rattle.plan.specs.Plan.{byParam, unpartitioned}
 use Rattle.plan.specs.Decode.{isOpen, partBy}
@@ -48,7 +48,10 @@ module _ (x w : ℕ) (e : x % 65536 ≡ w % 65536) where
   same-weight : x / 256 % 256 ≡ w / 256 % 256
   same-weight = omega arith
 
-  same-lowest : x / 1 % 256 ≡ w / 1 % 256
+  same-urgent : x / 128 % 2 ≡ w / 128 % 2
+  same-urgent = omega arith
+
+  same-lowest : x / 1 % 128 ≡ w / 1 % 128
   same-lowest = omega arith
 
 -- ---- the word with the field f
@@ -74,6 +77,9 @@ module _ (f w : ℕ) (h : f < 16) where
 
   pub weight-kept : weightField (withField f w) ≡ weightField w
   weight-kept = same-weight (withField f w) w low-kept
+
+  urgent-kept : urgentField (withField f w) ≡ urgentField w
+  urgent-kept = same-urgent (withField f w) w low-kept
 
   reserved-kept : kindOf w ≡ 2 → reservedZero (withField f w) ≡ reservedZero w
   unfolding reservedZero
@@ -154,6 +160,9 @@ module _ (f w : ℕ) (c : isOpen w ≡ true → Candidate (parameterCount w) f) 
 
   pub put-weight : weightField (putField f w) ≡ weightField w
   put-weight = by-open f w (λ x. weightField x ≡ weightField w) (λ e. weight-kept f w (small e)) (λ e. refl)
+
+  pub put-urgent : urgentField (putField f w) ≡ urgentField w
+  put-urgent = by-open f w (λ x. urgentField x ≡ urgentField w) (λ e. urgent-kept f w (small e)) (λ e. refl)
 
   -- question 3 says of it what it says of the word
   pub put-formed : transactionFormed w ≡ true → transactionFormed (putField f w) ≡ true

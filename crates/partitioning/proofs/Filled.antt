@@ -21,7 +21,7 @@ use Rattle.plan.proofs.Accepted.{open-accepted-gives, accepted-by, plan-accepte
 use Rattle.partitioning.specs.Filling.{Candidate, fill}
 use Rattle.partitioning.specs.Choosing.{FilledAccepted, OtherBitsKept, repartitioned}
 use Rattle.partitioning.proofs.Numbers.{CandidatesOf}
-use Rattle.partitioning.proofs.Fields.{putField, put-high, put-low, put-parameters, put-steps, put-weight}
+use Rattle.partitioning.proofs.Fields.{putField, put-high, put-low, put-parameters, put-steps, put-weight, put-urgent}
 use Rattle.partitioning.proofs.Fields.{put-formed, put-exists, put-decided}
 use Rattle.partitioning.proofs.FillWords.{fieldsBehind, fill-cons, filled-length, fill-steps, fill-behind-head}
 use Rattle.partitioning.proofs.FillWords.{Candidates, candidate-here, candidates-behind}
@@ -91,7 +91,7 @@ module _ (n w : ℕ) (ws fs : List ℕ) (e : wellFormed (suc n) (w ∷ ws) ≡ t
       ap (transactionsOf (suc n)) (fill-cons fs w ws)
       ∙ ap (λ (l : List ℕ). transactionOf (putField (getD fs 0 0) w) (fill (fieldsBehind fs w) ws) ∷ transactionsOf n l) dropped
       ∙ ap (λ (t : Transaction). t ∷ transactionsOf n (fill (fieldsBehind fs w) (drop (stepCount w) ws)))
-      (rw (put-parameters (getD fs 0 0) w here, put-weight (getD fs 0 0) w here, taken))
+      (rw (put-parameters (getD fs 0 0) w here, put-weight (getD fs 0 0) w here, put-urgent (getD fs 0 0) w here, taken))
 
   first-exists : parametersExist (transactionOf w ws) ≡ true → parametersExist (filledTransaction fs w ws) ≡ true
   unfolding parametersExist

@@ -39,7 +39,7 @@ FilledAccepted = (ws fs : List ℕ) → openPlanVerdict ws ≡ accepted → Fill
 
 -- the transaction with another partitioning
 abbrev pub repartitioned : Partitioning → Transaction → Transaction
-repartitioned q t = record { params = t .params; part = q; weight = t .weight; steps = t .steps }
+repartitioned q t = record { params = t .params; part = q; weight = t .weight; urgent = t .urgent; steps = t .steps }
 
 -- the fields in place of the open ones, in plan order
 unfoldable pub fillTransactions : List ℕ → List Transaction → List Transaction

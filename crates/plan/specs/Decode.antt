@@ -4,8 +4,8 @@ use mathlib.Core.Bool.{Bool, _&&_, _||_, cond}
 use mathlib.Core.List.{List, [], _∷_, map}
 use lib.ListN.{getD, take, drop}
 use lib.Dec.{leb, eqb}
-use Rattle.word.specs.Field.{kindOf, headDesks, headTransactions, parameterCount, stepCount, partitioningField, weightField}
-use Rattle.word.specs.Field.{tableField, columnField, rowSource, fixedRow, operandSource, fixedNumber}
+use Rattle.word.specs.Field.{kindOf, headDesks, headTransactions, parameterCount, stepCount, partitioningField}
+use Rattle.word.specs.Field.{weightField, urgentField, tableField, columnField, rowSource, fixedRow, operandSource, fixedNumber}
 use Rattle.plan.specs.Plan.{Source, param, fixed, Access, reads, writes, Action, sets, adds, needs, takes, Step, cell, operand, tells}
 use Rattle.plan.specs.Plan.{Partitioning, byParam, unpartitioned, undecided, Transaction, Plan}
 
@@ -64,6 +64,7 @@ transactionOf w ws =
       params = parameterCount w;
       part = partBy (partitioningField w);
       weight = weightField w;
+      urgent = eqb (urgentField w) 1;
       steps = map stepOf (take (stepCount w) ws);
     }
 

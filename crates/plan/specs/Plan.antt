@@ -1,5 +1,6 @@
 -- A decoded plan: the number of desks, and transactions made of steps. No word of it is left.
 use Prim.Native.Nat.{ℕ}
+use mathlib.Core.Bool.{Bool, false}
 use mathlib.Core.List.{List, []}
 use lib.ListN.{getD}
 
@@ -32,6 +33,7 @@ pub record Transaction : Type 0 where
   pub params : ℕ
   pub part : Partitioning
   pub weight : ℕ
+  pub urgent : Bool
   pub steps : List Step
 
 pub record Plan : Type 0 where
@@ -40,7 +42,7 @@ pub record Plan : Type 0 where
 
 -- stands for a transaction that does not exist
 abbrev pub noTransaction : Transaction
-noTransaction = record { params = 0; part = unpartitioned; weight = 0; steps = [] }
+noTransaction = record { params = 0; part = unpartitioned; weight = 0; urgent = false; steps = [] }
 
 -- transaction k of the plan
 abbrev pub transactionAt : Plan → ℕ → Transaction

@@ -2,6 +2,7 @@
 --     storedFirst-length       there are 192 words
 --     storedFirst-start, storedFirst-next      no record, and one record more
 --     storedFirst-bounded      no record past the 32nd is stored
+--     recordsIn-storedIn       a record that is stored among the words of a queue is stored among its records
 --     waiting-records          the records that wait in a queue of 32 are read from its words as from the queue
 -- Assumes nothing.
 use mathlib.Core.Path.{_≡_, refl, sym, _∙_, ap}
@@ -45,7 +46,7 @@ module _ (queue : List Request) where
       (λ l. ap (λ (m : ℕ). storedFirst m queue) (min-eq-right l) ∙ past (n - 32) ∙ ap (λ (m : ℕ). storedFirst m queue) (omega arith))
 
 -- a record that is stored among the words of a queue is stored among its records
-recordsIn-storedIn : (ws : List ℕ) (at : ℕ) (r : Request) → length ws ≡ 192 → recordsIn (storedIn ws at r) ≡ set (recordsIn ws) at r
+pub recordsIn-storedIn : (ws : List ℕ) (at : ℕ) (r : Request) → length ws ≡ 192 → recordsIn (storedIn ws at r) ≡ set (recordsIn ws) at r
 recordsIn-storedIn ws at r e =
     sym (queueIn-row (storedIn ws at r) (storedIn-length ws at r ∙ e)) ∙ queueIn-storedIn ws at r
     ∙ ap (λ (q : List Request). set q at r) (queueIn-row ws e)

@@ -6,6 +6,7 @@
 --     local-whole      and back, at some machine value w
 --     lends-local      the elements are lent as a `&mut [T]`; the new lifetime's token stands at the head
 --     ends-local       the lifetime is ended, and the elements are back, as the callee left them
+--     lends-local-shared, ends-local-shared    the same as a `&[T]`: the elements are back as they were
 -- T has one MIR type (`Single`; `tt` shows it of a struct or a number). Assumes `Given`.
 use mathlib.Core.Path.{refl}
 use Prim.Native.Nat.{ℕ, zero, suc}
@@ -20,10 +21,10 @@ use base.Fml.{GName, Fml, fsep, fat, flft, flent}
 use prog.Wp.{Heap}
 use ghost.Atoms.{Atoms, sem}
 use types.Kit.{Given, Goal, Soaks, Item, Seq, Step, step, ‵, _⊛_, some, later, _$_, _∵_, !, qed, move, drop, use1, use3, split, pick}
-use types.Kit.{rewrite, fsplit, fjoin, fpick, fpack, await, show, done}
+use types.Kit.{rewrite, fsplit, fjoin, feqI, fpick, fpack, await, show, done}
 use types.SemTy.{cells, Arr}
 use types.Share.{arr-parts}
-use types.Tokens.{lft-new, lft-end}
+use types.Tokens.{lent-back, lft-new, lft-end}
 use denote.RattleType.{RattleType}
 use denote.Shadow.{shadow}
 use denote.Laws.{Is, shows}
@@ -31,8 +32,8 @@ use denote.Memory.{cellAt, lone, partAt, shares, partOf, mem as memory}
 use denote.Array.{Array, arrayVal, each}
 use denote.ArrayMemory.{Single, array-apart, array-whole}
 use denote.Index.{row, whole-in, whole-out}
-use denote.Lend.{Held, lends-slice, slice-back}
-use denote.Slice.{Room, MutSlice, finally}
+use denote.Lend.{Held, lends-slice, lends-shr-slice, slice-back}
+use denote.Slice.{Room, MutSlice, ShrSlice, finally}
 use denote.Steps.{peeks}
 use Rattle.queue.proofs.SharedSlice.{lentAt, lentVal}
 
@@ -77,6 +78,10 @@ module _ (R : RattleType) (n : ℕ) {M : Type 1} (𝓤 : URA M) (H : Heap 𝓤) 
 abbrev pub LentOut : (R : RattleType) → List (R .Denot) → ℕ → ℕ → GName → Fml
 LentOut R xs l α δ = flent (α ∷ []) (Held R (length xs) l 0 δ)
 
+-- the same where they are lent as a `&[T]`
+abbrev pub SharedOut : (R : RattleType) → List (R .Denot) → ℕ → ℕ → Fml
+SharedOut R xs l α = flent (α ∷ []) (arr-parts (shares R) (length xs) .part fullShare xs l 0)
+
 module _ {M : Type 1} {𝓤 : URA M} {H : Heap 𝓤} {A : Atoms 𝓤} {K : Type 0} {W : Given 𝓤 H A} {Γ : List (Item 𝓤)} {G : Goal 𝓤 H}
     (R : RattleType) (xs : List (R .Denot)) (l : ℕ) where
   pub lends-local : K → Soaks G → Room R (length xs)
@@ -98,3 +103,19 @@ module _ {M : Type 1} {𝓤 : URA M} {H : Heap 𝓤} {A : Atoms 𝓤} {K : Type 
       lft-end t z $ use3 W (later (‵ (Arr (memory R) (length xs) .lies zs l 0)))
       (slice-back 𝓤 H A W R (α ∷ []) δ zs (length xs) l 0) $ await t z $ fsplit t $ drop t $
       use1 W (‵ (row R fullShare zs l 0)) (whole-out 𝓤 H A W R zs l 0) $ next)
+
+  pub lends-local-shared : K → Soaks G → Room R (length xs)
+      → ((α : ℕ) (δ : GName) → Seq K W (‵ (flft (α ∷ []) fullShare) ∷ ‵
+      (ShrSlice (named 0) (α ∷ []) R .own (lentAt R l 0 δ xs) (lentVal R l 0 xs)) ∷ ‵ (SharedOut R xs l α) ∷ Γ) G)
+      → Seq K W (‵ (row R fullShare xs l 0) ∷ Γ) G
+  lends-local-shared t z room next =
+      lft-new t z (λ α. move t (1 ∷ []) $ feqI t ℕ (length xs) (length xs) refl $ fjoin t $
+      use1 W (later (some (λ (δ : GName). ‵ (ShrSlice (named 0) (α ∷ []) R .own (lentAt R l 0 δ xs) (lentVal R l 0 xs)) ⊛ ‵
+      (SharedOut R xs l α))))
+      (lends-shr-slice 𝓤 H A W R (named 0) (α ∷ []) fullShare xs l 0 room) $ await t z $ pick t (λ δ. split t $
+      -- [the slice; the lender's part; the token]
+      move t (2 ∷ 0 ∷ 1 ∷ []) $ next α δ))
+
+  pub ends-local-shared : K → Soaks G → (α : ℕ)
+      → Step K W (‵ (row R fullShare xs l 0) ∷ Γ) G (‵ (flft (α ∷ []) fullShare) ∷ ‵ (SharedOut R xs l α) ∷ Γ) G
+  ends-local-shared t z α = step (λ next. lft-end t z $ lent-back t z $ fsplit t $ drop t $ next)

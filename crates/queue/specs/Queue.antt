@@ -1,4 +1,4 @@
--- The queue of waiting requests, as a list of records, the earliest first. 01 calls it the row of records; a record's place in the list
+-- The queue of waiting requests, as a list of records, those that wait first. 01 calls it the row of records; a record's place in the list
 -- is its place in the row.
 use Prim.Native.Nat.{ℕ}
 use mathlib.Core.List.{List, [], _∷_}

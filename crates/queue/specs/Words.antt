@@ -4,10 +4,12 @@
 --     queueOf      the queue of words that are handed over with its length.    wordsOf      how many of the words are its own
 --     storedIn     the words with a record stored at a place
 --     storedFirst  the words of a queue's first records, zeros behind them
-use Prim.Native.Nat.{ℕ, zero, suc, _+_, _*_}
+--     storedBack   a queue with records of the words stored at some of its places
+--     rowLeft      the words that a queue leaves.    rowLeftOf    the same of words that are handed over with its length
+use Prim.Native.Nat.{ℕ, zero, suc, _+_, _*_, min}
 use mathlib.Core.Bool.{cond, _&&_}
 use mathlib.Core.List.{List, []}
-use lib.Dec.{eqb, ltb}
+use lib.Dec.{eqb, leb, ltb}
 use lib.ListN.{length, getD, set, replicate}
 use Rattle.lists.specs.Lists.{tabulate}
 use Rattle.queue.specs.declared.record.Request.{Request}
@@ -62,3 +64,16 @@ storedIn ws at r = cond (eqb (length ws) queueWords && ltb at queueSize) (overRe
 unfoldable pub storedFirst : ℕ → List Request → List ℕ
 storedFirst zero queue = replicate queueWords 0
 storedFirst (suc n) queue = storedIn (storedFirst n queue) n (recordAt queue n)
+
+-- a queue with the records of the words at the places from `from` up to `end`: at no place past the 32nd
+unfoldable pub storedBack : List Request → List ℕ → ℕ → ℕ → List Request
+storedBack queue ws from end =
+    tabulate (length queue) (λ i. cond (leb from i && ltb i (min end queueSize)) (recordIn ws i) (recordAt queue i))
+
+-- the words of a row that is left as this queue: those of its 32 records; words that are no row stay as they are
+unfoldable pub rowLeft : List ℕ → List Request → List ℕ
+rowLeft ws queue = cond (eqb (length ws) queueWords) (storedFirst queueSize queue) ws
+
+-- the same of words that are handed over with the queue's length: of any other length than 32 they stay as they are
+unfoldable pub rowLeftOf : ℕ → List ℕ → List Request → List ℕ
+rowLeftOf size ws queue = cond (eqb size queueSize) (storedFirst queueSize queue) ws

@@ -1,14 +1,15 @@
-// The lent queue: one record read, one record stored, and the records that wait as plain words.
+// The lent queue: one record read, one record stored, the records that wait as plain words, and records of words stored back.
 ghost use mathlib.Core.Path.{_≡_};
 ghost use Prim.Native.Nat.{min};
 ghost use lib.ListN.{set};
 ghost use Rattle.queue.specs.Queue.{recordAt, queueSize};
-ghost use Rattle.queue.specs.Words.{storedFirst};
+ghost use Rattle.queue.specs.Words.{storedFirst, storedBack};
 use crate::record::MOST_WAITING;
 use crate::record::QUEUE_SIZE;
 use crate::record::Request;
 use crate::record::blank;
 use crate::words::QUEUE_WORDS;
+use crate::words::record_in;
 use crate::words::store_in;
 
 // The record at a place; past the end the blank one.
@@ -55,4 +56,17 @@ pub fn copied(queue: &[Request], waiting: u32) -> [u32; QUEUE_WORDS]
         at += 1;
     }
     row
+}
+
+// Stores the records of these words at the places from `from` up to `end` back into the queue; at no place past the 32nd.
+pub fn store_back(queue: &mut [Request], row: [u32; QUEUE_WORDS], from: usize, end: u32)
+    ensures { λ _. ⌜ now (queue .exit) ≡ storedBack (now (queue .entry)) row from end ⌝ }
+{
+    let count = bounded_waiting(end);
+    let mut at = from;
+    while at < count {
+        let request = record_in(&row, at);
+        store(queue, at, request);
+        at += 1;
+    }
 }

@@ -5,13 +5,12 @@ mod record;
 mod words;
 
 pub use lent::copied;
-pub use lent::load;
-pub use lent::store;
+pub use lent::store_back;
 pub use record::MOST_WAITING;
 pub use record::QUEUE_SIZE;
 pub use record::Request;
 pub use record::params;
 pub use words::QUEUE_WORDS;
+pub use words::insert_in;
 pub use words::record_in;
-pub use words::store_in;
 pub use words::words_of;

@@ -1,9 +1,11 @@
-// The queue as plain words, six a record: one record read, one stored, and how many words a queue of some length has.
+// The queue as plain words, six a record: one record read, one stored, one put in before others, and how many words a queue of some
+// length has.
 ghost use mathlib.Core.Path.{_≡_};
 ghost use Prim.Native.Nat.{_<_, _+_, _≤_};
-ghost use lib.ListN.{length, getD};
+ghost use lib.ListN.{length, getD, take};
+ghost use Rattle.lists.specs.Lists.{overwritten, inserted};
 ghost use Rattle.queue.specs.Queue.{queueSize};
-ghost use Rattle.queue.specs.Words.{recordIn, wordsOf, overRecord, storedIn, recordSize, queueWords};
+ghost use Rattle.queue.specs.Words.{recordIn, recordsIn, wordsOf, overRecord, storedIn, recordSize, queueWords};
 use crate::record::QUEUE_SIZE;
 use crate::record::Request;
 
@@ -64,4 +66,20 @@ pub fn store_in(row: &mut [u32], at: usize, request: Request)
             write_record(row, at * RECORD_SIZE, request);
         }
     }
+}
+
+// Puts a record in at a place of a row: those from there up to place `waiting` move up by one, and the record at place `waiting` is
+// overwritten.
+pub fn insert_in(row: &mut [u32], place: usize, waiting: usize, request: Request)
+    requires { ⌜ (place ≤ waiting) × (waiting < queueSize) × (length (now row) ≡ queueWords) ⌝ }
+    ensures { λ _. ⌜ recordsIn (now (row .exit)) ≡ overwritten (inserted place request (take waiting (recordsIn (now (row .entry)))))
+        (recordsIn (now (row .entry))) ⌝ }
+{
+    let mut at = waiting;
+    while place < at {
+        let before = record_in(row, at - 1);
+        store_in(row, at, before);
+        at -= 1;
+    }
+    store_in(row, place, request);
 }

@@ -39,7 +39,7 @@ left-by-verdict ws h r v e = ap (λ (w : Verdict). served h w (planOf ws) r) e
 module _ (h : Holding) (p : Plan) (r : Request) where
   abbrev pub leftBy : Way → Requested
   leftBy runs = ranNow h p (operationOf r)
-  leftBy joins = cond (ltb (h .state .waiting) 32) (enqueued h r) (unchanged h (requestRefused 9))
+  leftBy joins = cond (ltb (h .state .waiting) 32) (enqueued h p r) (unchanged h (requestRefused 9))
   leftBy leaves = unchanged h (redirected (deskOf p (operationOf r)))
 
   pub routed-by-way : (k : Class) (own : Bool) → routed h k own p r ≡ leftBy (wayBy k own)

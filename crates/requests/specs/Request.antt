@@ -17,7 +17,7 @@ use Rattle.conflict.specs.Class.{Class, free, local, global, classOf}
 use Rattle.queue.specs.declared.record.Request.{Request}
 use Rattle.desk.specs.declared.state.Desk.{Desk}
 use Rattle.desk.specs.Holding.{Holding, waitingAt}
-use Rattle.desk.specs.Queueing.{operationOf, joinQueue}
+use Rattle.desk.specs.Queueing.{operationOf, isUrgent, joinQueue}
 use Rattle.desk.specs.Admission.{deskBuffersFit, deskFits}
 use Rattle.queue.specs.Queue.{queueSize}
 
@@ -28,6 +28,13 @@ pub data Response : Type 0 where
   waits : Response
   redirected : ℕ → Response
   requestRefused : ℕ → Response
+
+-- the request was told to wait
+abbrev pub isWaits : Response → Bool
+isWaits (replied reply) = false
+isWaits waits = true
+isWaits (redirected desk) = false
+isWaits (requestRefused question) = false
 
 -- what a request leaves: the answer, the state, the store (01: book) and the queue (01: row)
 pub record Requested : Type 0 where
@@ -51,12 +58,12 @@ module _ (h : Holding) where
   }
 
   -- a global one waits: it joins those that wait "in the order laid down for the row", and they are written over the front of the queue
-  abbrev pub enqueued : Request → Requested
-  enqueued r = record {
+  abbrev pub enqueued : Plan → Request → Requested
+  enqueued p r = record {
     answer = waits;
     state = record { desk = h .state .desk; waiting = h .state .waiting + 1; awaited = h .state .awaited };
     cells = h .cells;
-    queue = overwritten (joinQueue (waitingAt h) r) (h .queue);
+    queue = overwritten (joinQueue (isUrgent p) (waitingAt h) r) (h .queue);
   }
 
   -- where the operation goes, by its class and by whether this desk is its own
@@ -65,7 +72,7 @@ module _ (h : Holding) where
   routed local true p r = ranNow p (operationOf r)
   routed local false p r = unchanged (redirected (deskOf p (operationOf r)))
   -- 9: "For a global request at its desk: do fewer than 32 wait?"
-  routed global true p r = cond (ltb (h .state .waiting) queueSize) (enqueued r) (unchanged (requestRefused 9))
+  routed global true p r = cond (ltb (h .state .waiting) queueSize) (enqueued p r) (unchanged (requestRefused 9))
   routed global false p r = unchanged (redirected (deskOf p (operationOf r)))
 
   abbrev pub served : Verdict → Plan → Request → Requested

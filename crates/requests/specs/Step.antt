@@ -1,37 +1,36 @@
--- The core of a request. It is handed the queue as words, and says which record is to be stored where.
---     steppedOf         what a step comes to, with the queue that its record is stored into
---     storePlace        where a request is stored, by its answer
---     stepOf            the step of a result
+-- The core of a request. It is lent the queue as words, and says from which place on the records have changed.
+--     placeIn           the place at which a request joins those that wait
+--     queueAfter        the queue behind a response: where it waits, the record is put in at its place
+--     storeFrom         the place from which on the records have changed, up to the last that waits then
 --     withoutQueue      what a request leaves beside the queue
 --     openingVerdict    questions 1 to 4, 17 and 5
 use Prim.Native.Nat.{ℕ}
+use mathlib.Core.Bool.{cond}
 use mathlib.Core.List.{List, []}
-use lib.ListN.{set}
 use Rattle.verdict.specs.Verdict.{Verdict, ask, _then_}
+use Rattle.lists.specs.Lists.{overwritten, inserted}
+use Rattle.plan.specs.Plan.{Plan}
 use Rattle.plan.specs.Admission.{planVerdict}
 use Rattle.queue.specs.declared.record.Request.{Request}
 use Rattle.queue.specs.Words.{queueIn}
+use Rattle.desk.specs.Queueing.{isUrgent, waitingIn}
+use Rattle.desk.specs.Priority.{joinPlace}
 use Rattle.desk.specs.Admission.{deskBuffersFit}
-use Rattle.requests.specs.declared.asking.RequestResult.{RequestResult}
-use Rattle.requests.specs.declared.asking.RequestStep.{RequestStep}
-use Rattle.requests.specs.Request.{Response, replied, waits, redirected, requestRefused, Requested}
-use Rattle.requests.specs.Answer.{responseOf, requestedOf}
+use Rattle.requests.specs.Request.{Response, isWaits, Requested}
 
--- what a step comes to, with the store that it left and the queue that its record is stored into
-abbrev pub steppedOf : RequestStep → List ℕ → List Request → Requested
-steppedOf s cells queue = requestedOf (s .result) cells (set queue (s .place) (s .request))
+-- the place at which a request joins the first `waiting` records of a queue
+abbrev pub placeIn : Plan → ℕ → List Request → Request → ℕ
+placeIn p waiting queue r = joinPlace (isUrgent p) (waitingIn waiting queue) r
 
--- a request that waits is stored behind those that wait already; any other at the queue's end, where nothing is stored
-abbrev pub storePlace : Response → ℕ → ℕ → ℕ
-storePlace (replied reply) waiting size = size
-storePlace waits waiting size = waiting
-storePlace (redirected desk) waiting size = size
-storePlace (requestRefused question) waiting size = size
+-- "An arriving urgent request moves the waiting others up by a place.": those from its place on stand one place behind, and the record at
+-- place `waiting` is overwritten
+abbrev pub queueAfter : Response → Plan → ℕ → List Request → Request → List Request
+queueAfter a p waiting queue r =
+    cond (isWaits a) (overwritten (inserted (placeIn p waiting queue r) r (waitingIn waiting queue)) queue) queue
 
--- the step of a result, with its record and the record's place in a queue of this length
-abbrev pub stepOf : RequestResult → ℕ → ℕ → Request → RequestStep
-stepOf result waiting size r =
-    record { result = result; place = storePlace (responseOf (result .answer)) waiting size; request = r }
+-- where none has changed it is the place behind those that wait
+abbrev pub storeFrom : Response → Plan → ℕ → List Request → Request → ℕ
+storeFrom a p waiting queue r = cond (isWaits a) (placeIn p waiting queue r) waiting
 
 -- what a request leaves beside the queue
 abbrev pub withoutQueue : Requested → Requested

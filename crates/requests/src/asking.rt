@@ -1,16 +1,19 @@
 // The core of a request at a desk, of a queue of words.
-//     RequestAnswer, RequestResult, RequestStep    the answer; with the state after the call; with the record to be stored and its place
+//     RequestAnswer, RequestResult, RequestStep    the answer; with the state after the call; with where the records have changed
 //     unchanged_result, run_result, wait_result    an answer that changes nothing; the operation runs; it waits
 //     routed_result, admitted_result               by class and desk; behind questions 7 and 8
-//     opening_verdict, request_result              questions 1 to 4, 17 and 5; all of the request but the queue
-//     record_of, store_place, step_of              the record of a request; where it is stored; the step
-//     request_step                                 the request, with the record that is to be stored
+//     opening_verdict                              questions 1 to 4, 17 and 5
+//     is_waits, join, enqueue                      whether an answer is to wait; the record put in at its place; if it is to wait
+//     record_of, request_step                      the record of a request; the request
 ghost use mathlib.Core.Path.{_≡_};
-ghost use mathlib.Core.Bool.{cond};
+ghost use mathlib.Core.Bool.{true, cond};
 ghost use mathlib.Core.List.{List, []};
-ghost use Prim.Native.Nat.{ℕ};
+ghost use Prim.Native.Nat.{ℕ, _<_};
 ghost use lib.Dec.{ltb, eqb};
+ghost use lib.ListN.{length};
 ghost use Rattle.verdict.specs.Verdict.{accepted, verdictOf};
+ghost use Rattle.lists.specs.Lists.{overwritten, inserted};
+ghost use Rattle.plan.specs.Plan.{Plan};
 ghost use Rattle.plan.specs.Decode.{planOf};
 ghost use Rattle.plan.specs.Admission.{planVerdict};
 ghost use Rattle.plan.specs.Place.{transactionPlaces};
@@ -18,14 +21,15 @@ ghost use Rattle.operation.specs.Operation.{deskOf};
 ghost use Rattle.operation.specs.Admission.{operationVerdict};
 ghost use Rattle.conflict.specs.Class.{classOf};
 ghost use Rattle.queue.specs.Queue.{queueSize};
-ghost use Rattle.queue.specs.Words.{queueIn};
+ghost use Rattle.queue.specs.Words.{recordsIn, queueIn, queueWords, rowLeft};
 ghost use Rattle.queue.specs.declared.record.Request.{Request as Queued};
 ghost use Rattle.desk.specs.Holding.{holding};
-ghost use Rattle.desk.specs.Queueing.{operationOf};
+ghost use Rattle.desk.specs.Queueing.{operationOf, waitingIn};
 ghost use Rattle.desk.specs.Place.{Placed, masksIf};
-ghost use Rattle.requests.specs.Request.{requestRefused, unchanged, ranNow, enqueued, routed, served, recordOf, requestResult};
+ghost use Rattle.requests.specs.Request.{requestRefused, isWaits, unchanged, ranNow, enqueued};
+ghost use Rattle.requests.specs.Request.{routed, served, recordOf, requestResult};
 ghost use Rattle.requests.specs.Answer.{responseOf, requestedOf};
-ghost use Rattle.requests.specs.Step.{steppedOf, storePlace, stepOf, withoutQueue, openingVerdict};
+ghost use Rattle.requests.specs.Step.{placeIn, queueAfter, storeFrom, withoutQueue, openingVerdict};
 use crate::route;
 use crate::route::Route;
 use desk::Desk;
@@ -33,7 +37,6 @@ use desk::Located;
 use execution::Reply;
 use operation::STORE_SIZE;
 use queue::MOST_WAITING;
-use queue::QUEUE_SIZE;
 use queue::QUEUE_WORDS;
 use queue::Request;
 use verdict::Verdict;
@@ -53,11 +56,11 @@ pub struct RequestResult {
     pub state: Desk,
 }
 
-// The result, and the record that is to be stored in the queue, with its place: at the queue's end it is not stored.
+// The result, and the place from which on the records have changed, up to the last that waits then: where none has, the place behind those
+// that wait.
 pub struct RequestStep {
     pub result: RequestResult,
-    pub place: usize,
-    pub request: Request,
+    pub from: usize,
 }
 
 // An answer with which the state stays.
@@ -88,8 +91,8 @@ fn run_result(
 
 // Question 9; then the request joins those that wait.
 fn wait_result(state: Desk) -> RequestResult
-    ensures { λ r. ⌜ ((cells : List ℕ) (request : Queued) → requestedOf r cells []
-        ≡ withoutQueue (cond (ltb (state .waiting) queueSize) (enqueued (holding state cells []) request)
+    ensures { λ r. ⌜ ((cells : List ℕ) (p : Plan) (request : Queued) → requestedOf r cells []
+        ≡ withoutQueue (cond (ltb (state .waiting) queueSize) (enqueued (holding state cells []) p request)
         (unchanged (holding state cells []) (requestRefused 9)))) ⌝ }
 {
     let waiting = state.waiting;
@@ -167,27 +170,50 @@ fn opening_verdict(plan: &[u32], cells: &[u32], row: &[u32]) -> Verdict
     Verdict::Accepted
 }
 
-// All that the request leaves but the queue. Nothing is written before the last question.
-pub(crate) fn request_result(
-    plan: &[u32],
-    state: Desk,
-    cells: &mut [u32],
-    row: &[u32],
-    request: Request,
-) -> RequestResult
-    ensures { λ r. ⌜ requestedOf r (now (cells .exit)) [] ≡ withoutQueue (requestResult (now (plan .entry))
-        (holding state (now (cells .entry)) (queueIn (now (row .entry)))) request) ⌝ }
+// Whether the answer is that the request waits.
+fn is_waits(answer: RequestAnswer) -> bool
+    ensures { λ r. ⌜ r ≡ isWaits (responseOf answer) ⌝ }
 {
-    if let Verdict::Refused(question) = opening_verdict(plan, cells, row) {
-        return unchanged_result(RequestAnswer::Refused(question), state);
+    match answer {
+        RequestAnswer::Waits => true,
+        RequestAnswer::Replied(_) => false,
+        RequestAnswer::Elsewhere(_) => false,
+        RequestAnswer::Refused(_) => false,
     }
-    let places = plan::transaction_places(plan);
-    let mut masks = [0u8; STORE_SIZE];
-    desk::fill_if_waiting(plan, state.waiting, &mut masks);
-    if !desk::desk_fits(plan, &places, state, row, &masks) {
-        return unchanged_result(RequestAnswer::Refused(6), state);
+}
+
+// Puts the record of a request in at its place among those that wait, and gives the place.
+fn join(plan: &[u32], places: &[usize], waiting: usize, row: &mut [u32], request: Request) -> usize
+    requires { ⌜ (planVerdict (now plan) ≡ accepted) × (now places ≡ transactionPlaces (now plan)) × (waiting < queueSize)
+        × (length (now row) ≡ queueWords) ⌝ }
+    ensures { λ r. ⌜ (r ≡ placeIn (planOf (now (plan .entry))) waiting (recordsIn (now (row .entry))) request)
+        × (recordsIn (now (row .exit)) ≡ overwritten (inserted r request (waitingIn waiting (recordsIn (now (row .entry)))))
+        (recordsIn (now (row .entry)))) ⌝ }
+{
+    let place = desk::join_place(plan, places, waiting, row, request);
+    queue::insert_in(row, place, waiting, request);
+    place
+}
+
+// Puts the record in if the request waits, and gives the place from which on the records have changed.
+fn enqueue(
+    plan: &[u32],
+    places: &[usize],
+    answer: RequestAnswer,
+    waiting: usize,
+    row: &mut [u32],
+    request: Request,
+) -> usize
+    requires { ⌜ (planVerdict (now plan) ≡ accepted) × (now places ≡ transactionPlaces (now plan))
+        × (isWaits (responseOf answer) ≡ true → waiting < queueSize) × (length (now row) ≡ queueWords) ⌝ }
+    ensures { λ r. ⌜ (r ≡ storeFrom (responseOf answer) (planOf (now (plan .entry))) waiting (recordsIn (now (row .entry))) request)
+        × (recordsIn (now (row .exit))
+        ≡ queueAfter (responseOf answer) (planOf (now (plan .entry))) waiting (recordsIn (now (row .entry))) request) ⌝ }
+{
+    if is_waits(answer) {
+        return join(plan, places, waiting, row, request);
     }
-    admitted_result(plan, &places, state, cells, request, &mut masks)
+    waiting
 }
 
 // The record of a request.
@@ -204,53 +230,43 @@ pub(crate) fn record_of(client: u32, transaction: u32, params: [u32; 4]) -> Requ
     }
 }
 
-// Where the record is stored in a queue of this length: behind those that wait if it waits, else at the queue's end.
-fn store_place(answer: RequestAnswer, waiting: u32, size: usize) -> usize
-    ensures { λ r. ⌜ r ≡ storePlace (responseOf answer) waiting size ⌝ }
-{
-    match answer {
-        RequestAnswer::Waits => waiting as usize,
-        RequestAnswer::Replied(_) => size,
-        RequestAnswer::Elsewhere(_) => size,
-        RequestAnswer::Refused(_) => size,
-    }
-}
-
-// The step of a result: with its record, and the record's place in a queue of this length.
-pub(crate) fn step_of(
-    result: RequestResult,
-    waiting: u32,
-    size: usize,
-    request: Request,
-) -> RequestStep
-    ensures { λ r. ⌜ r ≡ stepOf result waiting size request ⌝ }
-{
-    let answer = result.answer;
-    let place = store_place(answer, waiting, size);
-    RequestStep {
-        result: result,
-        place: place,
-        request: request,
-    }
-}
-
-// The request. Its record is not stored yet.
+// The request. Nothing is written before the last question.
 pub(crate) fn request_step(
     plan: &[u32],
     state: Desk,
     cells: &mut [u32],
-    row: &[u32],
-    client: u32,
-    transaction: u32,
-    params: [u32; 4],
+    row: &mut [u32],
+    request: Request,
 ) -> RequestStep
-    ensures stepped { λ r. ⌜ steppedOf r (now (cells .exit)) (queueIn (now (row .entry)))
-        ≡ requestResult (now (plan .entry)) (holding state (now (cells .entry)) (queueIn (now (row .entry))))
-        (recordOf client transaction params) ⌝ }
-    ensures placed { λ r. ⌜ (r .request ≡ recordOf client transaction params)
-        × (r .place ≡ storePlace (responseOf (r .result .answer)) (state .waiting) queueSize) ⌝ }
+    ensures left { λ r. ⌜ requestedOf (r .result) (now (cells .exit)) (queueIn (now (row .exit)))
+        ≡ requestResult (now (plan .entry)) (holding state (now (cells .entry)) (queueIn (now (row .entry)))) request ⌝ }
+    ensures row_left { λ r. ⌜ now (row .exit) ≡ rowLeft (now (row .entry)) (queueIn (now (row .exit))) ⌝ }
+    ensures changed { λ r. ⌜ r .from ≡ storeFrom (responseOf (r .result .answer)) (planOf (now (plan .entry))) (state .waiting)
+        (queueIn (now (row .entry))) request ⌝ }
 {
-    let request = record_of(client, transaction, params);
-    let result = request_result(plan, state, cells, row, request);
-    step_of(result, state.waiting, QUEUE_SIZE, request)
+    let waiting = state.waiting as usize;
+    if let Verdict::Refused(question) = opening_verdict(plan, cells, row) {
+        let refused = unchanged_result(RequestAnswer::Refused(question), state);
+        return RequestStep {
+            result: refused,
+            from: waiting,
+        };
+    }
+    let places = plan::transaction_places(plan);
+    let mut masks = [0u8; STORE_SIZE];
+    desk::fill_if_waiting(plan, state.waiting, &mut masks);
+    if !desk::desk_fits(plan, &places, state, row, &masks) {
+        let unfit = unchanged_result(RequestAnswer::Refused(6), state);
+        return RequestStep {
+            result: unfit,
+            from: waiting,
+        };
+    }
+    let result = admitted_result(plan, &places, state, cells, request, &mut masks);
+    let answer = result.answer;
+    let from = enqueue(plan, &places, answer, waiting, row, request);
+    RequestStep {
+        result: result,
+        from: from,
+    }
 }

@@ -6,6 +6,6 @@ mod words;
 
 pub use asking::RequestAnswer;
 pub use asking::RequestResult;
-pub use asking::RequestStep;
+pub use by_value::RequestedRow;
 pub use by_value::request_by_value;
 pub use words::request_on_words;

@@ -1,17 +1,15 @@
 // A request at a desk, of a queue of lent words: 192, six a record. Words of any other number are no queue of 32 records, and are refused
 // with 5 in its turn.
 ghost use mathlib.Core.Path.{_≡_};
-ghost use Rattle.queue.specs.Words.{queueIn, storedIn};
-ghost use Rattle.queue.specs.Queue.{queueSize};
+ghost use Rattle.queue.specs.Words.{queueIn, rowLeft};
 ghost use Rattle.desk.specs.Holding.{holding};
 ghost use Rattle.requests.specs.Request.{recordOf, requestResult};
-ghost use Rattle.requests.specs.Answer.{responseOf, requestedOf};
-ghost use Rattle.requests.specs.Step.{storePlace};
+ghost use Rattle.requests.specs.Answer.{requestedOf};
 use crate::asking;
 use crate::asking::RequestResult;
 use desk::Desk;
 
-// The request, whose record is stored if it waits.
+// The request. If it waits its record is put in at its place, and those behind it move up.
 pub fn request_on_words(
     plan: &[u32],
     state: Desk,
@@ -24,11 +22,10 @@ pub fn request_on_words(
     ensures { λ r. ⌜ (requestedOf r (now (cells .exit)) (queueIn (now (row .exit)))
         ≡ requestResult (now (plan .entry)) (holding state (now (cells .entry)) (queueIn (now (row .entry))))
         (recordOf client transaction params))
-        × (now (row .exit) ≡ storedIn (now (row .entry)) (storePlace (responseOf (r .answer)) (state .waiting) queueSize)
-        (recordOf client transaction params)) ⌝ }
+        × (now (row .exit) ≡ rowLeft (now (row .entry)) (requestResult (now (plan .entry))
+        (holding state (now (cells .entry)) (queueIn (now (row .entry)))) (recordOf client transaction params) .queue)) ⌝ }
 {
-    let step = asking::request_step(plan, state, cells, row, client, transaction, params);
-    let request = step.request;
-    queue::store_in(row, step.place, request);
+    let request = asking::record_of(client, transaction, params);
+    let step = asking::request_step(plan, state, cells, row, request);
     step.result
 }

@@ -132,7 +132,7 @@ pub const CHANGED_BULLETINS: u32 = 98;
 
 pub const SHOWN_BULLETIN: u32 = 99;
 
-const TEXTS: [u8; 3124] = *b"\
+const TEXTS: [u8; 3135] = *b"\
 @\
 no such command\n@\
 a number from 0 to &S is expected\n@\
@@ -155,7 +155,7 @@ desks or transactions out of range\n@\
 a word out of place or range, a bit that must be zero, or a fifth tell\n@\
 a parameter that the transaction does not have\n@\
 a buffer of the wrong size\n@\
-a state or a waiting record that does not fit this desk\n@\
+a state or waiting records that do not fit this desk\n@\
 no such transaction\n@\
 a row above 31 or an unused parameter that is not zero\n@\
 32 wait already\n@\
@@ -180,7 +180,7 @@ T%b(?1%c}?2, %d}?3, %e}?4, %f})@\
 : free\n@\
 : local at desk %r\n@\
 : global at desk %r\n@\
-\x20\x20T%p(>hYEBp0}>hYEC, p1}>hYED, p2}>hYEE, p3})<hQEO by p$hQE}>hQEO<hQEP open}>hIIB, weight $hII}@\
+\x20\x20T%p(>hYEBp0}>hYEC, p1}>hYED, p2}>hYEE, p3})<hQEO by p$hQE}>hQEO<hQEP open}>hIIB, weight $hII}>hHBB, urgent}@\
 {p: }?p; }<h]EEread}>h]EE<h]EFwrite}>h]EF<h]EGset}>h]EG<h]EHadd}>h]EH<h]EIneed}>h]EI<h]EJtake}>h]EJtell}\
 <h]EF table $hZD column $hXC row }>h]EF<h]EJ }<h]EF>hUDE$hAF}<h]EF<hUDEp$hUD}>h]EF<h]EJ>hZDE$hAZ}>h]EF<h]EJ<hZDEp$hZD}@\
 desk %s@\

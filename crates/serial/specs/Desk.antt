@@ -10,7 +10,7 @@ pub record Request (Op : Type 0) : Type 0 where
   pub client : ℕ
   pub op : Op
 
--- "State, book and row": the store, the queue of waiting requests (01: row, line; "the earliest first"), and the awaited number
+-- "State, book and row": the store, the queue of waiting requests (01: row, line), and the awaited number
 pub record Desk (Op : Type 0) : Type 0 where
   pub store : Store
   pub queue : List (Request Op)

@@ -32,8 +32,8 @@ pub record System : Type 1 where
   -- "Running a transaction": A.1 and A.3 change the reply, A.3 also the update, which is empty where a sum would go round
   pub reply : Op → Store → Reply
   pub update : Op → Store → Update
-  -- how "a global one at its own desk joins that desk's line, in the order laid down for the row": at the end ("the earliest first")
-  -- until A.6 holds urgent requests before the others
+  -- how "a global one at its own desk joins that desk's line, in the order laid down for the row": A.6 lays down "urgent requests before
+  -- the others, each sort by arrival"
   pub join : List (Request Op) → Request Op → List (Request Op)
   -- admission ("Questions at the door") of a call at a desk, true where none is answered by no: A.4, A.6 and A.11 change questions
   pub admits : Desk Op → Call Op Extra → Bool

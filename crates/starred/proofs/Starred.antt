@@ -20,7 +20,8 @@ use Rattle.frame.specs.Frame.{sumsFrom, frameAround, writeWords, updateWords, u
 use Rattle.frame.specs.Admission as frames
 use Rattle.frame.specs.Admission.{writesFrom, updatesFrom, deskCount, frameHeaded, sumsRight, updateFormed, cellFormed, fewPerDesk}
 use Rattle.frame.specs.Admission.{updatesRight, frameVerdict, readVerdict}
-use Rattle.desk.specs.Admission.{deskBuffersFit, waitsHere, deskFits}
+use Rattle.desk.specs.Priority.{urgentLead}
+use Rattle.desk.specs.Admission.{deskBuffersFit, waitsHere, queueFits, deskFits}
 use Rattle.visits.specs.Admission.{visitBuffersFit, turnVerdict}
 use Rattle.visits.specs.Waiting.{runAll, updatesOf, repliesOf, repliesWords}
 use Rattle.token.specs.Forward.{foreign, applyAll}
@@ -35,5 +36,6 @@ unfolding ones sourceField reservedZero accessBy actionBy stepOf partBy transact
     rowTouched cellTouched stepTouches deskMask cellGiven stepWrites written classBy classifyResult
     readVerdict frameVerdict frameHeaded sumsRight updatesRight frames.wellFormed updateFormed cellFormed fewPerDesk deskCount writesFrom
     updatesFrom sumsFrom frameAround writeWords updateWords updatesWords act runFrom applyUpdate deskBuffersFit visitBuffersFit waitsHere
-    deskFits turnVerdict runAll updatesOf repliesOf repliesWords foreign applyAll visitVerdict visitResult copiedBy tabulate
+    urgentLead queueFits deskFits turnVerdict runAll updatesOf repliesOf repliesWords foreign applyAll visitVerdict visitResult copiedBy
+    tabulate
 starred = refl

@@ -3,7 +3,7 @@
 use mathlib.Core.Path.{_≡_, sym, _∙_}
 use mathlib.Core.Bool.{Bool, true, _&&_}
 use mathlib.Core.List.{List}
-use Prim.Native.Nat.{ℕ, _%_}
+use Prim.Native.Nat.{ℕ}
 use lib.Dec.{ltb, leb, eqb}
 use lib.ListN.{length}
 use borrow.Author.Tests.{leb-true, ltb-true, eqb-true}
@@ -19,6 +19,7 @@ use Rattle.frame.specs.Admission.{frameVerdict, frameVisit}
 use Rattle.queue.specs.declared.record.Request.{Request}
 use Rattle.desk.specs.Holding.{Holding, waitingAt}
 use Rattle.desk.specs.Admission.{deskBuffersFit, waitsHere, deskFits}
+use Rattle.desk.proofs.QuestionSix.{fits-each}
 use Rattle.visits.specs.Admission.{visitBuffersFit, turnVerdict}
 use Rattle.visits.specs.Visit.{visitVerdict}
 use Rattle.visits.specs.Core.{tokenVerdict, Passable}
@@ -64,7 +65,6 @@ module _ (ws : List ℕ) (h : Holding) (snapshot frame out replies : List ℕ) w
         let visit5 = and-snd (eqb (length snapshot) storeSize) _ visit-fit in
         let q6 = ask-then-accepted 6 (deskFits (planOf ws) (h .state) (h .queue)) _ asked in
         let w6 = and-snd (ltb (h .state .desk) (planOf ws .desks)) _ (q6 .0) in
-        let a6 = and-snd (leb (h .state .waiting) queueSize) _ w6 in
         let q12 = then-accepted (frameVerdict (planOf ws .desks) frame) _ (q6 .1) in
         let q13 = ask-then-accepted 13 (eqb (addressedDesk (headOf frame)) (h .state .desk)) _ (q12 .1) in
         let q14 = ask-then-accepted 14 (eqb (frameVisit frame) (h .state .awaited)) _ (q13 .1) in
@@ -76,8 +76,7 @@ module _ (ws : List ℕ) (h : Holding) (snapshot frame out replies : List ℕ) w
           replyRoom = leb-true repliesSize (length replies) (and-snd (leb longestFrame (length out)) _ visit5);
           desk = ltb-true (h .state .desk) (planOf ws .desks) (and-fst _ _ (q6 .0));
           waiting = leb-true (h .state .waiting) queueSize (and-fst _ _ w6);
-          operations = operations-here (planOf ws) (h .state .desk) (waitingAt h)
-              (and-snd (eqb (h .state .awaited % planOf ws .desks) (h .state .desk)) _ a6);
+          operations = operations-here (planOf ws) (h .state .desk) (waitingAt h) (fits-each (planOf ws) (h .state) (h .queue) (q6 .0));
           frame = q12 .0;
           visit = ltb-true (frameVisit frame) 4294967295 (ask-accepted 15 (ltb (frameVisit frame) 4294967295) (q14 .1));
         }

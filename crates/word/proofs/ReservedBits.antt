@@ -38,9 +38,9 @@ pub none-below-2 : (w : ℕ) → kindOf w < 2 → true ≡ reservedZero w
 unfolding reservedZero
 none-below-2 w h = empty-field-zero w ∙ neighbour-kinds 0 (kindOf w) (sourceField w) w (omega arith) (omega arith) refl
 
-pub transaction-zero : (w : ℕ) → 2 ≤ kindOf w → kindOf w ≤ 2 → eqb (w % 2 ^ 8) 0 ≡ reservedZero w
+pub transaction-zero : (w : ℕ) → 2 ≤ kindOf w → kindOf w ≤ 2 → eqb (w % 2 ^ 7) 0 ≡ reservedZero w
 unfolding reservedZero
-transaction-zero w l h = lowest-field-zero 8 w ∙ same-kind 2 (kindOf w) (sourceField w) w l h
+transaction-zero w l h = lowest-field-zero 7 w ∙ same-kind 2 (kindOf w) (sourceField w) w l h
 
 pub access-zero : (s w : ℕ) → s ≡ sourceField w → 3 ≤ kindOf w → kindOf w ≤ 4 → zeroBits 3 s w ≡ reservedZero w
 unfolding reservedZero

@@ -20,7 +20,7 @@ abbrev pub headWords : ℕ → ℕ
 headWords w = w % 2 ^ 16
 
 -- ---- "2, transaction: 27–24 parameters (0–4), 23–20 steps (1–12), 19–16 partitioning parameter (0–3, or 15 for none)"; "Let partitioning
--- field 14 mean open, and bits 15–8 of a transaction word be its weight"
+-- field 14 mean open, and bits 15–8 of a transaction word be its weight"; "Bit 7 of a transaction word marks it urgent."
 
 abbrev pub parameterCount : ℕ → ℕ
 parameterCount = field 24 4
@@ -33,6 +33,9 @@ partitioningField = field 16 4
 
 abbrev pub weightField : ℕ → ℕ
 weightField = field 8 8
+
+abbrev pub urgentField : ℕ → ℕ
+urgentField = field 7 1
 
 -- ---- "3 read, 4 write: 27–25 table, 24–23 column, 22–20 row source (0–3 that parameter, 7 the fixed row in bits 4–0)"
 

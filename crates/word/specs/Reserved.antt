@@ -23,7 +23,7 @@ bits l c = record { low = l; count = c }
 -- the reserved bits by kind and source; source 7 is the fixed one
 abbrev pub reservedBits : ℕ → ℕ → Bits
 reservedBits k s =
-    cond (eqb k 2) (bits 0 8)
+    cond (eqb k 2) (bits 0 7)
     (cond (eqb k 3 || eqb k 4) (cond (eqb s 7) (bits 5 15) (bits 0 20))
     (cond (leb 5 k && leb k 8) (cond (eqb s 7) (bits 0 0) (bits 0 25))
     (cond (eqb k 9) (bits 16 8)

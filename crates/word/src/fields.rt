@@ -8,7 +8,7 @@ pub const DESKS: u32 = 0x100_0000;
 
 pub const TRANSACTIONS: u32 = 0x1_0000;
 
-// Transaction, kind 2: parameters in bits 27-24, steps in 23-20, partitioning in 19-16, weight in 15-8.
+// Transaction, kind 2: parameters in bits 27-24, steps in 23-20, partitioning in 19-16, weight in 15-8, urgent in 7.
 pub const PARAMETERS: u32 = 0x100_0000;
 
 pub const STEPS: u32 = 0x10_0000;
@@ -16,6 +16,8 @@ pub const STEPS: u32 = 0x10_0000;
 pub const PARTITIONING: u32 = 0x1_0000;
 
 pub const WEIGHT: u32 = 0x100;
+
+pub const URGENT: u32 = 0x80;
 
 // Read and write, kinds 3 and 4: table in bits 27-25, column in 24-23, row source in 22-20, fixed row in 4-0.
 pub const TABLE: u32 = 0x200_0000;

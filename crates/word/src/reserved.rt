@@ -65,7 +65,7 @@ fn sourceless_bits_zero(kind: u32, word: u32) -> bool
     true
 }
 
-// Whether the reserved bits of a word are zero. Kinds 0 and 1 have none, kind 2 has bits 7-0.
+// Whether the reserved bits of a word are zero. Kinds 0 and 1 have none, kind 2 has bits 6-0.
 pub fn reserved_zero(word: u32) -> bool
     ensures { λ r. ⌜ r ≡ reservedZero word ⌝ }
 {
@@ -75,7 +75,7 @@ pub fn reserved_zero(word: u32) -> bool
         return true;
     }
     if kind <= 2 {
-        return word % 0x100 == 0;
+        return word % 0x80 == 0;
     }
     if kind <= 4 {
         return access_bits_zero(source, word);

@@ -1,8 +1,8 @@
 -- `conveyor::request` meets its contract: a walk of its MIR, by hand, with no branch. All that it knows of `copied`, of the core
--- (`request_by_value`) and of `store` is that each meets its contract.
+-- (`request_by_value`) and of `store_back` is that each meets its contract.
 -- queue is lent to `copied` as a `&`, for a lifetime that is made for the call, and comes back as it was. plan is a `&`, which is Copy:
 -- one copy goes to the core, and the other is kept for the exit.
--- cells goes to the core, and queue to `store`, each at its own lifetime, share and ghost name: they are given up for good.
+-- cells goes to the core, and queue to `store_back`, each at its own lifetime, share and ghost name: they are given up for good.
 -- In the comments below L stands for the eighteen locals, `_17` first, each with the fact that it dies: `_i` stands 2 · (17 - i) after
 -- L's first place.
 -- Assumes nothing.
@@ -46,21 +46,21 @@ use denote.Exit.{yes}
 use denote.Signature.{plain}
 use Rattle.queue.proofs.record.Request as T
 use Rattle.queue.proofs.Answers.{answered}
-use Rattle.queue.proofs.Calls.{Copied, Store, calls-copied, calls-store}
+use Rattle.queue.proofs.Calls.{Copied, StoreBack, calls-copied, calls-store-back}
 use Rattle.queue.proofs.Records.{row-typed}
 use Rattle.queue.proofs.SharedSlice.{twice, lends-shared, ends-shared}
 use Rattle.queue.proofs.copied.Symbol as copied-def
 use Rattle.queue.proofs.copied.Symbol.{name as #queue·copied}
 use Rattle.queue.proofs.copied.Met as copied-thm
-use Rattle.queue.proofs.store.Symbol as store-def
-use Rattle.queue.proofs.store.Symbol.{name as #queue·store}
-use Rattle.queue.proofs.store.Met as store-thm
+use Rattle.queue.proofs.store_back.Symbol as store-back-def
+use Rattle.queue.proofs.store_back.Symbol.{name as #queue·store-back}
+use Rattle.queue.proofs.store_back.Met as store-back-thm
 use Rattle.desk.proofs.state.Desk as D
 use Rattle.desk.proofs.state.Desk.Laws as D′
 use Rattle.requests.proofs.asking.RequestResult as R
 use Rattle.requests.proofs.asking.RequestResult.Laws as R′
-use Rattle.requests.proofs.asking.RequestStep as S
-use Rattle.requests.proofs.asking.RequestStep.Laws as S′
+use Rattle.requests.proofs.by_value.RequestedRow as S
+use Rattle.requests.proofs.by_value.RequestedRow.Laws as S′
 use Rattle.requests.proofs.request_by_value as core
 use Rattle.requests.proofs.request_by_value.Symbol as core-def
 use Rattle.requests.proofs.request_by_value.Symbol.{name as #requests·request-by-value}
@@ -70,14 +70,14 @@ use Rattle.conveyor.proofs.engine.request.Key.{name as #conveyor·engin
 use Rattle.conveyor.proofs.engine.request as request
 use Rattle.conveyor.proofs.engine.request.Statement as stated
 use Rattle.conveyor.proofs.engine.request.Code as code
-use Rattle.conveyor.proofs.engine.request.Proof.Ends.{Entry, Fits, copy, stayed, lfts, shares, args, vals, flat, Steps, Places}
-use Rattle.conveyor.proofs.engine.request.Proof.Ends.{Post, exits}
-use Rattle.conveyor.proofs.engine.request.Proof.Core.{CoreTriple, fields, coreLfts, core-args, to-core, goes-core}
+use Rattle.conveyor.proofs.engine.request.Proof.Ends.{Entry, Fits, copy, stayed, lfts, shares, args, vals, flat, Left, RowLeft}
+use Rattle.conveyor.proofs.engine.request.Proof.Ends.{Changed, Post, exits}
+use Rattle.conveyor.proofs.engine.request.Proof.Core.{CoreTriple, rowVal, fields, coreLfts, core-args, to-core, goes-core}
 
 module _ {M : Type 1} (𝓤 : URA M) (H : Heap 𝓤) (A : Atoms 𝓤) (W : Given 𝓤 H A) (mem : Memory → SProp 𝓤) (run : Routine → Fun 𝓤)
     (𝓣 : Tables 𝓤 H) (known-copied : Triple 𝓤 (𝓣 .C #queue·copied) (Copied 𝓤 H A mem run))
     (known-core : Triple 𝓤 (𝓣 .C #requests·request-by-value) (CoreTriple 𝓤 H A mem run))
-    (known-store : Triple 𝓤 (𝓣 .C #queue·store) (Store 𝓤 H A mem run)) where
+    (known-store-back : Triple 𝓤 (𝓣 .C #queue·store-back) (StoreBack 𝓤 H A mem run)) where
   module _ (x : Entry) (f : Fits x) where
     walk : Room u32 (length (x .plan .now)) → Room u32 (length (x .cells .now)) → Room T.the-row (length (x .queue .now))
         → ent 𝓤 (onEntry 𝓤 H A request.signature (lfts x) (shares x) (args x) (vals x))
@@ -140,9 +140,9 @@ module _ {M : Type 1} (𝓤 : URA M) (H : Heap 𝓤) (A : Atoms 𝓤) (W : Given
         answered ! tt (‵ (token (x .plan)) ⊛ ‵ (token (x .cells)) ⊛ ‵ ftrue) S.the-row
         (λ r. ensured 𝓤 H A core.ended (core.clauses 𝓤 H A mem run) (coreLfts x) (core-args x) tt r) u (λ c isc.
         use1 W (some (λ (zs : Lasts core.ended (coreLfts x) (core-args x)). ‵ (lasts core.ended (coreLfts x) (core-args x) zs) ⊛ raw
-        (fact 𝓤 (Steps x c (zs .1 .1 .0))) ⊛ raw (fact 𝓤 (Places x c)))) (id⊢ 𝓤 _) $ pick ! (λ zb.
-        split ! $ move ! (1 ∷ []) $ split ! $ heard ! (Steps x c (zb .1 .1 .0)) (λ said. heard ! (Places x c) (λ placed.
-        fsplit ! $ drop ! $ fsplit ! $ drop ! $
+        (fact 𝓤 (Left x c (zs .1 .1 .0))) ⊛ raw (fact 𝓤 (RowLeft x c)) ⊛ raw (fact 𝓤 (Changed x c)))) (id⊢ 𝓤 _) $ pick ! (λ zb.
+        split ! $ move ! (1 ∷ []) $ split ! $ heard ! (Left x c (zb .1 .1 .0)) (λ left. split ! $ drop ! $
+        heard ! (Changed x c) (λ changed. fsplit ! $ drop ! $ fsplit ! $ drop ! $
         fsplit ! $ fsplit ! $ move ! (1 ∷ []) $ feqL ! (λ same. move ! (1 ∷ []) $ drop ! $
         -- [cells's last list; the tokens; what plan owns; what queue owns; queue's token; L]
         land ! (from ! (stop !)) (init ! 21 refl (LL.lawful S.the-type S′.the-laws 𝓤 H A W .typed c _ isc .0)) $
@@ -153,12 +153,13 @@ module _ {M : Type 1} (𝓤 : URA M) (H : Heap 𝓤) (A : Atoms 𝓤) (W : Given
         (and-then ! (load ! (from ! (fld ! refl (stop !))) (look-in ! 31 (sub ! 1 refl (whole !)))) (no-more !)))) (from ! (stop !))
         (init ! 5 refl (tt, (tt, (record { fits = room₃ .0 }, tt)))) $
         move ! (4 ∷ 3 ∷ []) $
-        -- [what `store` asks; cells's last list; the tokens; what plan owns; L]
-        calls-store mem run (x .queue .lft) (x .queue .share) (x .queue .block) (x .queue .offset) (x .queue .name) (x .queue .now)
-        ! (fmOf 𝓤 H (W .laws) 𝓣) known-store (c .place) (c .request) (fields c u isc .1 .0) (fields c u isc .1 .1)
-        (and-then ! (load ! (from ! (stop !)) (look ! 4 refl)) (and-then !
-        (load ! (from ! (fld ! refl (stop !))) (look-in ! 20 (sub ! 1 refl (whole !))))
-        (and-then ! (load ! (from ! (fld ! refl (stop !))) (look-in ! 20 (sub ! 2 refl (whole !)))) (no-more !)))) (
+        -- [what `store_back` asks; cells's last list; the tokens; what plan owns; L]
+        calls-store-back mem run (x .queue .lft) (x .queue .share) (x .queue .block) (x .queue .offset) (x .queue .name) (x .queue .now)
+        ! (fmOf 𝓤 H (W .laws) 𝓣) known-store-back (c .row) (rowVal c) (c .from) (c .end) (fields c u isc .1 .0) (fields c u isc .1 .1 .0)
+        (fields c u isc .1 .1 .1) (and-then ! (load ! (from ! (stop !)) (look ! 4 refl))
+        (and-then ! (load ! (from ! (fld ! refl (stop !))) (look-in ! 20 (sub ! 1 refl (whole !))))
+        (and-then ! (load ! (from ! (fld ! refl (stop !))) (look-in ! 20 (sub ! 2 refl (whole !))))
+        (and-then ! (load ! (from ! (fld ! refl (stop !))) (look-in ! 20 (sub ! 3 refl (whole !)))) (no-more !))))) (
         -- [queue's token; queue's last list; cells's; the tokens; what plan owns; L]
         land ! (from ! (stop !)) (init ! 9 refl (tt, tt)) $
         assigns ! (of-opd ! (load ! (from ! (fld ! refl (stop !))) (look-in ! 21 (sub ! 0 refl (whole !))))) (from ! (stop !))
@@ -173,7 +174,7 @@ module _ {M : Type 1} (𝓤 : URA M) (H : Heap 𝓤) (A : Atoms 𝓤) (W : Given
         free1 ! $ move ! (17 ∷ 18 ∷ []) $ free1 ! $ move ! (15 ∷ 16 ∷ []) $ free1 ! $ move ! (13 ∷ 14 ∷ []) $ free1 ! $
         move ! (11 ∷ 12 ∷ []) $ free1 ! $ move ! (9 ∷ 10 ∷ []) $ free1 ! $ move ! (7 ∷ 8 ∷ []) $ free1 ! $ move ! (5 ∷ 6 ∷ []) $
         free1 ! $ free0 ! $
-        by ! (exits x 𝓤 H A mem run W f c (zb .1 .1 .0) said placed same (fields c u isc .0)))))))))))))))))))))))))))))
+        by ! (exits x 𝓤 H A mem run W f c (zb .1 .1 .0) left changed same (fields c u isc .0)))))))))))))))))))))))))))))
 
   request-walks : Walks 𝓤 H A request.ended stayed (WpFn 𝓤 H (𝓣 .C) (𝓣 .Λ) code.function) (request.clauses 𝓤 H A mem run)
   request-walks = walked 𝓤 H A request.ended stayed (request.clauses 𝓤 H A mem run) (WpFn 𝓤 H (𝓣 .C) (𝓣 .Λ) code.function)
@@ -244,5 +245,5 @@ request-spec 𝓤 H 𝓜 𝓖 𝓡 =
     (copied-thm.met 𝓤 H 𝓜 𝓖 𝓡))
     (cited 𝓤 H (CoreTriple 𝓤 H (𝓖 .A) (𝓜 .mem) (𝓡 .run)) 𝓜 𝓡 code.env #requests·request-by-value core-def.routine
     code.calls-requests·request-by-value (core-thm.met 𝓤 H 𝓜 𝓖 𝓡))
-    (cited 𝓤 H (Store 𝓤 H (𝓖 .A) (𝓜 .mem) (𝓡 .run)) 𝓜 𝓡 code.env #queue·store store-def.routine code.calls-queue·store
-    (store-thm.met 𝓤 H 𝓜 𝓖 𝓡)))
+    (cited 𝓤 H (StoreBack 𝓤 H (𝓖 .A) (𝓜 .mem) (𝓡 .run)) 𝓜 𝓡 code.env #queue·store-back store-back-def.routine
+    code.calls-queue·store-back (store-back-thm.met 𝓤 H 𝓜 𝓖 𝓡)))

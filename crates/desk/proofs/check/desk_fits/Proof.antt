@@ -3,16 +3,14 @@
 use mathlib.Core.Path.{_≡_, _∙_, sym, ap}
 use mathlib.Core.Bool.{Bool}
 use native.Mathlib.Omega.{arith}
-use borrow.Author.Tests.{lt-ltb}
-use Rattle.lists.specs.Lists.{every}
-use Rattle.lists.proofs.Laws.{every-take-none}
+use borrow.Author.Tests.{lt-ltb, not-true, not-false}
 use Rattle.plan.specs.Decode.{planOf}
 use Rattle.plan.proofs.Accepted.{accepted-gives}
 use Rattle.queue.specs.Words.{recordsIn}
 use Rattle.desk.specs.Queueing.{waitingIn}
-use Rattle.desk.specs.Admission.{waitsHere, deskFits}
+use Rattle.desk.specs.Admission.{queueFits, deskFits}
 use Rattle.desk.specs.Place.{masksIf}
-use Rattle.desk.proofs.QuestionSix.{desk-out, too-many, other-visit, by-records}
+use Rattle.desk.proofs.QuestionSix.{desk-out, too-many, other-visit, by-records, none-waits, one-unfit, by-order}
 use borrow.Author.Needs.{needs}
 use Rattle.desk.proofs.check.desk_fits.Statement.{statement}
 use Rattle.desk.proofs.check.desk_fits.Tie as tie
@@ -54,7 +52,7 @@ returns-3 c =
 asked : (c : tie.Else3) →
     let d = c .before .before .before .before .before .before .before .before .before .before in
     deskFits (planOf (d .args .plan .now)) (d .args .state) (recordsIn (d .args .row .now))
-    ≡ every (waitsHere (planOf (d .args .plan .now)) (d .args .state .desk))
+    ≡ queueFits (planOf (d .args .plan .now)) (d .args .state .desk)
     (waitingIn (d .args .state .waiting) (recordsIn (d .args .row .now)))
 asked c =
     let f = c .before .before in
@@ -63,7 +61,7 @@ asked c =
     by-records (d .args .plan .now) (d .args .state) (recordsIn (d .args .row .now)) (e .if1 .left) (f .if2 .left) (c .if3 .left)
 
 returns-4 : tie.Need-returns-4
-returns-4 c = sym (asked (c .before) ∙ every-take-none _ _ _ (c .if4 .taken))
+returns-4 c = sym (asked (c .before) ∙ none-waits _ _ _ _ (c .if4 .taken))
 
 all-wait-here-requires : tie.Need-all-wait-here-requires
 all-wait-here-requires c κs =
@@ -78,7 +76,22 @@ all-wait-here-requires c κs =
     )
 
 returns-5 : tie.Need-returns-5
-returns-5 c = c .all-wait-here .ensures ∙ sym (asked (c .before .before))
+returns-5 c =
+    let e = c .before in
+    sym (asked (e .before .before) ∙ one-unfit _ _ _ (sym (e .all-wait-here .ensures) ∙ not-true _ (c .if5 .taken)))
+
+urgent-lead-requires : tie.Need-urgent-lead-requires
+urgent-lead-requires c κs =
+    let f = c .before .before .before .before .before in
+    let d = f .before .before .before .before .before .before .before .before in
+    (d .pre .0, d .pre .1, omega (arith, f .if2 .left))
+
+returns-6 : tie.Need-returns-6
+returns-6 c =
+    let g = c .before in
+    let e = g .before in
+    c .urgent-lead .ensures
+    ∙ sym (asked (e .before .before) ∙ by-order _ _ _ (sym (e .all-wait-here .ensures) ∙ not-false _ (g .if5 .left)))
 
 pub desk-fits-spec : {M : Type 1} → statement M
 desk-fits-spec =
@@ -94,4 +107,6 @@ desk-fits-spec =
     returns-3
     returns-4
     all-wait-here-requires
-    returns-5)
+    returns-5
+    urgent-lead-requires
+    returns-6)

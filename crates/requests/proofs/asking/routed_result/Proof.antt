@@ -82,7 +82,7 @@ returns-2 c =
     let e = c .before in
     let f = e .before .before .before .before in
     let d = f .before .before .before .before .before .before .before in
-    c .wait-result .ensures (d .args .cells .now) (d .args .request) ∙ found f _ (e .enum-told2 .given .1)
+    c .wait-result .ensures (d .args .cells .now) (planOf (d .args .plan .now)) (d .args .request) ∙ found f _ (e .enum-told2 .given .1)
 
 returns-3 : tie.Need-returns-3
 returns-3 c =
