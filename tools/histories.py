@@ -4,8 +4,8 @@
 
 Every line is followed by the interpreter of script.py over the model as soon as it is written, so that the plan, the states, the frames
 and all answers are known while the next line is drawn. At the end of a history that keeps the premise of demand 3 the model's answers are
-held to the serial run of model.py, and so are the rows, and the bulletins if they began as the books. A history is drawn by its number and
-the seed alone, so that it can be drawn without those before it.
+held to the serial run of model.py, and so are the rows, and the bulletins if they began as the books. Every class and every cause is held
+to masks. A history is drawn by its number and the seed alone, so that it can be drawn without those before it.
 """
 
 import random
@@ -14,7 +14,7 @@ from collections import deque
 
 from model import ACTS, CELLS, FIXED, MOST_OPEN, OUTGOING, REPLIES, REPLY_WORDS, ROWS, STARTING_FRAME, WORD
 from model import Desk, Serial, cell_of, field, question_6, refused, run
-from plans import PlanDrawing, changes, damage, hexadecimal, made_urgent, opened, transaction_damage, transaction_places
+from plans import CauseDrawing, PlanDrawing, changes, damage, hexadecimal, made_urgent, opened, transaction_damage, transaction_places
 from script import Interpreter
 from tally import Difference, Tally
 
@@ -43,8 +43,8 @@ def any_word(rng):
 class History:
     """One history. `premise` says whether it keeps the premise so far; a forging one is drawn so that it mostly does not. The token is
     the number of the frame that the latest accepted visit sent, and `by_hand` the desk whose state is not as the calls left it, if any.
-    `chosen` are the places of the transactions whose fields were chosen. What is drawn of bulletins and of urgent requests is drawn apart,
-    and is no other draw's; `other_bulletins` says whether they begin unlike the books."""
+    `chosen` are the places of the transactions whose fields were chosen. What is drawn of bulletins, of urgent requests and of causes is
+    drawn apart, and is no other draw's; `other_bulletins` says whether they begin unlike the books."""
 
     def __init__(self, number, seed, interpreter, lines, tally):
         self.number, self.rng = number, random.Random("%d %d" % (seed, number))
@@ -55,6 +55,7 @@ class History:
         self.apart = random.Random("bulletins %d %d" % (seed, number))
         self.other_bulletins = self.forging and self.apart.randrange(3) == 0
         self.urgent = random.Random("urgent %d %d" % (seed, number))
+        self.causes = random.Random("causes %d %d" % (seed, number))
         self.calls, self.token, self.premise, self.by_hand = 0, 0, True, None
         self.clients, self.given, self.visits, self.highest = [], [], [], 0
 
@@ -167,7 +168,7 @@ class History:
     def next_call(self):
         """A request, a visit, or an odd call, which is mostly refused or changes nothing."""
         if self.urgent.randrange(24) == 0:
-            self.besides(self.out_of_order)
+            self.besides(self.urgent, self.out_of_order)
         form, waiting = self.rng.randrange(100), any(self.holding(desk).state.waiting for desk in range(self.n))
         if form < (self.request_share if waiting else 83):
             self.usual_request()
@@ -227,10 +228,12 @@ class History:
         return None
 
     def usual_request(self):
-        """A request, mostly at the operation's own desk, at times with a number at an end of what a word holds."""
+        """A request, mostly at the operation's own desk, at times with a number at an end of what a word holds; some classified first."""
         transaction, params = self.operation()
         if self.rng.randrange(2):
             params = self.at_an_end(transaction, params)
+        if self.causes.randrange(24) == 0:
+            self.besides(self.causes, self.classify, transaction, params)
         own = self.plan.desk_of(self.plan.transactions[transaction], four(params))
         self.request(own if self.rng.randrange(6) else self.rng.randrange(self.n), transaction, params)
 
@@ -275,7 +278,7 @@ class History:
         """One global operation until its desk's row is full, and some more; or both sorts as they are drawn, or 31 or 32 that are not
         urgent and then urgent ones."""
         found = self.global_operation()
-        sorts = self.besides(self.sorts, found[0]) if found else [None]
+        sorts = self.besides(self.urgent, self.sorts, found[0]) if found else [None]
         form = "one" if None in sorts else self.urgent.choice(("one", "both", 31, 32))
         for k in range(33 + self.rng.randrange(3) if found else 0):
             one = found[1:] if form == "one" else sorts[self.urgent.randrange(2) if form == "both" else int(k >= form)]
@@ -480,7 +483,7 @@ class History:
         replies = "replies %d" % rng.choice((REPLIES - 1, REPLIES, rng.randrange(REPLIES), REPLIES + rng.randrange(17)))
         if rng.randrange(3):
             self.lent(rng.choice((book, row, out, replies, out + " " + replies)), self.token_visit)
-            self.lent("bulletin %d" % self.bulletin_size(), lambda: self.besides(self.bulletin_visit))
+            self.lent("bulletin %d" % self.bulletin_size(), lambda: self.besides(self.urgent, self.bulletin_visit))
         else:
             self.lent(rng.choice((book, row, book + " " + row, out)) + " bulletin %d" % self.bulletin_size(), self.usual_request)
 
@@ -488,12 +491,11 @@ class History:
         """A size that no bulletin may have."""
         return self.apart.choice((1023, 1025, 0, 1040, self.apart.randrange(CELLS)))
 
-    def besides(self, action, *arguments):
-        """An action that draws by what is drawn apart for urgent requests. Its calls are not of the 60, so that the others are drawn as
-        without it."""
-        rng, calls, self.rng = self.rng, self.calls, self.urgent
+    def besides(self, rng, action, *arguments):
+        """An action that draws by what is drawn apart. Its calls are not of the 60, so that the others are drawn as without it."""
+        before, calls, self.rng = self.rng, self.calls, rng
         result = action(*arguments)
-        self.rng, self.calls = rng, calls
+        self.rng, self.calls = before, calls
         return result
 
     def bulletin_visit(self):
@@ -614,9 +616,28 @@ class History:
 
     # Calls that change nothing, and damaged plans
 
+    def classify(self, transaction, params):
+        answer = self.call("class " + text_of(transaction, params))
+        self.tally.classification(self.plan, transaction, four(params), answer)
+
     def usual_class(self):
         transaction, params = self.operation()
-        self.call("class " + text_of(transaction if self.rng.randrange(8) else self.rng.randrange(40), params))
+        self.classify(transaction if self.rng.randrange(8) else self.rng.randrange(40), params)
+
+    def classify_some(self, count):
+        """Some operations, most of them global if such are found."""
+        for _ in range(count):
+            found = self.global_operation() if self.rng.randrange(6) else None
+            self.classify(*(found[1:] if found else self.operation()))
+
+    def classify_at_the_end(self):
+        """Some operations on the plan of the history, then some on a plan for causes."""
+        self.classify_some(4)
+        drawing = CauseDrawing(self.rng)
+        self.call("plan " + hexadecimal(made_urgent(self.rng, drawing.draw())))
+        self.plan, self.rows = self.interpreter.plan, drawing.rows
+        self.tally.compare(self.plan.words)
+        self.classify_some(5)
 
     def usual_read(self):
         number, visit = self.drawn_frame(), any_word(self.rng)
@@ -708,6 +729,7 @@ class History:
         if self.premise:
             self.check_serial_run()
             self.tally.seen["highest visit accepted with the premise"].add(self.highest)
+        self.besides(self.causes, self.classify_at_the_end)
         self.write("say history %d: premise %skept" % (self.number, "" if self.premise else "not "))
 
     def check_serial_run(self):

@@ -2,8 +2,9 @@
 
 Words are integers below 2^32. `Plan(words)` reads a plan once; every call of the paper is then a function over it. Buffers are lists
 that are changed in place, a row of waiting requests is a list of six-tuples, and every call answers a tuple that names its case:
-('free',), ('local', desk), ('global', desk), ('replied', done, number, four told words), ('waits',), ('elsewhere', desk),
-('passed', words, replies), ('opened', state), ('written',), ('visit', number), ('accepted',), ('chosen', cost), ('refused', question).
+('free',), ('local', desk), ('global', desk, cell, other desk, transaction), ('replied', done, number, four told words), ('waits',),
+('elsewhere', desk), ('passed', words, replies), ('opened', state), ('written',), ('visit', number), ('accepted',), ('chosen', cost),
+('refused', question).
 """
 
 from collections import namedtuple
@@ -134,8 +135,8 @@ def tried(t, desks):
 
 class Plan:
     """A plan's verdict (0 if accepted). `form` is that of questions 1 to 4 alone, as the chooser asks them; where it is 0 the desks, the
-    transactions and those with an open field are known, and for an accepted plan who may touch and write each cell, and which cells two or
-    more desks may touch."""
+    transactions and those with an open field are known, and for an accepted plan who may touch and write each cell, by which transactions,
+    and which cells two or more desks may touch."""
 
     def __init__(self, words):
         self.words = list(words)
@@ -145,6 +146,7 @@ class Plan:
         self.verdict = self.form or (17 if self.opened else 0)
         self.touchers = [set() for _ in range(CELLS)]
         self.writers = [set() for _ in range(CELLS)]
+        self.touches = [set() for _ in range(CELLS)]
         if self.verdict == 0:
             self.try_operations()
         self.shared = [cell for cell in range(CELLS) if len(self.touchers[cell]) >= 2]
@@ -164,11 +166,13 @@ class Plan:
         return 0
 
     def try_operations(self):
-        """Marks each cell with the desks whose operations may touch it, and may write it."""
-        for t in self.transactions:
+        """Marks each cell with the desks whose operations may touch it, and may write it, and with each operation that may touch it, as its
+        desk and its transaction."""
+        for number, t in enumerate(self.transactions):
             touched, written = tried(t, self.desks)
             for cell, desk in touched:
                 self.touchers[cell].add(desk)
+                self.touches[cell].add((desk, number))
             for cell, desk in written:
                 self.writers[cell].add(desk)
 
@@ -196,6 +200,14 @@ class Plan:
         if all(self.touchers[c] <= {desk} for c in writes):
             return ("local", desk)
         return ("global", desk)
+
+    def cause_of(self, transaction, params):
+        """What makes an operation global: the lowest cell it may write that another desk may touch, then the lowest such desk, then the
+        lowest transaction of that desk with such an operation."""
+        t = self.transactions[transaction]
+        desk = self.desk_of(t, params)
+        writes = {cell_of(s, params) for s in t.steps if s.kind == 4}
+        return min((cell, other, number) for cell in writes for other, number in self.touches[cell] if other != desk)
 
     def urgent_first(self, requests):
         """Waiting requests, each with its transaction in second place: the urgent ones before the others, each sort in the order given."""
@@ -417,7 +429,9 @@ def choose(words):
 
 
 def classify(plan, transaction, params):
-    return refused(plan.verdict) if plan.verdict else plan.class_of(transaction, params)
+    """The class; beside that of a global operation its cause."""
+    found = refused(plan.verdict) if plan.verdict else plan.class_of(transaction, params)
+    return (*found, *plan.cause_of(transaction, params)) if found[0] == "global" else found
 
 
 def new_desk(plan, desk):

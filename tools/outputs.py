@@ -3,14 +3,15 @@ With `write` it writes the files instead: python3 tools/outputs.py write
 
 The expected outputs are the answers of script.py: to each example alone, to what `belt` is run on (all examples, then questions.txt) and
 to what `histories` is run on (random histories). The values that the paper states of its own course stand below as they are printed
-there, and values of sums at the two ends of a word, of bulletins and of urgent requests, reckoned by hand; the run of `belt` is held to all
-of them first, then to the claims of choices.py.
+there, and values of sums at the two ends of a word, of bulletins, of urgent requests and of causes, reckoned by hand; the run of `belt` is
+held to all of them first, then to the claims of choices.py, and each of its classes and causes to masks.
 """
 
 import sys
 from pathlib import Path
 
 import histories
+from causes import is_right
 from choices import CLAIMS, Choice, same_by_masks
 from script import Interpreter, answers
 
@@ -76,7 +77,7 @@ GAS = [
 # cell 20 a station of desk 2 alone. Frame 1 has the words of the paper's course.
 BULLETIN_PLAN = "1303000A 22300000 32700000 62000000 42700000 21100000 32700000 22200000 52000000 40000000"
 BULLETIN = [
-    ("class T0 0 2", "T0(0, 2): global at desk 0\n"),
+    ("class T0 0 2", "T0(0, 2): global at desk 0: it may write cell 128, which T0 of desk 1 may touch\n"),
     ("class T2 5 24", "T2(5, 24): local at desk 2\n"),
     ("request 0 client 7 T0 0 2", "desk 0: T0(0, 2) of client 7: waits;"),
     (
@@ -142,8 +143,8 @@ BULLETIN = [
 URGENT_PLAN = "13040010 23400000 54000000 44100000 32700000 44900000 22400080 32700000 D0000000 52000000 42700000 "
 URGENT_PLAN += "21100000 32700000 22200000 52000000 40000000"
 URGENT = [
-    ("class T0 1 5 31", "T0(1, 5, 31): global at desk 1\n"),
-    ("class T1 1 3", "T1(1, 3): global at desk 1\n"),
+    ("class T0 1 5 31", "T0(1, 5, 31): global at desk 1: it may write cell 276, which T0 of desk 0 may touch\n"),
+    ("class T1 1 3", "T1(1, 3): global at desk 1: it may write cell 128, which T0 of desk 0 may touch\n"),
     ("request 1 client 11 T0 1 5 31", "desk 1: T0(1, 5, 31) of client 11: waits; record 0 is now client 11 T0(1, 5, 31, 0); 1 waiting,"),
     ("request 1 client 12 T0 1 6 27", "desk 1: T0(1, 6, 27) of client 12: waits; record 1 is now client 12 T0(1, 6, 27, 0); 2 waiting,"),
     ("request 1 client 11 T0 1 5 33", "desk 1: T0(1, 5, 33) of client 11: waits; record 2 is now client 11 T0(1, 5, 33, 0); 3 waiting,"),
@@ -197,6 +198,114 @@ BY_ARRIVAL = [
     ),
 ]
 
+# The plan of examples/10-cause.txt as it is at first.
+CAUSE_PLAN = "13050012 22500000 52000000 40000000 30800000 6E000001 40800000 22200000 52000000 42700000 "
+CAUSE_PLAN += "22200000 30100000 44000000 202F0000 5E000000 40F00004 21100000 32700000"
+# Causes, worked out by hand: "the lowest cell it may write that another desk may touch, then the lowest such desk, then the lowest
+# transaction of that desk with such an operation". Each plan with lines on it.
+CAUSES = [
+    # The paper's: T1 of the other desk writes cell 128, and T2 of it, which is higher, reads it.
+    (
+        PLAN,
+        [
+            ("class T0 5 9", "T0(5, 9): local at desk 1\n"),
+            ("class T1 0 3", "T1(0, 3): global at desk 0: it may write cell 128, which T1 of desk 1 may touch\n"),
+            ("class T2 1", "T2(1): local at desk 1\n"),
+            ("class T3", "T3(): free\n"),
+            ("class T1 1 3", "T1(1, 3): global at desk 1: it may write cell 128, which T1 of desk 0 may touch\n"),
+        ],
+    ),
+    # examples/10-cause.txt, three desks. T0 writes cells 16 and 17 of station 4; T2 by crew reads cell 16 at every desk.
+    (
+        CAUSE_PLAN,
+        [
+            ("class T0 4 24", "T0(4, 24): global at desk 1: it may write cell 16, which T2 of desk 0 may touch\n"),
+            ("class T0 3 24", "T0(3, 24): global at desk 0: it may write cell 12, which T2 of desk 1 may touch\n"),
+            ("class T2 7 4", "T2(7, 4): local at desk 1\n"),
+        ],
+    ),
+    # T2 by station: cell 16 is desk 1's alone, cell 17 is touched by T3 of desk 0; T2 writes cell 284 at every desk.
+    (
+        CAUSE_PLAN.replace("22200000 30100000", "22210000 30100000"),
+        [
+            ("class T0 3 24", "T0(3, 24): local at desk 0\n"),
+            ("class T0 4 24", "T0(4, 24): global at desk 1: it may write cell 17, which T3 of desk 0 may touch\n"),
+            ("class T2 7 4", "T2(7, 4): global at desk 1: it may write cell 284, which T2 of desk 0 may touch\n"),
+        ],
+    ),
+    # T3 by station as well, and the note in the station's row: of all this T1 alone is global.
+    (
+        CAUSE_PLAN.replace("22200000 30100000 44000000 202F0000", "22210000 30100000 41100000 21200000").replace("40F00004", "40800000"),
+        [
+            ("class T2 7 4", "T2(7, 4): local at desk 1\n"),
+            ("class T1 1 3", "T1(1, 3): global at desk 1: it may write cell 128, which T1 of desk 0 may touch\n"),
+            ("class T1 0 3", "T1(0, 3): global at desk 0: it may write cell 128, which T1 of desk 1 may touch\n"),
+            ("request 1 client 11 T0 4 24", "desk 1: T0(4, 24) of client 11: done, 1; cell 16 is now 24; cell 17 is now 1\n"),
+        ],
+    ),
+    # Cell 4 is only read, cell 1 (or 125) is of the own row; of the shared 384, 256 and 128 the last is the lowest.
+    (
+        "13010007 21500000 46700000 40800000 30700001 44700000 42700000",
+        [
+            ("class T0 0", "T0(0): global at desk 0: it may write cell 128, which T0 of desk 1 may touch\n"),
+            ("class T0 31", "T0(31): global at desk 1: it may write cell 128, which T0 of desk 0 may touch\n"),
+        ],
+    ),
+    # T0 of desk 0 writes cell 128, which every desk reads, and cell 28, which desk 7 alone reads beside it: the cell goes first.
+    (
+        "18030008 202F0000 42700000 40700007 21100000 32700000 21100000 30000000",
+        [("class T0", "T0(): global at desk 0: it may write cell 28, which T2 of desk 7 may touch\n")],
+    ),
+    # Cell 12 is touched by T0 and T1 of desk 0, T4 of desk 3 and T5 of every desk: the lowest other desk is 1, and T5 alone is of it.
+    (
+        "1806000F 201F0000 40700003 202F0000 30700003 40700002 21200000 30700004 32700003 21100000 40800000 21100000 30000000 "
+        "21100000 30700003",
+        [
+            ("class T0", "T0(): global at desk 0: it may write cell 12, which T5 of desk 1 may touch\n"),
+            ("class T1", "T1(): global at desk 0: it may write cell 8, which T4 of desk 2 may touch\n"),
+            ("class T5 3", "T5(3): local at desk 3\n"),
+        ],
+    ),
+    # Cell 20 is desk 5's row: T0 and T1 have operations of desk 0, but none of them touches it; T2 of desk 0 reads it.
+    (
+        "18040009 21100000 40000000 21100000 30000000 201F0000 30700005 201F0000 40700005",
+        [
+            ("class T0 5", "T0(5): global at desk 5: it may write cell 20, which T2 of desk 0 may touch\n"),
+            ("class T0 6", "T0(6): local at desk 6\n"),
+            ("class T1 5", "T1(5): local at desk 5\n"),
+            ("class T3", "T3(): global at desk 0: it may write cell 20, which T0 of desk 5 may touch\n"),
+        ],
+    ),
+    # The row of a parameter with no partitioning, at three desks: row 4 is desk 1's, row 5 desk 2's, row 3 desk 0's.
+    (
+        "13030007 211F0000 40000000 21100000 30000000 201F0000 30700004",
+        [
+            ("class T0 3", "T0(3): local at desk 0\n"),
+            ("class T0 4", "T0(4): global at desk 0: it may write cell 16, which T1 of desk 1 may touch\n"),
+            ("class T0 5", "T0(5): global at desk 0: it may write cell 20, which T1 of desk 2 may touch\n"),
+        ],
+    ),
+    # The last cell of the book, and below it the first.
+    (
+        "12030008 21100000 4FF0001F 21100000 40700000 21200000 4FF0001F 40700000",
+        [
+            ("class T0 1", "T0(1): global at desk 1: it may write cell 1023, which T0 of desk 0 may touch\n"),
+            ("class T1 0", "T1(0): global at desk 0: it may write cell 0, which T1 of desk 1 may touch\n"),
+            ("class T2 1", "T2(1): global at desk 1: it may write cell 0, which T1 of desk 0 may touch\n"),
+        ],
+    ),
+    # 32 transactions, of which T31 alone touches row 5 at desk 0.
+    (
+        "18200041 21100000 40000000 " + "201F0000 3E700000 " * 30 + "201F0000 30700005",
+        [
+            ("class T0 5", "T0(5): global at desk 5: it may write cell 20, which T31 of desk 0 may touch\n"),
+            ("class T0 13", "T0(13): local at desk 5\n"),
+            ("class T30", "T30(): free\n"),
+            ("class T31", "T31(): local at desk 0\n"),
+        ],
+    ),
+]
+
 
 def followed(script):
     """Each line of a script, without its comment: the command, the plan before it, its answer, the call that it made, or None, and the
@@ -212,26 +321,30 @@ def followed(script):
         yield command.decode("latin-1"), before, said.decode("latin-1"), call, interpreter
 
 
-def hold_to_stated(script, plan, stated_lines):
-    """Ends with a message unless the lines stand in the script in this order, on this plan, and are answered as is stated."""
-    pending = list(stated_lines)
+def hold_to_stated(script, stated):
+    """Ends with a message unless the lines of each plan stand in the script in their order, on this plan, and are answered as is stated."""
+    pending = [([int(word, 16) for word in plan.split()], list(lines)) for plan, lines in stated]
     for command, _, said, _, interpreter in followed(script):
-        if not pending or command != pending[0][0] or interpreter.plan.words != [int(word, 16) for word in plan.split()]:
-            continue
-        stated = pending.pop(0)[1]
-        if not said.startswith(stated):
-            sys.exit("%s: the answer is '%s', stated is '%s'" % (command, said.strip(), stated.strip()))
-    if pending:
-        sys.exit("not in the script on this plan, or not in this order: %s" % pending[0][0])
+        for plan, lines in pending:
+            if not lines or command != lines[0][0] or interpreter.plan.words != plan:
+                continue
+            wanted = lines.pop(0)[1]
+            if not said.startswith(wanted):
+                sys.exit("%s: the answer is '%s', stated is '%s'" % (command, said.strip(), wanted.strip()))
+    for _, lines in pending:
+        if lines:
+            sys.exit("not in the script on this plan, or not in this order: %s" % lines[0][0])
 
 
 def hold_to_claims(script):
     """Ends with a message unless each claim stands in the script and the choice behind it is as it says, or if trying operations and masks
-    differ: on what is global or shared in an accepted plan, or on a choice."""
+    differ: on what is global or shared in an accepted plan, on a class or a cause, or on a choice."""
     pending, claimed = dict(CLAIMS), None
     for command, before, _, call, interpreter in followed(script):
         if interpreter.plan.verdict == 0 and not same_by_masks(tuple(interpreter.plan.words)):
             sys.exit("%s: trying operations and masks differ on the plan behind it" % command)
+        if call and call.kind == "class" and call.answer[0] != "refused" and not is_right(before, *call.words, call.answer):
+            sys.exit("%s: trying operations and masks differ on the class or the cause" % command)
         if command.startswith("say Choose: "):
             claimed = command.removeprefix("say Choose: ")
             if claimed not in pending:
@@ -246,21 +359,23 @@ def hold_to_claims(script):
         sys.exit("claimed by no case: %s" % ", ".join(pending))
 
 
+def examples():
+    """The examples, in the order of their numbers."""
+    return sorted((ROOT / "examples").glob("*.txt"), key=lambda path: int(path.stem.split("-")[0]))
+
+
 def expected():
     """Every file that is made, by its path."""
     made, belt = {}, b""
-    for path in sorted((ROOT / "examples").glob("*.txt")):
+    for path in examples():
         script = path.read_bytes()
         if not script.endswith(b"\n"):
             sys.exit("%s does not end with a line feed" % path)
         made["examples/%s.out" % path.stem] = answers(script)
         belt += script + b"reset\n"
     belt += (ROOT / "tools/questions.txt").read_bytes()
-    hold_to_stated(belt, PLAN, STATED)
-    hold_to_stated(belt, GAS_PLAN, GAS)
-    hold_to_stated(belt, BULLETIN_PLAN, BULLETIN)
-    hold_to_stated(belt, URGENT_PLAN, URGENT)
-    hold_to_stated(belt, BY_ARRIVAL_PLAN, BY_ARRIVAL)
+    stated = [(PLAN, STATED), (GAS_PLAN, GAS), (BULLETIN_PLAN, BULLETIN), (URGENT_PLAN, URGENT), (BY_ARRIVAL_PLAN, BY_ARRIVAL)]
+    hold_to_stated(belt, stated + CAUSES)
     hold_to_claims(belt)
     drawn = histories.script(HISTORIES, SEED)
     for name, script in (("belt", belt), ("histories", drawn)):

@@ -1,5 +1,5 @@
-"""Draws plans that are accepted, makes some of their transactions urgent, opens fields of plans, and draws damages of plans that are then
-refused."""
+"""Draws plans that are accepted, among them plans for causes, makes some of their transactions urgent, opens fields of plans, and draws
+damages of plans that are then refused."""
 
 from model import FIXED, MOST_TOLD, NO_PARTITION, OPEN, ROWS, TELL, WORD, field, names_missing, walk
 
@@ -166,6 +166,47 @@ class PlanDrawing:
             return number_word(kind, rng.randrange(params))
         number = rng.choice((rng.randrange(4), rng.randrange(16), rng.randrange(16), rng.randrange(MOST_FIXED + 1)))
         return number_word(kind, FIXED, MOST_FIXED - rng.randrange(3) if rng.randrange(16) == 0 else number)
+
+
+class CauseDrawing(PlanDrawing):
+    """A plan for causes: each cell is touched by few, so that they vary. A transaction is `own`, if its row goes by the partitioning
+    parameter; `first`, if it has no partitioning and is desk 0's; or `wide`, if every desk may touch what it does. Of the wide ones a share
+    is drawn for the plan. With many transactions there are many places. The first place of the book and the last are taken more often."""
+
+    def __init__(self, rng):
+        super().__init__(rng, "causes", 0)
+        self.desks, self.wide, self.many = rng.randrange(2, 9), rng.choice((0, 10, 10, 30, 60)), rng.randrange(4) == 0
+        places = rng.sample([(table, column) for table in range(8) for column in range(4)], 12 if self.many else rng.randrange(1, 4))
+        places[0] = rng.choice(((0, 0), (7, 3), places[0], places[0], places[0]))
+        self.few, self.rows = places, [rng.choice((0, ROWS - 1, rng.randrange(ROWS))), *rng.sample(range(ROWS), rng.randrange(1, 4))]
+
+    def draw(self):
+        for _ in range(32 if self.many else self.rng.choice((2, 3, 4, 5, 6, self.rng.randrange(7, 20)))):
+            self.add_transaction()
+        self.words[0] = 1 << 28 | self.desks << 24 | self.count << 16 | len(self.words)
+        return self.words
+
+    def add_transaction(self):
+        rng = self.rng
+        sort = "wide" if rng.randrange(100) < self.wide else rng.choice(("own", "first"))
+        params = rng.randrange(0 if sort == "first" else 1, 5)
+        partition = NO_PARTITION if sort == "first" else rng.randrange(params)
+        length = MOST_STEPS if rng.randrange(12) == 0 else rng.randrange(1, 3 if self.many else 6)
+        steps = [self.cause_step(sort, params, partition) for _ in range(length)]
+        self.add(params, partition, self.with_tells(steps) if rng.randrange(6) == 0 else steps)
+
+    def cause_step(self, sort, params, partition):
+        """A read or a write, or seldom a step that touches nothing."""
+        rng = self.rng
+        if rng.randrange(8) == 0:
+            return self.number_step(rng.choice((5, 6, 7, 8)), params)
+        kind, place = rng.choice((3, 4, 4)), rng.choice(self.few)
+        if sort == "own":
+            return cell_word(kind, place, partition)
+        sources = [k for k in range(params) if k != partition]
+        if sources and rng.randrange(3) == 0:
+            return cell_word(kind, place, rng.choice(sources))
+        return cell_word(kind, place, FIXED, rng.choice(self.rows))
 
 
 def damage(rng, words, question):

@@ -37,8 +37,8 @@ QUESTIONS = {
     17: "a partitioning field is open",
 }
 
-# What a call was, at which desk, the plan or frame handed in, the model's answer, and what an accepted call wrote; of a visit also which
-# cells of the bulletin it changed.
+# What a call was, at which desk, the plan, frame or operation handed in, the model's answer, and what an accepted call wrote; of a visit
+# also which cells of the bulletin it changed.
 Call = namedtuple("Call", "kind desk words answer out replies shown", defaults=(None, None, ()))
 
 
@@ -216,6 +216,12 @@ def step_text(step):
     source = "%d" % step.fixed if step.source == FIXED else "p%d" % step.source
     place = "table %d column %d row " % (step.table, step.column) if step.kind in (3, 4) else ""
     return "%s %s%s" % (VERBS[step.kind], place, source)
+
+
+def class_text(case, desk=None, *cause):
+    """A class, with its desk unless it is free, and of a global operation the cause."""
+    text = case + (" at desk %d" % desk if case in ("local", "global") else "")
+    return text + (": it may write cell %d, which T%d of desk %d may touch" % (cause[0], cause[2], cause[1]) if cause else "")
 
 
 def reply_text(case, number, *told):
@@ -402,8 +408,7 @@ class Interpreter:
     def do_class(self, line):
         text, transaction, params = line.operation()
         answer = model.classify(self.plan, transaction, params)
-        said = "%s at desk %d" % answer if answer[0] in ("local", "global") else answer[0]
-        self.answer(Call("class", None, None, answer), text, said)
+        self.answer(Call("class", None, (transaction, params), answer), text, class_text(*answer))
 
     def do_desk(self, line):
         desk, said = line.number(HIGHEST), ""

@@ -2,6 +2,7 @@
 
 from collections import Counter, defaultdict
 
+from causes import KINDS, Case, is_right, kinds, ranges
 from choices import Choice, same_by_masks
 from model import ACTS, CELLS, FIXED, MOST_OPEN, MOST_TOLD, NO_PARTITION, OUTGOING, REPLY_WORDS, ROWS, WORD
 from model import apply_update, cell_of, field, reply_of, run, updates_of
@@ -36,6 +37,7 @@ COUNTS += ["visits that changed many bulletin cells", "visits that left an unsha
 COUNTS += ["urgent transactions in plans", "urgent requests that wait", "urgent requests that moved others"]
 COUNTS += ["urgent requests at once", "urgent requests elsewhere", "urgent requests refused by 9", "others that wait behind urgent ones"]
 COUNTS += ["visits that ran both sorts", "urgent runs at a visit", "urgent runs declined at a visit", "rows refused for their order alone"]
+COUNTS += ["classifications", "classifications refused", "classified as free", "classified as local", "classified as global", *KINDS]
 COUNTS += CHECKED
 LEAST = {"choices that cost more with the rest left out": 10, "choices where plan order decides": 20}
 LEAST.update({"declined by add": 300, "declined by take": 300, "histories with other bulletins": 25})
@@ -43,8 +45,11 @@ LEAST.update({"visits that changed a bulletin cell": 500, "visits that left an u
 LEAST.update({"histories with a global shown": 100, "bulletins that show a global": 300, "shared bulletin cells checked": 10000})
 LEAST.update({"shared bulletin cells unlike the book": 500, "shared bulletin cells unlike the starting book": 1000})
 LEAST.update({name: 5 if "seven" in name else 10 for name in FAULTS})
+LEAST.update({"classifications": 4000, "classified as local": 500, "classified as global": 2000})
 RANGES = {name + where: count for where in (" in plans", " in runs") for name, count in (("tables", 8), ("columns", 4), ("rows", ROWS))}
 RANGES.update({"low bits of damaged transactions": 7, "fields of damaged transactions": 10, "places of urgent requests": ROWS})
+RANGES.update({"tables in causes": 8, "columns in causes": 4, "rows in causes": ROWS, "first and last cells in causes": 2})
+RANGES.update({"desks in causes": 8, "transactions in causes": 32})
 LARGEST = {"largest fixed number in plans": MOST_FIXED, "largest fixed number in runs": MOST_FIXED}
 LARGEST.update({"largest cell in an accepted forged frame": CELLS - 1, "longest frame taken": OUTGOING, "longest frame sent": OUTGOING})
 LARGEST["highest visit accepted with the premise"] = 1 << 16
@@ -101,6 +106,18 @@ class Tally:
         self.counts["choices where plan order decides"] += choice.plan_order_decides()
         self.seen["highest cost of a choice"].add(cost)
         self.seen["most fillings of a choice"].add(len(choice.costs))
+
+    def classification(self, plan, transaction, params, answer):
+        """Notes a classification, which must be right by masks, and of what kind its cause is."""
+        self.counts["classifications"] += 1
+        self.counts["classifications refused" if answer[0] == "refused" else "classified as " + answer[0]] += 1
+        if answer[0] != "refused" and not is_right(plan, transaction, params, answer):
+            raise Difference("a class or a cause is not right by masks")
+        if answer[0] == "global":
+            case = Case(plan, transaction, params, answer)
+            self.counts.update(kinds(case))
+            for name, number in ranges(case):
+                self.seen[name].add(number)
 
     def damaged(self, words):
         """Notes how many steps of a transaction tell, in the words of a plan that is refused."""

@@ -1,23 +1,23 @@
 -- The classifier's answer, by what its questions found.
 -- Assumes nothing.
-use mathlib.Core.Path.{_≡_, _∙_, sym, ap, ap₂, subst}
+use mathlib.Core.Path.{_≡_, _∙_, sym, ap, subst}
 use mathlib.Core.Bool.{true, false}
-use mathlib.Core.List.{List}
+use mathlib.Core.List.{List, List·Memᴰ}
 use Prim.Native.Nat.{ℕ, _<_}
 use native.Mathlib.Omega.{arith}
-use lib.ListN.{length, getD}
+use lib.ListN.{length}
 use borrow.Author.Tests.{ltb-true}
 use Rattle.verdict.specs.Verdict.{accepted, refused}
-use Rattle.word.specs.Field.{headDesks, headTransactions, partitioningField}
-use Rattle.plan.specs.Decode.{planOf, headOf, partBy}
+use Rattle.lists.proofs.Laws.{getD-member}
+use Rattle.word.specs.Field.{headTransactions}
+use Rattle.plan.specs.Plan.{Transaction, noTransaction}
+use Rattle.plan.specs.Decode.{planOf, headOf}
 use Rattle.plan.specs.Admission.{planVerdict}
 use Rattle.plan.specs.Place.{StandsAt, transactionPlace, transactionFrom}
-use Rattle.plan.proofs.Accepted.{transaction-count, desk-count}
+use Rattle.plan.proofs.Accepted.{transaction-count}
 use Rattle.plan.proofs.Places.{stands-at, transaction-is}
-use Rattle.operation.specs.Operation.{deskBy}
 use Rattle.operation.specs.Admission.{transactionExists, parametersPass, operationVerdict}
-use Rattle.conflict.specs.Class.{Class, classBy}
-use Rattle.conflict.specs.Answer.{classRefused, withDesk, classifyResult}
+use Rattle.conflict.specs.Answer.{Classified, classRefused, classifiedBy, classifyResult}
 
 module _ (ws : List ℕ) (k : ℕ) (ps : List ℕ) where
   pub plan-refused : (q : ℕ) → planVerdict ws ≡ refused q → classifyResult ws k ps ≡ classRefused q
@@ -41,10 +41,14 @@ module _ (ws : List ℕ) (k : ℕ) (ps : List ℕ) where
       unfolding classifyResult operationVerdict
       parameters-refused f = rw (e, h, transaction-is ws e k below, sym i, f)
 
-      pub classified : (c : Class) (d : ℕ) → parametersPass (transactionFrom ws at) ps ≡ true → c
-          ≡ classBy (planOf ws) (transactionFrom ws at) ps
-          → d ≡ deskBy (headDesks (headOf ws)) (partBy (partitioningField (getD ws at 0))) ps → withDesk c d ≡ classifyResult ws k ps
+      -- it is one of the plan's
+      pub belongs : List·Memᴰ (transactionFrom ws at) (planOf ws .transactions)
+      unfolding transactionExists
+      belongs =
+          subst (λ (t : Transaction). List·Memᴰ t (planOf ws .transactions)) (transaction-is ws e k below ∙ ap (transactionFrom ws) (sym i))
+          (getD-member (planOf ws .transactions) k noTransaction (ltb-true k (length (planOf ws .transactions)) h))
+
+      pub classified : (r : Classified) → parametersPass (transactionFrom ws at) ps ≡ true
+          → r ≡ classifiedBy (planOf ws) (transactionFrom ws at) ps → r ≡ classifyResult ws k ps
       unfolding classifyResult operationVerdict
-      classified c d f g j =
-          rw (e, h, transaction-is ws e k below, sym i, f)
-          (ap₂ withDesk g (j ∙ ap (λ (n : ℕ). deskBy n (partBy (partitioningField (getD ws at 0))) ps) (sym (desk-count ws))))
+      classified r f g = rw (e, h, transaction-is ws e k below, sym i, f) g

@@ -3,13 +3,15 @@
 use mathlib.Core.Path.{_≡_, refl, _∙_, sym, ap, ap₂, fun-ext}
 use mathlib.Core.Bool.{Bool, true, false, _&&_, _||_}
 use mathlib.Core.Logic.{_⊎_, inl, inr}
-use Prim.Native.Nat.{ℕ, zero, suc, _+_, _-_, _*_, _/_, _%_, _^_, _<_, max}
-use native.Mathlib.Nat.{pow-suc, zero-mul, not-suc-le-zero, le-of-suc-le-suc, eq-or-lt-of-le, add-comm, mul-assoc, add-mul-div-right}
+use Prim.Native.Nat.{ℕ, zero, suc, _+_, _-_, _*_, _/_, _%_, _^_, _≤_, _<_, max}
+use native.Mathlib.Nat.{pow-suc, zero-mul, not-suc-le-zero, le-of-suc-le-suc, eq-or-lt-of-le, add-comm, mul-assoc}
+use native.Mathlib.Nat.{div-eq-of-lt, add-mul-div-right}
 use native.Mathlib.Omega.{arith}
 use lib.Arith.{bin-ind}
 use lib.Bits.{bitAnd, and-block, and-self, and-zero-l, and-zero-r, bitOr, or-step, or-zero-l, or-zero-r, or-self, or-block}
-use lib.Pow.{pow-pos, pow-add, high}
-use Rattle.conflict.specs.Mask.{bit, maskOf}
+use lib.Pow.{pow-pos, pow-mono, pow-add, high}
+use lib.Dec.{eqb}
+use Rattle.conflict.specs.Mask.{bit, maskOf, inMask}
 
 pub mask-ext : (n : ℕ) (f g : ℕ → Bool) → ((d : ℕ) → f d ≡ g d) → maskOf n f ≡ maskOf n g
 mask-ext n f g h = ap (maskOf n) (fun-ext h)
@@ -112,3 +114,17 @@ mask-bit (suc n) f d h = go (eq-or-lt-of-le (le-of-suc-le-suc h)) (λ l. mask-bi
         let e : n ≡ suc k + d = omega arith in
         ap (λ (x : ℕ). (bit (f n) * x + maskOf n f) / 2 ^ d % 2) (ap (λ (m : ℕ). 2 ^ m) e ∙ pow-add 2 (suc k) d)
         ∙ shifted-even (bit (f n)) k d (maskOf n f) ∙ r l
+
+pub in-mask-of : (n : ℕ) (f : ℕ → Bool) (d : ℕ) → d < n → inMask (maskOf n f) d ≡ f d
+unfolding inMask
+in-mask-of n f d h = ap (λ (x : ℕ). eqb x 1) (mask-bit n f d h) ∙ one (f d)
+  where
+    one : (b : Bool) → eqb (bit b) 1 ≡ b
+    one true = refl
+    one false = refl
+
+pub in-mask-past : (n : ℕ) (f : ℕ → Bool) (d : ℕ) → n ≤ d → inMask (maskOf n f) d ≡ false
+unfolding inMask
+in-mask-past n f d h =
+    let small : maskOf n f < 2 ^ d = omega (arith, mask-lt n f, pow-mono h) in
+    ap (λ (x : ℕ). eqb (x % 2) 1) (div-eq-of-lt small)

@@ -1,17 +1,17 @@
 -- The cells that a transaction's steps name, as the walk over its words meets them.
 -- Assumes nothing.
 use mathlib.Core.Path.{_≡_, refl, _∙_, sym, ap}
-use mathlib.Core.Bool.{Bool, true, false, _&&_, _||_}
+use mathlib.Core.Bool.{Bool, true, false, _&&_, _||_, cond}
 use mathlib.Core.List.{List, _∷_}
 use Prim.Native.Nat.{ℕ, _+_, _≤_, _<_}
 use native.Mathlib.Omega.{arith}
 use lib.Count.{ones}
-use lib.Dec.{leb, eqb}
+use lib.Dec.{ltb, leb, eqb}
 use borrow.Author.Tests.{eqb-true, eqb-false, leb-true, leb-false, eq-eqb, ne-eqb, le-leb}
 use Rattle.lists.specs.Lists.{every, some}
 use Rattle.lists.proofs.Laws.{and-snd}
 use Rattle.word.specs.Field.{kindOf, tableField, columnField}
-use Rattle.plan.specs.Plan.{reads, writes, Step}
+use Rattle.plan.specs.Plan.{reads, writes, Step, Partitioning}
 use Rattle.plan.specs.Decode.{accessBy, stepOf, rowOf}
 use Rattle.plan.specs.Admission.{stepFormed}
 use Rattle.plan.specs.Place.{StandsAt, transactionFrom, stepsAt, stepWord}
@@ -20,7 +20,9 @@ use Rattle.plan.proofs.Steps.{stepsFrom, steps-none, steps-cons, step-formed, e
 use Rattle.operation.specs.Operation.{sameAccess, valueOf, cellNumber, cellsNamed}
 use Rattle.operation.specs.Admission.{rowInRange, parametersPass, unusedZero}
 use Rattle.operation.proofs.StepKinds.{row-bound, step-above-4}
+use Rattle.conflict.specs.Touch.{stepTouches, stepsTouch}
 use Rattle.conflict.specs.Class.{isWrite, oneDeskEach}
+use Rattle.conflict.proofs.LowestCells.{lowestFrom}
 
 -- ---- one step
 
@@ -77,9 +79,17 @@ module _ (ws : List ℕ) (at : ℕ) (p : StandsAt ws at) where
     unfolding some
     writing-none = ap (some isWrite) (steps-none ws at s h)
 
+    pub touching-none : (n : ℕ) (q : Partitioning) (c d : ℕ) → stepsTouch n q (stepsFrom ws at s) c d ≡ false
+    unfolding some
+    touching-none n q c d = ap (λ (ss : List Step). stepsTouch n q ss c d) (steps-none ws at s h)
+
     pub one-done : (ps : List ℕ) (mask : ℕ → ℕ) → oneDeskEach mask (cellsNamed writes ps (stepsFrom ws at s)) ≡ true
     unfolding every cellsNamed
     one-done ps mask = ap (λ (ss : List Step). oneDeskEach mask (cellsNamed writes ps ss)) (steps-none ws at s h)
+
+    pub lowest-done : (ps : List ℕ) (f : ℕ → Bool) (m : ℕ) → lowestFrom f m (cellsNamed writes ps (stepsFrom ws at s)) ≡ m
+    unfolding lowestFrom cellsNamed
+    lowest-done ps f m = ap (λ (ss : List Step). lowestFrom f m (cellsNamed writes ps ss)) (steps-none ws at s h)
 
     pub read-done : (ps : List ℕ) (f : ℕ → Bool) → some f (cellsNamed reads ps (stepsFrom ws at s)) ≡ false
     unfolding some cellsNamed
@@ -93,6 +103,12 @@ module _ (ws : List ℕ) (at : ℕ) (p : StandsAt ws at) where
     writing-here =
         ap (some isWrite) (steps-cons ws at s p h w i)
         ∙ ap (λ (b : Bool). b || some isWrite (stepsFrom ws at (s + 1))) (write-kind w (step-formed ws at s p h w i))
+
+    -- whether the steps from s on touch a cell at a desk
+    pub touching-here : (n : ℕ) (q : Partitioning) (c d : ℕ) → stepsTouch n q (stepsFrom ws at s) c d
+        ≡ (stepTouches n q (stepOf w) c d || stepsTouch n q (stepsFrom ws at (s + 1)) c d)
+    unfolding some
+    touching-here n q c d = ap (λ (ss : List Step). stepsTouch n q ss c d) (steps-cons ws at s p h w i)
 
     module _ (ps : List ℕ) where
       pub row-passes : parametersPass (transactionFrom ws at) ps ≡ true → kindOf w ≤ 4 → valueOf ps (rowOf w) ≤ 31
@@ -129,6 +145,23 @@ module _ (ws : List ℕ) (at : ℕ) (p : StandsAt ws at) where
             ≡ oneDeskEach mask (cellsNamed writes ps (stepsFrom ws at (s + 1)))
         unfolding accessBy
         one-other e = ap (oneDeskEach mask) (cells-other 4 (omega arith) (omega arith) e)
+
+      -- the lowest of m and of the cells that the steps from s on may write and that pass
+      module _ (f : ℕ → Bool) (m : ℕ) where
+        -- by the lower one x of m and of its cell c
+        pub lowest-here : kindOf w ≡ 4 → (c x : ℕ) → c ≡ cellOf ps w → x ≡ cond (ltb c m && f c) c m
+            → lowestFrom f m (cellsNamed writes ps (stepsFrom ws at s))
+            ≡ lowestFrom f x (cellsNamed writes ps (stepsFrom ws at (s + 1)))
+        unfolding lowestFrom accessBy
+        lowest-here e c x j q =
+            let behind = cellsNamed writes ps (stepsFrom ws at (s + 1)) in
+            ap (lowestFrom f m) (cells-here 4 (omega arith) (omega arith) e)
+            ∙ ap (λ (y : ℕ). lowestFrom f (cond (ltb y m && f y) y m) behind) (sym j) ∙ ap (λ (y : ℕ). lowestFrom f y behind) (sym q)
+
+        pub lowest-other : (kindOf w ≡ 4 → ⊥)
+            → lowestFrom f m (cellsNamed writes ps (stepsFrom ws at s)) ≡ lowestFrom f m (cellsNamed writes ps (stepsFrom ws at (s + 1)))
+        unfolding accessBy
+        lowest-other e = ap (lowestFrom f m) (cells-other 4 (omega arith) (omega arith) e)
 
       -- a test of the cells that the steps from s on may read
       module _ (f : ℕ → Bool) where

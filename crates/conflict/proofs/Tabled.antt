@@ -40,14 +40,19 @@ no-cells ps (tells ∷ ss) e = no-cells ps ss e
 -- ---- the class, by what the two tests found
 
 module _ (ws : List ℕ) (at : ℕ) (ps : List ℕ) (e : parametersPass (transactionFrom ws at) ps ≡ true) (p : Plan) where
+  -- the test by the table is the one by the masks
+  pub one-desk-by-masks : (b : Bool) (l : List ℕ) → l ≡ maskTable p
+      → b ≡ oneDeskEach (λ c. getD l c 0) (cellsNamed writes ps (transactionFrom ws at .steps))
+      → b ≡ oneDeskEach (deskMask p) (cellsNamed writes ps (transactionFrom ws at .steps))
+  one-desk-by-masks b l t h =
+      h ∙ ap (λ (m : List ℕ). oneDeskEach (λ c. getD m c 0) (cellsNamed writes ps (transactionFrom ws at .steps))) t
+      ∙ one-tabled p ws at ps e
+
   pub class-writing : (b : Bool) (l : List ℕ) → l ≡ maskTable p → some isWrite (transactionFrom ws at .steps) ≡ true
       → b ≡ oneDeskEach (λ c. getD l c 0) (cellsNamed writes ps (transactionFrom ws at .steps))
       → cond b local global ≡ classBy p (transactionFrom ws at) ps
   unfolding classBy
-  class-writing b l t w h =
-      rw w (ap (λ (x : Bool). cond x local global)
-      (h ∙ ap (λ (m : List ℕ). oneDeskEach (λ c. getD m c 0) (cellsNamed writes ps (transactionFrom ws at .steps))) t
-      ∙ one-tabled p ws at ps e))
+  class-writing b l t w h = rw w (ap (λ (x : Bool). cond x local global) (one-desk-by-masks b l t h))
 
   pub class-reading : (b : Bool) → some isWrite (transactionFrom ws at .steps) ≡ false
       → b ≡ some (written p) (cellsNamed reads ps (transactionFrom ws at .steps))

@@ -22,8 +22,8 @@ use Rattle.plan.proofs.Accepted.{accepted-gives, all-named, transaction-count, 
 use Rattle.plan.proofs.Places.{stands-at, transaction-is}
 use Rattle.plan.proofs.Words.{transaction-params}
 use Rattle.operation.specs.Operation.{Operation, operation, transactionOf, valueOf, deskBy, deskOf, cellNumber, cellsNamed}
-use Rattle.operation.specs.Admission.{IsOperation, rowInRange}
-use Rattle.operation.proofs.Admitted.{transaction-below, rows-passed, is-operation}
+use Rattle.operation.specs.Admission.{IsOperation, parametersPass, unusedZero, rowInRange}
+use Rattle.operation.proofs.Admitted.{transaction-below, parameters-passed, is-operation}
 use Rattle.operation.proofs.Cells.{names-of, of-names}
 use Rattle.operation.proofs.CellNumbers.{cell-parts, parts-cell}
 use Rattle.operation.proofs.Bounds.{FieldsFit, AllFit, transaction-fits}
@@ -84,6 +84,18 @@ unfolding cellTouched
 cell-found n q t k r ps d c h b e s =
     let g = cell-parts t (valueOf ps r) k (b .1) (b .0) in
     simp (s, g .0, g .1, g .2, eq-eqb t t refl, eq-eqb k k refl) (row-found n q r ps d h e)
+
+-- a transaction under parameters that pass: each cell that it names is found at its desk
+pub names-found : (n : ℕ) (t : Transaction) (ps : List ℕ) (d : ℕ) → 1 ≤ n → AllFit (t .steps) → parametersPass t ps ≡ true
+    → deskBy n (t .part) ps ≡ d → (a : Access) (c : ℕ) → List·Memᴰ c (cellsNamed a ps (t .steps))
+    → stepsTouch n (t .part) (t .steps) c d ≡ true
+unfolding stepTouches parametersPass
+names-found n t ps d h fits pass e a c m =
+    let k = names-of a ps (t .steps) c m in
+    let v = value-low ps a (k .table) (k .column) (k .row) (fits _ (k .step))
+    (every-member (rowInRange ps) (t .steps) _ (and-snd (unusedZero (t .params) ps) _ pass) (k .step)) in
+    member-some (λ s. stepTouches n (t .part) s c d) (cell a (k .table) (k .column) (k .row)) (t .steps) (k .step)
+    (cell-found n (t .part) (k .table) (k .column) (k .row) ps d c h v e (k .is))
 
 -- ---- an operation is made for each cell that the test finds
 
@@ -158,6 +170,17 @@ module _ (p : Plan) (k d c : ℕ) (lo : 1 ≤ p .desks) (hi : p .desks ≤ 8) (b
 abbrev pub touched : Plan → ℕ → ℕ → Bool
 touched p c d = transactionsTouch (p .desks) (p .transactions) c d
 
+-- whether one of transaction k may
+abbrev pub touchedBy : Plan → ℕ → ℕ → ℕ → Bool
+touchedBy p k c d = stepsTouch (p .desks) (transactionAt p k .part) (transactionAt p k .steps) c d
+
+module _ (p : Plan) (c d : ℕ) where
+  pub touched-some : touched p c d ≡ true → (k : ℕ) × (k < length (p .transactions)) × (touchedBy p k c d ≡ true)
+  touched-some = some-index (λ t. stepsTouch (p .desks) (t .part) (t .steps) c d) (p .transactions) noTransaction
+
+  some-touched : (k : ℕ) → k < length (p .transactions) → touchedBy p k c d ≡ true → touched p c d ≡ true
+  some-touched k = index-some (λ t. stepsTouch (p .desks) (t .part) (t .steps) c d) (p .transactions) k noTransaction
+
 module _ (ws : List ℕ) (e : planVerdict ws ≡ accepted) where
   pub some-desk : 1 ≤ planOf ws .desks
   some-desk = omega (arith, desk-count ws, accepted-gives ws e .desks-low)
@@ -166,25 +189,30 @@ module _ (ws : List ℕ) (e : planVerdict ws ≡ accepted) where
   few-desks = omega (arith, desk-count ws, accepted-gives ws e .desks-high)
 
   module _ (d c : ℕ) where
+    -- of one transaction
+    pub touched-by-gives : (k : ℕ) → k < length (planOf ws .transactions) → touchedBy (planOf ws) k c d ≡ true
+        → (a : Access) × (x : Accesses a (planOf ws) d c) × (x .op .transaction ≡ k)
+    touched-by-gives k below h =
+        let t = transactionAt (planOf ws) k in
+        let j = some-member (λ s. stepTouches (planOf ws .desks) (t .part) s c d) (t .steps) h in
+        let m = step-of (planOf ws .desks) t d c (j .0) (j .1) (j .2) in (
+          m .0,
+          made (planOf ws) k d c some-desk few-desks below (m .0) (sound-at ws e k below) (m .1),
+          made-transaction (planOf ws) k d c some-desk few-desks below (m .0) (sound-at ws e k below) (m .1),
+        )
+
+    pub gives-touched-by : (k : Access) (x : Accesses k (planOf ws) d c) → touchedBy (planOf ws) (x .op .transaction) c d ≡ true
+    gives-touched-by k x =
+        names-found (planOf ws .desks) (transactionOf (planOf ws) (x .op)) (x .op .params) d some-desk
+        (sound-at ws e (x .op .transaction) (transaction-below (planOf ws) (x .op) (x .is)) .fits)
+        (parameters-passed (planOf ws) (x .op) (x .is)) (x .desk) k c (x .names)
+
+    -- of any
     pub touched-gives : touched (planOf ws) c d ≡ true → (a : Access) × Accesses a (planOf ws) d c
     touched-gives h =
-        let i = some-index (λ t. stepsTouch (planOf ws .desks) (t .part) (t .steps) c d) (planOf ws .transactions) noTransaction h in
-        let t = transactionAt (planOf ws) (i .0) in
-        let j = some-member (λ s. stepTouches (planOf ws .desks) (t .part) s c d) (t .steps) (i .2) in
-        let m = step-of (planOf ws .desks) t d c (j .0) (j .1) (j .2) in
-        (m .0, made (planOf ws) (i .0) d c some-desk few-desks (i .1) (m .0) (sound-at ws e (i .0) (i .1)) (m .1))
+        let i = touched-some (planOf ws) c d h in
+        let x = touched-by-gives (i .0) (i .1) (i .2) in (x .0, x .1)
 
     pub gives-touched : (k : Access) → Accesses k (planOf ws) d c → touched (planOf ws) c d ≡ true
-    unfolding stepTouches
-    gives-touched k a =
-        let p = planOf ws in
-        let t = transactionOf p (a .op) in
-        let l = transaction-below p (a .op) (a .is) in
-        let n = names-of k (a .op .params) (t .steps) c (a .names) in
-        let v = value-low (a .op .params) k (n .table) (n .column) (n .row)
-        (sound-at ws e (a .op .transaction) l .fits _ (n .step))
-        (every-member (rowInRange (a .op .params)) (t .steps) _ (rows-passed p (a .op) (a .is)) (n .step)) in
-        index-some (λ t. stepsTouch (p .desks) (t .part) (t .steps) c d) (p .transactions) (a .op .transaction) noTransaction l
-        (member-some (λ s. stepTouches (p .desks) (t .part) s c d) (cell k (n .table) (n .column) (n .row)) (t .steps)
-        (n .step)
-        (cell-found (p .desks) (t .part) (n .table) (n .column) (n .row) (a .op .params) d c some-desk v (a .desk) (n .is)))
+    gives-touched k x =
+        some-touched (planOf ws) c d (x .op .transaction) (transaction-below (planOf ws) (x .op) (x .is)) (gives-touched-by k x)

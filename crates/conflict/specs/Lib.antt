@@ -3,6 +3,7 @@ pub mod Touch
 pub mod Written
 pub mod Class
 pub mod Classification
+pub mod Cause
 pub mod Answer
 pub mod Meaning
 pub mod Shared

@@ -6,7 +6,7 @@ use mathlib.Core.Path.{_≡_}
 use mathlib.Core.Bool.{true}
 use mathlib.Core.List.{List}
 use mathlib.Core.Logic.{_↔_}
-use Prim.Native.Nat.{ℕ, _/_, _%_, _^_, _<_}
+use Prim.Native.Nat.{ℕ, _<_}
 use lib.Count.{ones}
 use Rattle.verdict.specs.Verdict.{accepted}
 use Rattle.plan.specs.Plan.{Plan}
@@ -14,6 +14,7 @@ use Rattle.plan.specs.Decode.{planOf}
 use Rattle.plan.specs.Admission.{planVerdict}
 use Rattle.operation.specs.Operation.{Operation, deskOf, MayWrite, MayTouch}
 use Rattle.operation.specs.Admission.{IsOperation}
+use Rattle.conflict.specs.Mask.{inMask}
 use Rattle.conflict.specs.Touch.{deskMask}
 use Rattle.conflict.specs.Class.{JustOne}
 use Rattle.conflict.specs.Written.{written}
@@ -29,7 +30,7 @@ Writer p c = (o : Operation) × IsOperation p o × MayWrite p o c
 -- "The desks whose operations may touch a cell form a mask"
 abbrev pub MaskHasToucher : Type 0
 MaskHasToucher = (ws : List ℕ) → planVerdict ws ≡ accepted → (c d : ℕ) → d < planOf ws .desks
-    → (deskMask (planOf ws) c / 2 ^ d % 2 ≡ 1) ↔ Toucher (planOf ws) d c
+    → (inMask (deskMask (planOf ws) c) d ≡ true) ↔ Toucher (planOf ws) d c
 
 -- "and the number of desks is the count of ones in it"
 abbrev pub OneDeskMask : Type 0

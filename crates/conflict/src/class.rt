@@ -1,6 +1,7 @@
 // The class of an operation, and the classifier.
 ghost use mathlib.Core.Path.{_≡_};
 ghost use mathlib.Core.Bool.{true};
+ghost use mathlib.Core.List.{List·Memᴰ};
 ghost use lib.Count.{ones};
 ghost use lib.ListN.{length, getD};
 ghost use Rattle.verdict.specs.Verdict.{accepted};
@@ -9,30 +10,26 @@ ghost use Rattle.plan.specs.Plan.{writes};
 ghost use Rattle.plan.specs.Decode.{planOf};
 ghost use Rattle.plan.specs.Admission.{planVerdict};
 ghost use Rattle.plan.specs.Place.{StandsAt, transactionFrom};
-ghost use Rattle.operation.specs.Operation.{cellsNamed};
+ghost use Rattle.operation.specs.Operation.{deskBy, cellsNamed};
 ghost use Rattle.operation.specs.Admission.{parametersPass};
 ghost use Rattle.conflict.specs.Touch.{maskTable};
 ghost use Rattle.conflict.specs.Class.{classBy, isWrite, oneDeskEach, isFree, isGlobal};
-ghost use Rattle.conflict.specs.Answer.{classOfCode, classifiedOf, classifyResult};
+ghost use Rattle.conflict.specs.Answer.{classifiedOf, classifiedBy, classifyResult};
 ghost use Rattle.operation.specs.Store.{storeSize};
+use crate::cause;
+use crate::cause::Cause;
 use crate::mask;
 use crate::written;
 use operation::STORE_SIZE;
 use verdict::Verdict;
 use word::fields;
 
-// The class of an operation, without its desk.
-pub enum Class {
-    Free,
-    Local,
-    Global,
-}
-
-// The class, with the operation's desk where it has one; or refused with the number of the question whose answer is no.
+// The class, with the operation's desk where it has one and, if it is global, its cause; or refused with the number of the question whose
+// answer is no.
 pub enum ClassAnswer {
     Free,
     Local(u32),
-    Global(u32),
+    Global(u32, Cause),
     Refused(u32),
 }
 
@@ -81,24 +78,39 @@ fn one_desk_each(plan: &[u32], at: usize, params: [u32; 4], masks: &[u8]) -> boo
     true
 }
 
-// The class of an operation of the transaction at this place. The table of masks is filled if it writes.
-fn class_of(plan: &[u32], at: usize, params: [u32; 4]) -> Class
+// The class of an operation that writes, of the transaction at this place, with its desk and, if it is global, its cause.
+fn writer_answer(plan: &[u32], at: usize, params: [u32; 4], desk: u32) -> ClassAnswer
     requires { ⌜ (planVerdict (now plan) ≡ accepted) × StandsAt (now plan) at
-        × (parametersPass (transactionFrom (now plan) at) params ≡ true) ⌝ }
-    ensures { λ r. ⌜ classOfCode r ≡ classBy (planOf (now (plan .entry))) (transactionFrom (now (plan .entry)) at) params ⌝ }
+        × (parametersPass (transactionFrom (now plan) at) params ≡ true)
+        × List·Memᴰ (transactionFrom (now plan) at) (planOf (now plan) .transactions)
+        × (some isWrite (transactionFrom (now plan) at .steps) ≡ true)
+        × (desk ≡ deskBy (planOf (now plan) .desks) (transactionFrom (now plan) at .part) params) ⌝ }
+    ensures { λ r. ⌜ classifiedOf r ≡ classifiedBy (planOf (now (plan .entry))) (transactionFrom (now (plan .entry)) at) params ⌝ }
 {
+    let mut masks = [0u8; STORE_SIZE];
+    mask::fill_masks(plan, &mut masks);
+    if !one_desk_each(plan, at, params, &masks) {
+        return ClassAnswer::Global(desk, cause::cause_of(plan, at, params, desk, &masks));
+    }
+    ClassAnswer::Local(desk)
+}
+
+// The class of an operation of the transaction at this place, which is one of the plan's, with its desk and its cause. The table of masks
+// is filled if it writes.
+fn class_answer(plan: &[u32], at: usize, params: [u32; 4]) -> ClassAnswer
+    requires { ⌜ (planVerdict (now plan) ≡ accepted) × StandsAt (now plan) at
+        × (parametersPass (transactionFrom (now plan) at) params ≡ true)
+        × List·Memᴰ (transactionFrom (now plan) at) (planOf (now plan) .transactions) ⌝ }
+    ensures { λ r. ⌜ classifiedOf r ≡ classifiedBy (planOf (now (plan .entry))) (transactionFrom (now (plan .entry)) at) params ⌝ }
+{
+    let desk = operation::desk(plan[at], plan[0] / fields::DESKS % 16, params);
     if has_write(plan, at) {
-        let mut masks = [0u8; STORE_SIZE];
-        mask::fill_masks(plan, &mut masks);
-        if one_desk_each(plan, at, params, &masks) {
-            return Class::Local;
-        }
-        return Class::Global;
+        return writer_answer(plan, at, params, desk);
     }
     if written::reads_written(plan, at, params) {
-        return Class::Local;
+        return ClassAnswer::Local(desk);
     }
-    Class::Free
+    ClassAnswer::Free
 }
 
 // Whether an operation of the transaction at this place is global, by the table of masks: some cell that it may write does not have just
@@ -123,7 +135,7 @@ pub fn is_free(plan: &[u32], at: usize, params: [u32; 4]) -> bool
     !written::reads_written(plan, at, params)
 }
 
-// The classifier: the verdict on the plan, questions 7 and 8, then the class and the desk.
+// The classifier: the verdict on the plan, questions 7 and 8, then the class, the desk and the cause.
 pub fn classify(plan: &[u32], transaction: u32, params: [u32; 4]) -> ClassAnswer
     ensures { λ r. ⌜ classifiedOf r ≡ classifyResult (now (plan .entry)) transaction params ⌝ }
 {
@@ -137,10 +149,5 @@ pub fn classify(plan: &[u32], transaction: u32, params: [u32; 4]) -> ClassAnswer
     if !operation::parameters_pass(plan, at, params) {
         return ClassAnswer::Refused(8);
     }
-    let desk = operation::desk(plan[at], plan[0] / fields::DESKS % 16, params);
-    match class_of(plan, at, params) {
-        Class::Free => ClassAnswer::Free,
-        Class::Local => ClassAnswer::Local(desk),
-        Class::Global => ClassAnswer::Global(desk),
-    }
+    class_answer(plan, at, params)
 }

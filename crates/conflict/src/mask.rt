@@ -1,13 +1,14 @@
 // The mask table: which desks may touch each cell.
 //     mark          joins the desks of one step
 //     fill_masks    fills a table of zeros from the plan
+//     in_mask       whether a desk is in a mask
 ghost use mathlib.Core.Path.{_≡_};
-ghost use Prim.Native.Nat.{_≤_};
+ghost use Prim.Native.Nat.{_≤_, _<_};
 ghost use lib.ListN.{length, replicate};
 ghost use Rattle.verdict.specs.Verdict.{accepted};
 ghost use Rattle.plan.specs.Decode.{planOf, stepOf, partBy};
 ghost use Rattle.plan.specs.Admission.{planVerdict};
-ghost use Rattle.conflict.specs.Mask.{maskOf};
+ghost use Rattle.conflict.specs.Mask.{maskOf, inMask};
 ghost use Rattle.conflict.specs.Touch.{stepTouches, Joined, maskTable};
 ghost use Rattle.operation.specs.Store.{storeSize};
 use crate::row;
@@ -52,4 +53,12 @@ pub fn fill_masks(plan: &[u32], masks: &mut [u8])
         at = at + 1 + steps;
         t = t + 1;
     }
+}
+
+// Whether this desk is in this mask.
+pub(crate) fn in_mask(mask: u8, desk: u32) -> bool
+    requires { ⌜ desk < 8 ⌝ }
+    ensures { λ r. ⌜ r ≡ inMask mask desk ⌝ }
+{
+    (mask as u32 >> desk) % 2 == 1
 }

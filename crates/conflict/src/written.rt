@@ -14,7 +14,7 @@ ghost use Rattle.conflict.specs.Written.{cellGiven, stepWrites, written}
 use word::fields;
 
 // Whether some operation makes this cell the one of the read or write step in this word.
-fn cell_given(word: u32, cell: u32) -> bool
+pub(crate) fn cell_given(word: u32, cell: u32) -> bool
     ensures { λ r. ⌜ r ≡ cellGiven (tableField word) (columnField word) (rowOf word) cell ⌝ }
 {
     if cell / 128 != word / fields::TABLE % 8 {

@@ -2,6 +2,7 @@
 // of records and on plain words.
 mod engine;
 
+pub use conflict::Cause;
 pub use conflict::ClassAnswer;
 pub use conflict::classify;
 pub use desk::Desk;

@@ -2,6 +2,7 @@
 pub mod Every
 pub mod Some
 pub mod SomeBelow
+pub mod LowestBelow
 pub mod Properties
 pub mod Tabulate
 pub mod Overwritten
@@ -11,6 +12,7 @@ pub mod Assign
 unfoldable pub use Every.{every}
 unfoldable pub use Some.{some}
 unfoldable pub use SomeBelow.{someBelow}
+unfoldable pub use LowestBelow.{lowestBelow}
 pub use Properties.{All, Pairs}
 unfoldable pub use Tabulate.{tabulate}
 pub use Overwritten.{overwritten}

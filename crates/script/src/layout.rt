@@ -217,6 +217,13 @@ pub const THIRD_TOLD: usize = ITEM + 5;
 
 pub const FOURTH_TOLD: usize = ITEM + 6;
 
+// Registers h to j, of the item at hand: the cell, the desk and the transaction of a cause.
+pub const CAUSE_CELL: usize = ITEM;
+
+pub const CAUSE_DESK: usize = ITEM + 1;
+
+pub const CAUSE_TRANSACTION: usize = ITEM + 2;
+
 // The reply words that a call left, so many a reply.
 pub const REPLIES: usize = 537584;
 

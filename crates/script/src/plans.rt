@@ -4,6 +4,9 @@ use crate::answers::note_question;
 use crate::answers::say_answer;
 use crate::calls;
 use crate::layout::ANSWER;
+use crate::layout::CAUSE_CELL;
+use crate::layout::CAUSE_DESK;
+use crate::layout::CAUSE_TRANSACTION;
 use crate::layout::CHANGED;
 use crate::layout::MOST_WORDS;
 use crate::layout::OTHER_WORDS;
@@ -29,6 +32,7 @@ use crate::output::say;
 use crate::output::say_change;
 use crate::texts;
 use crate::words;
+use conveyor::Cause;
 use conveyor::ClassAnswer;
 use conveyor::Verdict;
 
@@ -93,6 +97,16 @@ pub fn choose(m: &mut Memory) -> &mut Memory {
     }
 }
 
+// Notes that the classifier answers "global": the desk, and the cause in the item at hand.
+fn note_global(m: &mut Memory, desk: u32, cause: Cause) -> &mut Memory {
+    let m = put(put(m, CAUSE_CELL, cause.cell), CAUSE_DESK, cause.desk);
+    note(
+        put(m, CAUSE_TRANSACTION, cause.transaction),
+        texts::GLOBAL,
+        desk,
+    )
+}
+
 // `class`: asks the classifier, and says its line up to the answer.
 pub fn class(m: &mut Memory) -> &mut Memory {
     let m = say(m, texts::OPERATION);
@@ -103,7 +117,7 @@ pub fn class(m: &mut Memory) -> &mut Memory {
     ) {
         ClassAnswer::Free => note(m, texts::FREE, 0),
         ClassAnswer::Local(desk) => note(m, texts::LOCAL, desk),
-        ClassAnswer::Global(desk) => note(m, texts::GLOBAL, desk),
+        ClassAnswer::Global(desk, cause) => note_global(m, desk, cause),
         ClassAnswer::Refused(question) => note_question(m, question),
     }
 }

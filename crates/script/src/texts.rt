@@ -132,7 +132,7 @@ pub const CHANGED_BULLETINS: u32 = 98;
 
 pub const SHOWN_BULLETIN: u32 = 99;
 
-const TEXTS: [u8; 3135] = *b"\
+const TEXTS: [u8; 3189] = *b"\
 @\
 no such command\n@\
 a number from 0 to &S is expected\n@\
@@ -179,7 +179,7 @@ visits %I: replies %J, several replies %K, changed frames %L, longest frame take
 T%b(?1%c}?2, %d}?3, %e}?4, %f})@\
 : free\n@\
 : local at desk %r\n@\
-: global at desk %r\n@\
+: global at desk %r: it may write cell %h, which T%j of desk %i may touch\n@\
 \x20\x20T%p(>hYEBp0}>hYEC, p1}>hYED, p2}>hYEE, p3})<hQEO by p$hQE}>hQEO<hQEP open}>hIIB, weight $hII}>hHBB, urgent}@\
 {p: }?p; }<h]EEread}>h]EE<h]EFwrite}>h]EF<h]EGset}>h]EG<h]EHadd}>h]EH<h]EIneed}>h]EI<h]EJtake}>h]EJtell}\
 <h]EF table $hZD column $hXC row }>h]EF<h]EJ }<h]EF>hUDE$hAF}<h]EF<hUDEp$hUD}>h]EF<h]EJ>hZDE$hAZ}>h]EF<h]EJ<hZDEp$hZD}@\

@@ -19,6 +19,7 @@ use Rattle.desk.specs.declared.state.Desk.{Desk}
 use Rattle.desk.specs.Holding.{Holding, holding}
 use Rattle.requests.specs.Request.{recordOf}
 use Rattle.visits.specs.Visit.{visitResult}
+use Rattle.conflict.specs.Cause.{cause}
 use Rattle.conflict.specs.Answer.{Classified, classedFree, classedLocal, classedGlobal, classRefused, classifyResult}
 use Rattle.operation.specs.Store.{storeSize}
 use Rattle.visits.specs.Waiting.{replySize, repliesSize}
@@ -117,8 +118,9 @@ table =
     ∷ row (admit 0 (31 ∷ 9 ∷ 0 ∷ 0 ∷ [])) (verdict accepted)
     ∷ row (admit 0 (32 ∷ 9 ∷ 0 ∷ 0 ∷ [])) (verdict (refused 8))
     ∷ row (classify 0 (32 ∷ 9 ∷ 0 ∷ 0 ∷ [])) (classified (classRefused 8))
-    -- "T1(0, 3): desk 0, global."
-    ∷ row (classify 1 (0 ∷ 3 ∷ 0 ∷ 0 ∷ [])) (classified (classedGlobal 0))
+    -- "T1(0, 3): desk 0, global.", by cell 128, desk 1, transaction 1; and at desk 1 by desk 0 (not starred: the causes of 02, A.7)
+    ∷ row (classify 1 (0 ∷ 3 ∷ 0 ∷ 0 ∷ [])) (classified (classedGlobal 0 (cause 128 1 1)))
+    ∷ row (classify 1 (1 ∷ 3 ∷ 0 ∷ 0 ∷ [])) (classified (classedGlobal 1 (cause 128 0 1)))
     -- "T2(1): desk 1, local."
     ∷ row (classify 2 (1 ∷ 0 ∷ 0 ∷ 0 ∷ [])) (classified (classedLocal 1))
     -- "T3(): free."

@@ -2,19 +2,13 @@
 -- Assumes nothing.
 use mathlib.Core.Path.{_≡_, _∙_, sym, ap}
 use mathlib.Core.Bool.{true}
-use Prim.Native.Nat.{_<_}
-use native.Mathlib.Omega.{arith}
-use lib.ListN.{length}
 use borrow.Author.Tests.{not-true, not-false}
 use Rattle.verdict.specs.Verdict.{accepted, verdictOf}
 use Rattle.plan.specs.Decode.{planOf}
 use Rattle.plan.specs.Admission.{planVerdict}
 use Rattle.plan.specs.Place.{StandsAt, transactionFrom}
-use Rattle.plan.proofs.Accepted.{accepted-gives}
 use Rattle.operation.specs.Admission.{transactionExists, parametersPass}
-use Rattle.conflict.specs.declared.class.Class.{Class}
-use Rattle.conflict.specs.Answer.{classOfCode, withDesk, classifyResult}
-use Rattle.conflict.proofs.Classified.{plan-refused, no-transaction, stands, parameters-refused, classified}
+use Rattle.conflict.proofs.Classified.{plan-refused, no-transaction, stands, parameters-refused, belongs, classified}
 use borrow.Author.Needs.{needs}
 use Rattle.conflict.proofs.class.classify.Statement.{statement}
 use Rattle.conflict.proofs.class.classify.Tie as tie
@@ -74,23 +68,6 @@ returns-3 c =
     (exists (e .before)) _
     (e .transaction-place .ensures) (sym (c .before .parameters-pass .ensures) ∙ not-true _ (c .if2 .taken)))
 
--- its word stands within the plan
-inside : (c : tie.After-transaction-place)
-    → c .transaction-place .result < length (c .before .before .before .before .before .before .before .args .plan .now)
-inside c = let r = placed c .room in omega arith
-
-mul-desk : tie.Need-mul-desk
-mul-desk c = let h = inside (c .before .before) in search needs
-
-shared-slice-read-desk : tie.Need-shared-slice-read-desk
-shared-slice-read-desk c = inside (c .before .before .before)
-
-shared-slice-read-desk-2 : tie.Need-shared-slice-read-desk-2
-shared-slice-read-desk-2 c = accepted-gives _ (plan-passes (c .before .before .before .before .before .before .before)) .words-low
-
-desk-requires : tie.Need-desk-requires
-desk-requires c κs = accepted-gives _ (plan-passes (c .before .before .before .before .before .before .before)) .desks-low
-
 -- question 8 is answered with yes
 passed : (c : tie.Else2)
     → parametersPass (transactionFrom (c .before .before .before .before .before .before .before .before .before .args .plan .now)
@@ -98,49 +75,24 @@ passed : (c : tie.Else2)
     (c .before .before .before .before .before .before .before .before .before .args .params) ≡ true
 passed c = sym (c .before .parameters-pass .ensures) ∙ not-false _ (c .if2 .left)
 
-class-of-requires : tie.Need-class-of-requires
-class-of-requires c κs =
-    let e = c .before .before .before in
-    (plan-passes (e .before .before .before .before .before), placed (e .before .before), passed e)
-
-enum-told-2 : tie.Need-enum-told-2
-enum-told-2 c = search needs
-
-enum-told-3 : tie.Need-enum-told-3
-enum-told-3 c = search needs
-
-enum-told-4 : tie.Need-enum-told-4
-enum-told-4 c = search needs
-
--- what the class and the desk found give together
-found : (c : tie.After-class-of)
-    → withDesk (classOfCode (c .class-of .result)) (c .before .desk .result)
-    ≡ classifyResult
-    (c .before .before .before .before .before .before .before .before .before .before .before .before .before .args .plan .now)
-    (c .before .before .before .before .before .before .before .before .before .before .before .before .before .args .transaction)
-    (c .before .before .before .before .before .before .before .before .before .before .before .before .before .args .params)
-found c =
-    let f = c .before .before .before .before in
-    let e = f .before .before in
-    let d = e .before .before .before .before .before .before .before in
-    classified (d .args .plan .now) (d .args .transaction) (d .args .params) (plan-passes (e .before .before .before))
-    (exists (e .before)) _
-    (e .transaction-place .ensures) _ _ (passed f) (c .class-of .ensures) (c .before .desk .ensures)
+class-answer-requires : tie.Need-class-answer-requires
+class-answer-requires c κs =
+    let e = c .before .before in
+    let d = e .before .before .before .before .before .before .before in (
+      plan-passes (e .before .before .before),
+      placed e,
+      passed c,
+      belongs (d .args .plan .now) (d .args .transaction) (d .args .params) (plan-passes (e .before .before .before)) (exists (e .before)) _
+          (e .transaction-place .ensures),
+    )
 
 returns-4 : tie.Need-returns-4
 returns-4 c =
-    let f = c .before .before in
-    ap (λ (r : Class). withDesk (classOfCode r) (f .before .desk .result)) (sym (c .enum-told2 .given .1)) ∙ found f
-
-returns-5 : tie.Need-returns-5
-returns-5 c =
-    let f = c .before .before in
-    ap (λ (r : Class). withDesk (classOfCode r) (f .before .desk .result)) (sym (c .enum-told3 .given .1)) ∙ found f
-
-returns-6 : tie.Need-returns-6
-returns-6 c =
-    let f = c .before .before in
-    ap (λ (r : Class). withDesk (classOfCode r) (f .before .desk .result)) (sym (c .enum-told4 .given .1)) ∙ found f
+    let f = c .before in
+    let e = f .before .before in
+    let d = e .before .before .before .before .before .before .before in
+    classified (d .args .plan .now) (d .args .transaction) (d .args .params) (plan-passes (e .before .before .before))
+    (exists (e .before)) _ (e .transaction-place .ensures) _ (passed f) (c .class-answer .ensures)
 
 pub classify-spec : {M : Type 1} → statement M
 classify-spec =
@@ -155,14 +107,5 @@ classify-spec =
     transaction-place-requires
     parameters-pass-requires
     returns-3
-    mul-desk
-    shared-slice-read-desk
-    shared-slice-read-desk-2
-    desk-requires
-    class-of-requires
-    enum-told-2
-    enum-told-3
-    enum-told-4
-    returns-4
-    returns-5
-    returns-6)
+    class-answer-requires
+    returns-4)
