@@ -1,4 +1,5 @@
 // Runs a script of calls: what a plan writer or a desk engineer tries a plan with. docs/SCRIPT.md is the language.
+#![tactic(auto)]
 
 fn main() {
     script::run();

@@ -1,4 +1,6 @@
 // Conflicts between operations: the masks of desks by cell, which cells are shared, what makes an operation global, and the classifier.
+#![tactic(auto)]
+
 mod cause;
 mod class;
 mod mask;

@@ -1,5 +1,7 @@
 // The engine: all nine calls of the papers, and every type that a program needs. The calls that take the queue stand twice, on a lent slice
 // of records and on plain words.
+#![tactic(auto)]
+
 mod engine;
 
 pub use conflict::{Cause, ClassAnswer, classify};

@@ -1,5 +1,7 @@
 // A desk: its state and the new desk call, question 6, the order of those that wait, and questions 7 and 8 with the place of the
 // operation's transaction.
+#![tactic(auto)]
+
 mod admitted;
 mod check;
 mod state;

@@ -1,4 +1,6 @@
 // Running an operation on a store, and applying the update of a run.
+#![tactic(auto)]
+
 mod execution;
 mod told;
 

@@ -1,4 +1,6 @@
 // Frames: the words of one, the two sums, and reading it (questions 10 to 12).
+#![tactic(auto)]
+
 mod reader;
 mod sums;
 mod updates;

@@ -1,4 +1,6 @@
 // Plans: the plan reader (questions 1 to 4, and 17), and where a transaction and its steps stand.
+#![tactic(auto)]
+
 mod form;
 mod open;
 mod place;

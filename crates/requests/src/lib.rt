@@ -1,4 +1,6 @@
 // A request at a desk: where its operation goes, what the request comes to, and the call on a queue of words, lent or by value.
+#![tactic(auto)]
+
 mod asking;
 mod by_value;
 mod route;

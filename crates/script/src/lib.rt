@@ -19,6 +19,8 @@
 //     frames        frames that were sent; the starting frame, the frame reader
 //     events        the lines of requests and visits, and the token that goes on
 //     interpreter   lines, commands, faults, counts, and the run of a script
+#![tactic(auto)]
+
 mod answers;
 mod calls;
 mod changes;

@@ -1,4 +1,6 @@
 // The token, the frame that goes round: the others' updates sent on, a desk's own written, the seal, and the starting frame.
+#![tactic(auto)]
+
 mod forward;
 mod writer;
 

@@ -1,4 +1,5 @@
 // The verdict of the questions at the door.
+#![tactic(auto)]
 
 // Accepted, or refused with the number of the question whose answer is no.
 #[derive(Drop)]
