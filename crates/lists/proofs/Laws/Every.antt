@@ -29,6 +29,7 @@ module _ {A : Type 0} (f : A → Bool) where
 
   pub every_member : (l : List A) (x : A) → every f l ≡ true → Memᴰ x l → f x ≡ true
   unfolding every
+  every_member [] x e x4 = elim x4 [ ]
   every_member (y ∷ ys) x e (Memᴰ.head p) = ap f p ∙ and_fst (f y) (every f ys) e
   every_member (y ∷ ys) x e (Memᴰ.tail m) = every_member ys x (and_snd (f y) (every f ys) e) m
 

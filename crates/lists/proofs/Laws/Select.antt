@@ -136,6 +136,7 @@ module _ {A : Type 0} (f : A → Bool) where
       go false e = omega arith
 
   pub member_either : (t : A) (xs : List A) → Memᴰ t xs → Memᴰ t (select f xs) ⊎ Memᴰ t (select fails xs)
+  member_either t [] x' = elim x' [ ]
   member_either t (x ∷ xs) (Memᴰ.head p) = go (f x)
     where
       go : (b : Bool) → Memᴰ t (cond b (x ∷ select f xs) (select f xs))

@@ -14,6 +14,7 @@ use Rattle.lists.proofs.Laws.Places.{drop_here}
 module _ {A : Type 0} (f : A → Bool) where
   pub member_some : (x : A) (xs : List A) → Memᴰ x xs → f x ≡ true → some f xs ≡ true
   unfolding some
+  member_some x [] x3 e = elim x3 [ ]
   member_some x (y ∷ ys) (Memᴰ.head p) e = ap (λ (b : Bool). b || some f ys) (ap f (sym p) ∙ e)
   member_some x (y ∷ ys) (Memᴰ.tail m) e = ap (λ (b : Bool). f y || b) (member_some x ys m e) ∙ or-true (f y)
 
