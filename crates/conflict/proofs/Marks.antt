@@ -1,7 +1,7 @@
 -- One step's cells, joined row by row into the table.
 -- Assumes nothing.
 use mathlib.Core.Path.{◌≡◌, refl, ◌∙◌, sym, ap, ap₂}
-use mathlib.Core.Bool.{Bool, true, false, ◌&&◌, and_false}
+use mathlib.Core.Bool.{Bool, true, false, ◌&&◌, and-false}
 use mathlib.Core.List.{List}
 use mathlib.Core.Logic.{◌⊎◌, ⊎_elim}
 use Prim.Native.Nat.{ℕ, ◌+◌, ◌*◌, ◌/◌, ◌%◌, ◌≤◌, ◌<◌}
@@ -115,8 +115,8 @@ module _ (n : ℕ) (q : Partitioning) (w row c : ℕ) (small : row < 32) (in_tab
           let s = parts_cell c (table_field w) row (column_field w) (eqb-true (c / 128) (table_field w) ea)
           (eqb-true (c % 4) (column_field w) eb) (eqb-true (c / 4 % 32) row ex) in
           absurd (ne (omega (arith, s)))
-      go d true true false ex ea eb = simp (ea, eb, and_false)
-      go d true false b ex ea eb = simp (ea, and_false)
+      go d true true false ex ea eb = simp (ea, eb, and-false)
+      go d true false b ex ea eb = simp (ea, and-false)
       go d false a b ex ea eb =
           ⊎_elim (λ (l : c / 4 % 32 < row). simp (lt-ltb (c / 4 % 32) row l, lt-ltb (c / 4 % 32) (row + 1) (omega arith)))
           (λ (g : row ≤ c / 4 % 32). simp (

@@ -1,7 +1,7 @@
 -- "At most 32 updates per desk": the test of the whole list, and counting one update after another.
 -- Assumes nothing.
 use Rattle.std.proofs.Common.{◌≡◌, ℕ, ◌+◌, ◌<◌, ◌≤◌, Bool, true, false, cond, ◌&&◌, eqb, ltb, leb, ◌⊎◌, List, [], ◌∷◌, length, get_or, set, sym, refl, ap, ◌∙◌, subst, ap₂, inl, inr, ⊎_elim, arith, get_or-set_other, get_or-set_same, le-ltb, lt-ltb, eqb-true, le-leb, leb-true}
-use mathlib.Core.Bool.{and_false}
+use mathlib.Core.Bool.{and-false}
 use borrow.Author.Tests.{lt-leb, eqb-false}
 use Rattle.lists.specs.Lists.{every}
 use Rattle.lists.proofs.Laws.{and_fst, and_snd, every_same, member_every, by_less}
@@ -56,7 +56,7 @@ one_more c k z =
 
 -- the desk's count is tested before the update is counted; where the rest passes, that is as good as the whole count
 first_test : (c k : ℕ) (e : Bool) → (e ≡ true → (k ≡ 0) ⊎ (leb (c + 1 + k) 32 ≡ true)) → (leb (c + 1 + k) 32 && e) ≡ (ltb c 32 && e)
-first_test c k false h = and_false (leb (c + 1 + k) 32) ∙ sym (and_false (ltb c 32))
+first_test c k false h = and-false (leb (c + 1 + k) 32) ∙ sym (and-false (ltb c 32))
 first_test c k true h =
     ap (λ (b : Bool). b && true)
     (⊎_elim (one_more c k) (λ t. t ∙ sym (lt-ltb c 32 (omega (arith, leb-true (c + 1 + k) 32 t)))) (h refl))

@@ -2,7 +2,7 @@
 -- Assumes nothing.
 use Prim.Native.Nat.{ℕ}
 use mathlib.Core.Path.{◌≡◌, refl, ◌∙◌, ap}
-use mathlib.Core.Bool.{and_false}
+use mathlib.Core.Bool.{and-false}
 use mathlib.Core.List.{List, [], ◌∷◌}
 use lib.ListN.{length, get_or}
 use borrow.Author.Tests.{ne_eqb}
@@ -31,7 +31,7 @@ refused_keeps plan h snapshot frame out replies question e = refused_left plan h
 pub other_sizes_refused : OtherSizesRefused
 unfolding visit_result visit_verdict visit_buffers_fit
 other_sizes_refused plan h snapshot frame out replies accept ne =
-    rw (accept, ne_eqb (length snapshot) 1024 ne, and_false (desk_buffers_fit h.cells h.queue)) refl
+    rw (accept, ne_eqb (length snapshot) 1024 ne, and-false (desk_buffers_fit h.cells h.queue)) refl
 
 same_verdict : (plan : List ℕ) (h : Holding) (snapshot snapshot' frame out replies : List ℕ) → length snapshot ≡ length snapshot'
     → visit_verdict plan h snapshot' frame out replies ≡ visit_verdict plan h snapshot frame out replies

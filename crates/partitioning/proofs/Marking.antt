@@ -1,7 +1,7 @@
 -- The rows of one step, joined into their set.
 -- Assumes nothing.
 use mathlib.Core.Path.{◌≡◌, refl, ◌∙◌, sym, ap₂}
-use mathlib.Core.Bool.{Bool, true, false, not, ◌&&◌, cond, and_false}
+use mathlib.Core.Bool.{Bool, true, false, not, ◌&&◌, cond, and-false}
 use mathlib.Core.List.{List}
 use Prim.Native.Nat.{ℕ, ◌≤◌, ◌<◌}
 use lib.Bits.{bit_or}
@@ -18,7 +18,7 @@ module _ (q w : ℕ) (t : List ℕ) where
 
   pub mark_open_lem : q ≡ 14 → mark q w t ≡ t
   unfolding mark
-  mark_open_lem e = rw (eq-eqb q 14 e, and_false (leb (kind_of w) 4))
+  mark_open_lem e = rw (eq-eqb q 14 e, and-false (leb (kind_of w) 4))
 
   -- s is the set, and r are the rows
   pub mark_here : (s r : ℕ) → kind_of w ≤ 4 → (q ≡ 14 → ⊥) → s ≡ set_of q w → r ≡ rows_of w → set t s (bit_or (get_or t s 0) r) ≡ mark q w t

@@ -1,7 +1,7 @@
 -- What questions 3 and 4 still say from a place of the walk on, and how that goes over one word.
 -- Assumes nothing.
 use mathlib.Core.Path.{◌≡◌, refl}
-use mathlib.Core.Bool.{Bool, true, false, not, ◌&&◌, ◌||◌, cond, and_false}
+use mathlib.Core.Bool.{Bool, true, false, not, ◌&&◌, ◌||◌, cond, and-false}
 use mathlib.Core.Logic.{◌⊎◌, inl, inr, ⊎_elim}
 use borrow.Author.Tests.{ltb-true, lt-ltb, leb-false, le-leb, lt-leb}
 use mathlib.Core.List.{List, [], ◌∷◌, map}
@@ -76,10 +76,10 @@ unfolding rest_in every tell_count
 in_bad k p n tells w ws m e = go (step_formed w) refl
   where
     go : (b : Bool) → step_formed w ≡ b → rest_in (suc k) p n tells (w ∷ ws) m ≡ refused 3
-    go false f = simp (f, and_false)
+    go false f = simp (f, and-false)
     go true f =
         let h : most_tells < tells + one_if_tells (step_of w) = leb-false (tells + one_if_tells (step_of w)) most_tells (simp f at e) in
-        simp (f, lt-leb (tells + (one_if_tells (step_of w) + tell_count (map step_of (take k ws)))) most_tells (omega arith), and_false)
+        simp (f, lt-leb (tells + (one_if_tells (step_of w) + tell_count (map step_of (take k ws)))) most_tells (omega arith), and-false)
 
 in_good : (k p n tells w : ℕ) (ws : List ℕ) (m : Bool) → step_fits tells w ≡ true
     → rest_in (suc k) p n tells (w ∷ ws) m ≡ rest_in k p n (tells + one_if_tells (step_of w)) ws (m || not (step_exists p (step_of w)))

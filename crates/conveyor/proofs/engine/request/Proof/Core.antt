@@ -3,7 +3,7 @@
 -- Assumes nothing.
 use mathlib.Core.Path.{refl, subst}
 use Prim.Native.Nat.{ℕ, ◌<◌, ◌^◌}
-use mathlib.Core.List.{List, [], ◌∷◌, map, map_id}
+use mathlib.Core.List.{List, [], ◌∷◌, map, map-id}
 use lib.ListN.{length}
 use seplogic.Ra.Ura.{Ura}
 use mir.Syntax.{w32, w64}
@@ -52,7 +52,7 @@ Fields c = Is R.the_row c.result (result_val c.result ∷ []) × (Is Row c.row (
 pub fields : (c : RequestedRow) (w : Val) → Is S.the_row c (w ∷ []) → Fields c
 fields c w is =
     let fs = LL.owed S.the_type S'.the_laws c (w ∷ []) is in
-    (fs.0, (subst (λ (ys : List ℕ). Is Row ys (row_val c ∷ [])) (map_id c.row) fs.1.0, (fs.1.1.0.1, fs.1.1.1.0.1)))
+    (fs.0, (subst (λ (ys : List ℕ). Is Row ys (row_val c ∷ [])) (map-id c.row) fs.1.0, (fs.1.1.0.1, fs.1.1.1.0.1)))
 
 module _ (x : Entry) where
   abbrev pub core_lfts : Lft × (Lft × Unit {0})
