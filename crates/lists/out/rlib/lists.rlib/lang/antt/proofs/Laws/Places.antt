@@ -1,0 +1,23 @@
+-- The element at a place is a member; a list from a place on: either nothing is left, or the element there and what is behind it.
+-- Assumes nothing.
+use mathlib.Core.Path.{◌≡◌, refl}
+use mathlib.Core.Logic.{◌⊎◌, inl, inr}
+use mathlib.Core.List.{List, [], ◌∷◌, Memᴰ}
+use Prim.Native.Nat.{ℕ, zero, suc, ◌+◌, ◌<◌}
+use native.Mathlib.Nat.{not-suc-le-zero, le_of_suc-le-suc}
+use native.Mathlib.Numerals.{add-one}
+use lib.ListN.{length, get_or, drop, drop_of_length-le}
+use lib.Seq.{drop-cons}
+use Rattle.lists.proofs.Laws.Tests.{by_less}
+
+pub get_or_member : {A : Type 0} (l : List A) (i : ℕ) (d : A) → i < length l → Memᴰ (get_or l i d) l
+get_or_member [] i d h = absurd (not-suc-le-zero h)
+get_or_member (x ∷ l) zero d h = Memᴰ.head refl
+get_or_member (x ∷ l) (suc i) d h = Memᴰ.tail (get_or_member l i d (le_of_suc-le-suc h))
+
+module _ {A : Type 0} (l : List A) (i : ℕ) (d : A) where
+  pub drop_here : i < length l → drop i l ≡ get_or l i d ∷ drop (i + 1) l
+  drop_here h = rw (add-one, drop-cons l i d h)
+
+  pub drop_cases : (drop i l ≡ []) ⊎ ((i < length l) × (drop i l ≡ get_or l i d ∷ drop (i + 1) l))
+  drop_cases = by_less i (length l) (λ h. inr (h, drop_here h)) (λ h. inl (drop_of_length-le l h))

@@ -1,0 +1,1 @@
+# [ derive ( Drop ) ] pub enum Verdict { Accepted , Refused ( u32 ) , }
