@@ -37,7 +37,8 @@ module _ (queue : List Request) where
   past : (k : ℕ) → stored_first 32 queue ≡ stored_first (32 + k) queue
   past zero = refl
   past (suc k) =
-      past k ∙ stored_in_past (stored_first (32 + k) queue) (32 + k) (record_at queue (32 + k)) (stored_first_length (32 + k)) (omega arith)
+      past k
+      ∙ stored_in_past (stored_first (32 + k) queue) (32 + k) (record_at queue (32 + k)) (stored_first_length (32 + k)) (omega arith)
       ∙ stored_first_next (32 + k) ∙ ap (λ (m : ℕ). stored_first m queue) (omega arith)
 
   pub stored_first_bounded : (n : ℕ) → stored_first (min n 32) queue ≡ stored_first n queue
@@ -46,7 +47,8 @@ module _ (queue : List Request) where
       (λ l. ap (λ (m : ℕ). stored_first m queue) (min-eq_right l) ∙ past (n - 32) ∙ ap (λ (m : ℕ). stored_first m queue) (omega arith))
 
 -- a record that is stored among the words of a queue is stored among its records
-pub records_in_stored_in : (ws : List ℕ) (at : ℕ) (r : Request) → length ws ≡ 192 → records_in (stored_in ws at r) ≡ set (records_in ws) at r
+pub records_in_stored_in : (ws : List ℕ) (at : ℕ) (r : Request) → length ws ≡ 192
+    → records_in (stored_in ws at r) ≡ set (records_in ws) at r
 records_in_stored_in ws at r e =
     sym (queue_in_row (stored_in ws at r) (stored_in_length ws at r ∙ e)) ∙ queue_in_stored_in ws at r
     ∙ ap (λ (q : List Request). set q at r) (queue_in_row ws e)

@@ -57,7 +57,8 @@ module _ (ws : List ℕ) (w : ℕ) (h : w < 32) where
           moved = stored r
               ∙ ap₂ (λ (i : ℕ) (x : Request). overwritten (inserted i x (take w rs)) rs) next old
               ∙ ap (λ (t : List Request). overwritten t rs) (inserted_again (take w rs) (at - 1) no_request (omega (arith, size)))
-              ∙ ap (λ (x : Request). overwritten (inserted (at - 1) x (take w rs)) rs) (get_or-take w rs (at - 1) no_request (omega arith));
+              ∙ ap (λ (x : Request). overwritten (inserted (at - 1) x (take w rs)) rs)
+              (get_or-take w rs (at - 1) no_request (omega arith));
         }
 
     pub moving_done : (place : ℕ) → at ≡ place → (r : Request)

@@ -1,12 +1,5 @@
-pub mod Answers
-pub mod Calls
 pub mod Copying
 pub mod Inserting
-pub mod LentAgain
-pub mod LocalArray
-pub mod Parts
-pub mod Records
 pub mod Rows
 pub mod RowsLeft
-pub mod SharedSlice
 pub mod StoringBack

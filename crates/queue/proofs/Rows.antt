@@ -10,7 +10,7 @@ use mathlib.Core.Path.{◌≡◌, refl, sym, ◌∙◌, ap}
 use mathlib.Core.Logic.{◌≢◌, ◌⊎◌, inl, inr}
 use Prim.Native.Nat.{ℕ, ◌+◌, ◌*◌, ◌<◌, ◌≤◌}
 use native.Mathlib.Omega.{arith}
-use mathlib.Core.Bool.{Bool, true, false, false≢true, cond, ◌&&◌}
+use mathlib.Core.Bool.{Bool, true, false, cond, ◌&&◌}
 use mathlib.Core.List.{List, []}
 use lib.Dec.{eqb, ltb}
 use lib.ListN.{length, get_or, set, take, replicate, length-set, length-replicate}
@@ -196,7 +196,8 @@ module _ (ws : List ℕ) (at : ℕ) (r : Request) where
   stored_row e h =
       queue_in_row (over_record ws (at * 6) r) (over_length ws (at * 6) r ∙ e)
       ∙ ext_get_or no_request (records_in (over_record ws (at * 6) r)) (set (records_in ws) at r)
-      (length_tabulate 32 (record_in (over_record ws (at * 6) r)) ∙ sym (length-set (records_in ws) at r ∙ length_tabulate 32 (record_in ws)))
+      (length_tabulate 32 (record_in (over_record ws (at * 6) r))
+      ∙ sym (length-set (records_in ws) at r ∙ length_tabulate 32 (record_in ws)))
       (λ b l. stored_at e h b (omega (arith, length_tabulate 32 (record_in (over_record ws (at * 6) r)))))
       ∙ ap (λ (q : List Request). set q at r) (sym (queue_in_row ws e))
 

@@ -49,7 +49,8 @@ module _ (ws vs : List ℕ) (e : records_in ws ≡ records_in vs) where
   records_in_injective l m =
       ext_get_or 0 ws vs (l ∙ sym m) (λ j h.
       let parts : j ≡ j / 6 * 6 + j % 6 = omega arith in
-      ap (λ (i : ℕ). get_or ws i 0) parts ∙ same_word (j / 6) (j % 6) (omega arith) (omega arith) ∙ ap (λ (i : ℕ). get_or vs i 0) (sym parts))
+      ap (λ (i : ℕ). get_or ws i 0) parts
+      ∙ same_word (j / 6) (j % 6) (omega arith) (omega arith) ∙ ap (λ (i : ℕ). get_or vs i 0) (sym parts))
 
 pub records_in_stored_all : (queue : List Request) → length queue ≡ 32 → records_in (stored_first 32 queue) ≡ queue
 records_in_stored_all queue e =
@@ -70,7 +71,8 @@ module _ (ws : List ℕ) (queue : List Request) where
 stored_all_records : (ws : List ℕ) → length ws ≡ 192 → stored_first 32 (records_in ws) ≡ ws
 stored_all_records ws e =
     let rs : List Request = records_in ws in
-    records_in_injective (stored_first 32 rs) ws (records_in_stored_all rs (length_tabulate 32 (record_in ws))) (stored_first_length rs 32) e
+    records_in_injective (stored_first 32 rs) ws (records_in_stored_all rs (length_tabulate 32 (record_in ws)))
+    (stored_first_length rs 32) e
 
 pub row_left_of_lem : (ws vs : List ℕ) → length vs ≡ length ws → (eqb (length ws) 192 ≡ false → vs ≡ ws) → vs ≡ row_left ws (queue_in vs)
 row_left_of_lem ws vs l same =

@@ -47,7 +47,8 @@ module _ (queue : List Request) (ws : List ℕ) (from end : ℕ) where
   behind : (i : ℕ) → i < length queue → from ≤ i → min end 32 ≤ i → record_at (stored_back queue ws from end) i ≡ record_at queue i
   behind i h l u = get_or_stored_back i h ∙ simp (le-leb from i l, le-ltb i (min end 32) u)
 
-  pub get_or_stored_back_outside : (i : ℕ) → (i < from) ⊎ (min end 32 ≤ i) → record_at (stored_back queue ws from end) i ≡ record_at queue i
+  pub get_or_stored_back_outside : (i : ℕ) → (i < from) ⊎ (min end 32 ≤ i)
+      → record_at (stored_back queue ws from end) i ≡ record_at queue i
   get_or_stored_back_outside i o =
       by_less i (length queue)
       (λ h. by_less i from (before i h) (λ l. behind i h l (⊎_elim (λ (u : i < from). absurd (omega arith)) (λ u. u) o)))

@@ -1,5 +1,5 @@
-// The queue of waiting requests, as a lent slice of records and as plain words. These functions alone touch the slice; all else is reckoned
-// on the words.
+// The queue of waiting requests, as a lent slice of records and as plain words. These functions alone touch the slice; all else is
+// reckoned on the words.
 #![tactic(auto)]
 
 mod lent;

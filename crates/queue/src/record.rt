@@ -7,7 +7,7 @@ pub const QUEUE_SIZE: usize = 32;
 
 pub const MOST_WAITING: u32 = QUEUE_SIZE as u32;
 
-#[derive(Drop)]
+#[derive(Clone, Copy)]
 pub struct Request {
     pub client: u32,
     pub transaction: u32,
