@@ -45,6 +45,7 @@ module _ (f : ℕ → Bool) where
 
   from_least : (m : ℕ) (cs : List ℕ) (c : ℕ) → Memᴰ c cs → f c ≡ true → lowest_from f m cs ≤ c
   unfolding lowest_from
+  from_least m [] c x'' p = elim x'' [ ]
   from_least m (b ∷ cs) c (Memᴰ.head e) p =
       let h = from_le (cond (ltb b m && f b) b m) cs in
       let l = lower_least b m (ap f (sym e) ∙ p) in

@@ -58,6 +58,7 @@ module _ (a : Access) (ps : List ℕ) where
   pub of_names : (ss : List Step) (t k : ℕ) (r : Source) → Memᴰ (cell a t k r) ss
       → Memᴰ (cell_number t (value_of ps r) k) (cells_named a ps ss)
   unfolding cells_named
+  of_names [] t k r x' = elim x' [ ]
   of_names (s ∷ ss) t k r (Memᴰ.head p) =
       subst (λ (x : Step). Memᴰ (cell_number t (value_of ps r) k) (cells_named a ps (x ∷ ss))) p (rw (same_self a) (Memᴰ.head refl))
   of_names (operand f v ∷ ss) t k r (Memᴰ.tail m) = of_names ss t k r m
