@@ -1,0 +1,19 @@
+-- The store as the first i pairs left it, one pair after another.
+-- Assumes nothing.
+use mathlib.Core.Path.{◌≡◌, refl, ◌∙◌, sym, ap}
+use Prim.Native.Nat.{◌-◌, ◌≤◌, ◌<◌}
+use native.Mathlib.Omega.{arith}
+use lib.ListN.{length, get_or, length-set}
+use Rattle.operation.specs.Store.{apply_update}
+use Rattle.execution.specs.Answer.{pairs}
+use Rattle.execution.proofs.Updates.{apply_none, apply_written, apply_passed, pairs_past}
+use borrow.Author.Rules.{rules}
+use Rattle.execution.proofs.execution.apply.Given as goal
+
+abbrev pub invariant-loop-i : goal.invariant-loop-i
+invariant-loop-i l =
+    (l.i ≤ l.update.count) × (l.i ≤ 12) × (length l.update.cells ≡ 12) × (length l.update.values ≡ 12) × (length l.store ≡ length l.initial.store)
+    × (l.store ≡ apply_update (pairs l.i l.update.cells l.update.values) l.initial.store)
+
+abbrev pub decreases-loop-i : goal.decreases-loop-i
+decreases-loop-i l = l.update.count - l.i
