@@ -18,8 +18,8 @@ pub fn frame_sums(words: &[u32]) -> Sums
     while at < words.len() {
         let word = words[at];
         at = at + 1;
-        first = std::num::wrapping_add_u32(first, word);
-        second = std::num::wrapping_add_u32(second, first);
+        first = first.wrapping_add(word);
+        second = second.wrapping_add(first);
     }
     Sums {
         first: first,
