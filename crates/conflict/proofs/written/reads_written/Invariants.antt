@@ -1,0 +1,23 @@
+-- Whether some operation may write a cell that one operation may read: what the words still to come say is the whole answer.
+-- Assumes nothing.
+use mathlib.Core.Path.{◌≡◌, ◌∙◌, sym}
+use Prim.Native.Nat.{◌-◌}
+use native.Mathlib.Omega.{arith}
+use lib.ListN.{length}
+use Rattle.lists.specs.Lists.{some}
+use Rattle.plan.specs.Plan.{reads}
+use Rattle.plan.specs.Decode.{plan_of}
+use Rattle.plan.specs.Place.{transaction_from}
+use Rattle.operation.specs.Operation.{cells_named}
+use Rattle.conflict.specs.Written.{written}
+use Rattle.conflict.proofs.WriteWords.{written_from, written_start, written_here, written_other, written_done}
+use borrow.Author.Rules.{rules}
+use Rattle.conflict.proofs.written.reads_written.Given as goal
+
+abbrev pub invariant-loop-i : goal.invariant-loop-i
+invariant-loop-i l =
+    some (written (plan_of l.plan)) (cells_named reads l.params (transaction_from l.plan l.at).steps)
+    ≡ written_from (cells_named reads l.params (transaction_from l.plan l.at).steps) l.plan l.i
+
+abbrev pub decreases-loop-i : goal.decreases-loop-i
+decreases-loop-i l = length l.plan - l.i
