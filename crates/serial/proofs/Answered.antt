@@ -34,6 +34,7 @@ module _ (S : System) where
 
   replies_hold : (q : List (Request Op)) (s : Store) (r : Request Op) → Memᴰ r q →
       (s' : Store) × Memᴰ (r.client, reply r.op s') (replies_of S q s)
+  replies_hold [] s r x' = elim x' [ ]
   replies_hold (t ∷ q) s r (Memᴰ.head e) = (s, Memᴰ.head (ap (λ (t : Request Op). (t.client, reply t.op s)) e))
   replies_hold (t ∷ q) s r (Memᴰ.tail m) = let h = replies_hold q (run_one S t.op s) r m in (h.0, Memᴰ.tail h.1)
 
