@@ -21,7 +21,7 @@ use word::fields;
 
 // What makes an operation global: the lowest cell that it may write and another desk may touch, the lowest such desk, and the lowest
 // transaction with an operation of that desk that may touch the cell.
-#[derive(Drop)]
+#[derive(Clone, Copy)]
 pub struct Cause {
     pub cell: u32,
     pub desk: u32,

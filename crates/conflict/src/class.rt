@@ -23,7 +23,7 @@ use word::fields;
 
 // The class, with the operation's desk where it has one and, if it is global, its cause; or refused with the number of the question whose
 // answer is no.
-#[derive(Drop)]
+#[derive(Clone, Copy)]
 pub enum ClassAnswer {
     Free,
     Local(u32),

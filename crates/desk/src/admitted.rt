@@ -16,7 +16,7 @@ use queue::Request;
 use word::fields;
 
 // The place of the transaction's word, or refused with 7 or 8.
-#[derive(Drop)]
+#[derive(Clone, Copy)]
 pub enum Located {
     At(usize),
     Refused(u32),

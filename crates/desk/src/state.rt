@@ -6,7 +6,7 @@ use verdict::Verdict;
 use word::fields;
 
 // Which desk it is, how many requests wait, and the number of the visit that it awaits, which can pass a word.
-#[derive(Drop)]
+#[derive(Clone, Copy)]
 pub struct Desk {
     pub desk: u32,
     pub waiting: u32,
@@ -14,7 +14,7 @@ pub struct Desk {
 }
 
 // The state of a new desk, or refused with the number of the question whose answer is no.
-#[derive(Drop)]
+#[derive(Clone, Copy)]
 pub enum DeskAnswer {
     Opened(Desk),
     Refused(u32),

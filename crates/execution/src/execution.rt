@@ -13,7 +13,7 @@ use crate::told::Told;
 use word::fields;
 
 // Done or declined, with the accumulator at the end or stop; and the told numbers in order, zero where untold.
-#[derive(Drop)]
+#[derive(Clone, Copy)]
 pub struct Reply {
     pub done: bool,
     pub number: u32,
@@ -24,21 +24,21 @@ pub struct Reply {
 }
 
 // The written cells and values in step order: the first `count` of each.
-#[derive(Drop)]
+#[derive(Clone, Copy)]
 pub struct Update {
     pub count: usize,
     pub cells: [u32; 12],
     pub values: [u32; 12],
 }
 
-#[derive(Drop)]
+#[derive(Clone, Copy)]
 pub struct Outcome {
     pub reply: Reply,
     pub update: Update,
 }
 
 // The accumulator after a step, or the stop of the run.
-#[derive(Drop)]
+#[derive(Clone, Copy)]
 enum Next {
     Continue(u32),
     Decline,

@@ -6,7 +6,7 @@ ghost use Rattle.execution.specs.Answer.{told_of, ZerosBehind};
 use plan::MOST_TELLS;
 
 // The first `count` numbers, in the order of telling; zeros stand behind them.
-#[derive(Drop)]
+#[derive(Clone, Copy)]
 pub(crate) struct Told {
     pub count: usize,
     pub numbers: [u32; MOST_TELLS],

@@ -15,7 +15,7 @@ pub const LEAST_FRAME: usize = 4;
 pub const LONGEST_FRAME: usize = 6404;
 
 // The visit number, or the number of the question whose answer is no.
-#[derive(Drop)]
+#[derive(Clone, Copy)]
 pub enum FrameAnswer {
     Visit(u32),
     Refused(u32),

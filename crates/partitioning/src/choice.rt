@@ -6,7 +6,7 @@ use crate::{filling, search};
 use verdict::Verdict;
 
 // The cost of the plan that is filled, or refused with the number of the question whose answer is no.
-#[derive(Drop)]
+#[derive(Clone, Copy)]
 pub enum Choice {
     Chosen(u32),
     Refused(u32),

@@ -10,7 +10,7 @@ use crate::{cost, touched};
 use word::fields;
 
 // The number of a filling, and its cost.
-#[derive(Drop)]
+#[derive(Clone, Copy)]
 pub(crate) struct Found {
     pub(crate) number: u32,
     pub(crate) cost: u32,

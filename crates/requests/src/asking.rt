@@ -36,7 +36,7 @@ use verdict::Verdict;
 
 // Replied (done or declined, with the number and the told ones), waiting, elsewhere with the operation's desk, or refused with the
 // question's number.
-#[derive(Drop)]
+#[derive(Clone, Copy)]
 pub enum RequestAnswer {
     Replied(Reply),
     Waits,
@@ -45,7 +45,7 @@ pub enum RequestAnswer {
 }
 
 // The answer, and the state after the call.
-#[derive(Drop)]
+#[derive(Clone, Copy)]
 pub struct RequestResult {
     pub answer: RequestAnswer,
     pub state: Desk,
@@ -53,7 +53,7 @@ pub struct RequestResult {
 
 // The result, and the place from which on the records have changed, up to the last that waits then: where none has, the place behind those
 // that wait.
-#[derive(Drop)]
+#[derive(Clone, Copy)]
 pub struct RequestStep {
     pub result: RequestResult,
     pub from: usize,

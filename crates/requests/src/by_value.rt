@@ -14,7 +14,7 @@ use queue::QUEUE_WORDS;
 
 // The result, the words of the queue behind the request, and at which places its records have changed: from `from` on up to `end`, the
 // number that waits then.
-#[derive(Drop)]
+#[derive(Clone, Copy)]
 pub struct RequestedRow {
     pub result: RequestResult,
     pub row: [u32; QUEUE_WORDS],

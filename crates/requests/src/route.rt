@@ -12,7 +12,7 @@ ghost use Rattle.requests.specs.Route.{way_of, way_by};
 use queue::Request;
 
 // It runs at once, waits at this desk, or is another desk's.
-#[derive(Drop)]
+#[derive(Clone, Copy)]
 pub enum Route {
     Runs,
     Waits,

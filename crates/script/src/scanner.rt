@@ -114,7 +114,7 @@ fn extended(value: u64, digit: u64, base: u64) -> u64 {
 }
 
 // What the word at hand is: a number up to a bound, or else 0.
-#[derive(Drop)]
+#[derive(Clone, Copy)]
 struct Scanned {
     is_number: bool,
     value: u64,

@@ -2,7 +2,7 @@
 #![tactic(auto)]
 
 // Accepted, or refused with the number of the question whose answer is no.
-#[derive(Drop)]
+#[derive(Clone, Copy)]
 pub enum Verdict {
     Accepted,
     Refused(u32),

@@ -28,14 +28,14 @@ use verdict::Verdict;
 use word::fields;
 
 // The words of the outgoing frame and the count of replies, or refused with the question's number.
-#[derive(Drop)]
+#[derive(Clone, Copy)]
 pub enum VisitAnswer {
     Forwarded(usize, usize),
     Refused(u32),
 }
 
 // The answer, and the state after the call.
-#[derive(Drop)]
+#[derive(Clone, Copy)]
 pub struct VisitResult {
     pub answer: VisitAnswer,
     pub state: Desk,

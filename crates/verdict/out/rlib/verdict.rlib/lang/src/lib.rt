@@ -1,1 +1,1 @@
-# [ derive ( Drop ) ] pub enum Verdict { Accepted , Refused ( u32 ) , }
+# [ derive ( Clone , Copy ) ] pub enum Verdict { Accepted , Refused ( u32 ) , }
