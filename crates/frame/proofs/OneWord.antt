@@ -3,7 +3,7 @@
 use Rattle.std.proofs.Common.{◌≡◌, ℕ, zero, suc, ◌+◌, ◌-◌, ◌%◌, ◌^◌, ◌<◌, ◌≤◌, Bool, true, false, eqb, ◌⊎◌, List, [], ◌∷◌, length, get_or, take, set, sym, refl, ap, ◌∙◌, subst, inl, inr, ⊎_elim, le_of_suc-le-suc, not-suc-le-zero, add_assoc, eq-or-lt_of_le, arith, length-set, length-take-le, get_or-set_other, get_or-take, get_or-set_same, eqb-true}
 use native.Mathlib.Nat.{mod-add-mod}
 use lib.Seq.{take-set-le, take-set-lt}
-use Rattle.verdict.specs.Verdict.{accepted, refused}
+use Rattle.verdict.specs.Verdict.{refused}
 use Rattle.lists.proofs.Laws.{and_fst, and_snd}
 use Rattle.plan.specs.Decode.{plan_of}
 use Rattle.word.specs.Words.{AllWords}

@@ -9,7 +9,7 @@ use Rattle.verdict.specs.Verdict.{Verdict, accepted, refused}
 use Rattle.lists.specs.Lists.{every}
 use Rattle.plan.specs.Decode.{plan_of}
 use Rattle.frame.specs.Frame.{updates_words, frame_around, frame_words, starting_frame}
-use Rattle.frame.specs.Admission.{frame_visit, frame_updates, desk_count, read_verdict, ReadsAs}
+use Rattle.frame.specs.Admission.{frame_visit, desk_count, read_verdict, ReadsAs}
 use Rattle.token.specs.WellFormed.{WellFormed}
 use Rattle.token.specs.Readers.{ReadersAgree, StartingReads}
 use Rattle.frame.specs.Answer.{part_read, visit_number, refusal, visit_read}

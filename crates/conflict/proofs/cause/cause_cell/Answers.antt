@@ -1,21 +1,18 @@
 -- The lowest cell that an operation may write and another desk may touch: the lowest so far, and what the steps still to come say.
 -- Assumes nothing.
-use mathlib.Core.Path.{◌≡◌, ◌∙◌, sym, ap}
+use mathlib.Core.Path.{◌∙◌, sym, ap}
 use mathlib.Core.List.{List}
-use Prim.Native.Nat.{ℕ, ◌-◌, ◌≤◌}
+use Prim.Native.Nat.{ℕ, ◌≤◌}
 use native.Mathlib.Omega.{arith}
 use lib.ListN.{length}
 use Rattle.lists.proofs.Laws.{length_tabulate}
 use Rattle.plan.specs.Plan.{writes, Step}
 use Rattle.plan.specs.Decode.{plan_of, row_of}
-use Rattle.plan.specs.Place.{transaction_from}
-use Rattle.plan.proofs.Steps.{steps_from, steps_all}
+use Rattle.plan.proofs.Steps.{steps_all}
 use Rattle.operation.specs.Operation.{value_of, cells_named}
 use Rattle.conflict.specs.Touch.{desk_mask}
-use Rattle.conflict.specs.Cause.{cause_cell}
 use Rattle.conflict.proofs.LowestCells.{lowest_from, tabled_other, cause_cell_walked}
 use Rattle.conflict.proofs.Named.{row_passes, lowest_here, lowest_other, lowest_done}
-use borrow.Author.Rules.{rules}
 use Rattle.conflict.proofs.cause.cause_cell.Goals as goal
 
 pub loop-s-init : goal.loop-s-init

@@ -1,10 +1,8 @@
 -- The lowest other desk in a mask: none below the one at hand passes.
 -- Assumes nothing.
 use mathlib.Core.Path.{◌∙◌, sym}
-use Prim.Native.Nat.{◌-◌, ◌≤◌}
 use native.Mathlib.Omega.{arith}
-use Rattle.lists.proofs.Laws.{FailsBelow, fails_below_none, fails_below_next, lowest_below_is, lowest_below_past}
-use borrow.Author.Rules.{rules}
+use Rattle.lists.proofs.Laws.{fails_below_none, fails_below_next, lowest_below_is, lowest_below_past}
 use Rattle.conflict.specs.Cause.{is_other, cause_desk}
 use Rattle.conflict.proofs.cause.cause_desk.Goals as goal
 

@@ -10,7 +10,6 @@ use Rattle.plan.specs.Decode.{plan_of}
 use Rattle.conflict.specs.Touch.{desk_mask}
 use Rattle.conflict.specs.Cause.{cause_desk}
 use Rattle.conflict.proofs.OtherDesks.{found_desk_low, cause_at_found}
-use borrow.Author.Rules.{rules}
 use Rattle.conflict.proofs.cause.cause_of.Goals as goal
 
 pub bounds-masks-cell : goal.bounds-masks-cell

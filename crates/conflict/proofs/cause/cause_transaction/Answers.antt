@@ -4,9 +4,9 @@
 use mathlib.Core.Path.{◌≡◌, refl, ◌∙◌, sym, ap}
 use mathlib.Core.Bool.{Bool}
 use mathlib.Core.List.{List}
-use Prim.Native.Nat.{ℕ, ◌+◌, ◌-◌, ◌≤◌}
+use Prim.Native.Nat.{ℕ, ◌+◌}
 use native.Mathlib.Omega.{arith}
-use Rattle.lists.proofs.Laws.{FailsBelow, fails_below_none, fails_below_next, lowest_below_is, lowest_below_past}
+use Rattle.lists.proofs.Laws.{fails_below_none, fails_below_next, lowest_below_is, lowest_below_past}
 use Rattle.plan.specs.Plan.{Transaction}
 use Rattle.plan.specs.Decode.{plan_of}
 use Rattle.plan.specs.Place.{StandsAt, transaction_place, transaction_from, steps_at}
@@ -15,7 +15,6 @@ use Rattle.plan.proofs.Places.{stands_at_lem, transaction_is, place_next}
 use Rattle.conflict.specs.Touch.{steps_touch}
 use Rattle.conflict.specs.Cause.{cause_transaction}
 use Rattle.conflict.proofs.Touching.{touched_by}
-use borrow.Author.Rules.{rules}
 use Rattle.conflict.proofs.cause.cause_transaction.Goals as goal
 
 abbrev touches : List ℕ → ℕ → ℕ → ℕ → Bool

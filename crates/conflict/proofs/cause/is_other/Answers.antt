@@ -2,7 +2,6 @@
 -- Assumes nothing.
 use native.Mathlib.Omega.{arith}
 use borrow.Author.Tests.{eq-eqb, ne_eqb}
-use borrow.Author.Rules.{rules}
 use Rattle.conflict.specs.Cause.{is_other}
 use Rattle.conflict.proofs.cause.is_other.Goals as goal
 

@@ -3,7 +3,6 @@
 use mathlib.Core.Path.{sym}
 use native.Mathlib.Omega.{arith}
 use borrow.Author.Tests.{le-ltb, lt-ltb}
-use borrow.Author.Rules.{rules}
 use Rattle.conflict.specs.Cause.{has_other}
 use Rattle.conflict.proofs.cause.lower_cell.Goals as goal
 

@@ -1,8 +1,6 @@
 -- Whether an operation of a desk makes a cell that of a step: whether the step can name it, and then the desks of its row.
 -- Assumes nothing.
 use mathlib.Core.Path.{◌∙◌, sym}
-use borrow.Author.Tests.{not-true, not-false}
-use borrow.Author.Rules.{rules}
 use Rattle.conflict.proofs.Marks.{step_touches_none}
 use Rattle.conflict.proofs.GivenCells.{not_given_touches, given_touches}
 use Rattle.conflict.proofs.cause.step_touches.Goals as goal

@@ -2,14 +2,12 @@
 -- Assumes nothing.
 use mathlib.Core.Path.{◌≡◌, ◌∙◌, sym, ap}
 use mathlib.Core.Bool.{true}
-use borrow.Author.Tests.{not-true, not-false}
 use Rattle.verdict.specs.Verdict.{accepted, verdict_of}
 use Rattle.plan.specs.Decode.{plan_of}
 use Rattle.plan.specs.Admission.{plan_verdict}
 use Rattle.plan.specs.Place.{StandsAt, transaction_from}
 use Rattle.operation.specs.Admission.{transaction_exists, parameters_pass}
 use Rattle.conflict.proofs.Classified.{plan_refused, no_transaction_lem, stands, parameters_refused, belongs, classified}
-use borrow.Author.Rules.{rules}
 use Rattle.conflict.proofs.class.classify.Goals as goal
 
 pub returns-in-Refused : goal.returns-in-Refused

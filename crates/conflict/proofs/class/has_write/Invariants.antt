@@ -1,15 +1,11 @@
 -- Whether a transaction has a write step: what the steps still to come say is the whole answer.
 -- Assumes nothing.
-use mathlib.Core.Path.{◌≡◌, ◌∙◌, sym, ap}
+use mathlib.Core.Path.{◌≡◌}
 use Prim.Native.Nat.{◌-◌}
-use native.Mathlib.Omega.{arith}
-use borrow.Author.Tests.{eq-eqb, ne_eqb}
-use borrow.Author.Rules.{rules}
 use Rattle.lists.specs.Lists.{some}
 use Rattle.plan.specs.Place.{transaction_from}
-use Rattle.plan.proofs.Steps.{steps_from, steps_all}
+use Rattle.plan.proofs.Steps.{steps_from}
 use Rattle.conflict.specs.Class.{is_write}
-use Rattle.conflict.proofs.Named.{writing_here, writing_none}
 use Rattle.conflict.proofs.class.has_write.Given as goal
 
 abbrev pub invariant-loop-s : goal.invariant-loop-s

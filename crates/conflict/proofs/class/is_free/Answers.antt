@@ -3,7 +3,6 @@
 use mathlib.Core.Path.{◌∙◌, sym}
 use Rattle.plan.specs.Decode.{plan_of}
 use Rattle.conflict.proofs.Tabled.{writing_not_free, reading_free}
-use borrow.Author.Rules.{rules}
 use Rattle.conflict.proofs.class.is_free.Goals as goal
 
 pub returns-then-has_write : goal.returns-then-has_write

@@ -2,13 +2,11 @@
 -- Assumes nothing.
 use mathlib.Core.Path.{◌≡◌, ◌∙◌, sym, ap}
 use mathlib.Core.Bool.{Bool, cond}
-use borrow.Author.Tests.{not-true, not-false}
 use Rattle.plan.specs.Decode.{plan_of}
 use Rattle.plan.specs.Place.{transaction_from}
 use Rattle.conflict.specs.Class.{local, global, class_by}
 use Rattle.conflict.proofs.Tabled.{one_desk_by_masks, class_writing}
 use Rattle.conflict.proofs.Answers.{answered_local, answered_global, cause_cell_low}
-use borrow.Author.Rules.{rules}
 use Rattle.conflict.proofs.class.writer_answer.Goals as goal
 
 pub cause_of-requires : goal.cause_of-requires

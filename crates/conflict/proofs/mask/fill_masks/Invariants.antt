@@ -1,16 +1,12 @@
 -- The mask table: what is in it, joined with what is still to come, is the mask of each cell.
 -- Assumes nothing.
-use mathlib.Core.Path.{◌≡◌, refl, ◌∙◌, sym, ap}
-use Prim.Native.Nat.{ℕ, ◌+◌, ◌-◌, ◌<◌}
-use native.Mathlib.Omega.{arith}
-use lib.ListN.{length, length-replicate}
+use mathlib.Core.Path.{◌≡◌}
+use Prim.Native.Nat.{◌+◌, ◌-◌}
 use Rattle.plan.specs.Decode.{part_by}
-use Rattle.plan.specs.Place.{StandsAt, transaction_place, steps_at}
-use Rattle.plan.proofs.Accepted.{accepted_gives}
-use Rattle.plan.proofs.Places.{stands_at_lem, place_next, transactions_from, transactions_all, transactions_cons, transactions_none}
-use Rattle.plan.proofs.Steps.{steps_from, steps_all, steps_cons, steps_none}
-use Rattle.conflict.proofs.Filling.{Filling, FillingIn, start, enter, step_on, leave, done}
-use borrow.Author.Rules.{rules}
+use Rattle.plan.specs.Place.{transaction_place}
+use Rattle.plan.proofs.Places.{transactions_from}
+use Rattle.plan.proofs.Steps.{steps_from}
+use Rattle.conflict.proofs.Filling.{Filling, FillingIn}
 use Rattle.conflict.proofs.mask.fill_masks.Given as goal
 
 abbrev pub invariant-loop-s : goal.invariant-loop-s

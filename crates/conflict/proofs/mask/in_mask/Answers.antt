@@ -1,7 +1,6 @@
 -- Whether a desk is in a mask: its digit, by a shift.
 -- Assumes nothing.
 use mathlib.Core.Path.{refl}
-use borrow.Author.Rules.{rules}
 use Rattle.conflict.specs.Mask.{in_mask}
 use Rattle.conflict.proofs.mask.in_mask.Goals as goal
 

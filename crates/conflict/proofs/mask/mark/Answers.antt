@@ -1,10 +1,7 @@
 -- One step's cells, joined row by row into the table.
 -- Assumes nothing.
-use Prim.Native.Nat.{◌-◌}
 use native.Mathlib.Omega.{arith}
-use Rattle.plan.specs.Decode.{part_by}
-use Rattle.conflict.proofs.Marks.{Marked, marks_none, marked_none, marked_all, marked_more}
-use borrow.Author.Rules.{rules}
+use Rattle.conflict.proofs.Marks.{marks_none, marked_none, marked_all, marked_more}
 use Rattle.conflict.proofs.mask.mark.Goals as goal
 
 pub returns-then-word-gt4 : goal.returns-then-word-gt4

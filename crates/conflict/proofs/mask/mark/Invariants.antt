@@ -1,10 +1,8 @@
 -- One step's cells, joined row by row into the table.
 -- Assumes nothing.
 use Prim.Native.Nat.{◌-◌}
-use native.Mathlib.Omega.{arith}
 use Rattle.plan.specs.Decode.{part_by}
-use Rattle.conflict.proofs.Marks.{Marked, marks_none, marked_none, marked_all, marked_more}
-use borrow.Author.Rules.{rules}
+use Rattle.conflict.proofs.Marks.{Marked}
 use Rattle.conflict.proofs.mask.mark.Given as goal
 
 abbrev pub invariant-loop-row : goal.invariant-loop-row

@@ -2,7 +2,6 @@
 -- Assumes nothing.
 use mathlib.Core.Path.{ap}
 use lib.Dec.{leb}
-use borrow.Author.Rules.{rules}
 use Rattle.conflict.proofs.shared.is_shared.Goals as goal
 
 pub returns : goal.returns

@@ -1,17 +1,8 @@
 -- Whether some operation may write a cell that one operation may read: what the words still to come say is the whole answer.
 -- Assumes nothing.
-use mathlib.Core.Path.{◌≡◌, ◌∙◌, sym}
-use Prim.Native.Nat.{◌-◌}
+use mathlib.Core.Path.{◌∙◌, sym}
 use native.Mathlib.Omega.{arith}
-use lib.ListN.{length}
-use Rattle.lists.specs.Lists.{some}
-use Rattle.plan.specs.Plan.{reads}
-use Rattle.plan.specs.Decode.{plan_of}
-use Rattle.plan.specs.Place.{transaction_from}
-use Rattle.operation.specs.Operation.{cells_named}
-use Rattle.conflict.specs.Written.{written}
-use Rattle.conflict.proofs.WriteWords.{written_from, written_start, written_here, written_other, written_done}
-use borrow.Author.Rules.{rules}
+use Rattle.conflict.proofs.WriteWords.{written_start, written_here, written_other, written_done}
 use Rattle.conflict.proofs.written.reads_written.Goals as goal
 
 pub loop-i-init : goal.loop-i-init

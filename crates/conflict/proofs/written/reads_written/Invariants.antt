@@ -1,8 +1,7 @@
 -- Whether some operation may write a cell that one operation may read: what the words still to come say is the whole answer.
 -- Assumes nothing.
-use mathlib.Core.Path.{◌≡◌, ◌∙◌, sym}
+use mathlib.Core.Path.{◌≡◌}
 use Prim.Native.Nat.{◌-◌}
-use native.Mathlib.Omega.{arith}
 use lib.ListN.{length}
 use Rattle.lists.specs.Lists.{some}
 use Rattle.plan.specs.Plan.{reads}
@@ -10,8 +9,7 @@ use Rattle.plan.specs.Decode.{plan_of}
 use Rattle.plan.specs.Place.{transaction_from}
 use Rattle.operation.specs.Operation.{cells_named}
 use Rattle.conflict.specs.Written.{written}
-use Rattle.conflict.proofs.WriteWords.{written_from, written_start, written_here, written_other, written_done}
-use borrow.Author.Rules.{rules}
+use Rattle.conflict.proofs.WriteWords.{written_from}
 use Rattle.conflict.proofs.written.reads_written.Given as goal
 
 abbrev pub invariant-loop-i : goal.invariant-loop-i

@@ -1,19 +1,14 @@
 -- Whether a write step may write a cell that an operation may read: what the reads still to come say is the whole answer.
 -- Assumes nothing.
-use mathlib.Core.Path.{◌≡◌, ◌∙◌, sym, ap}
-use mathlib.Core.List.{List}
+use mathlib.Core.Path.{◌≡◌}
 use Prim.Native.Nat.{◌-◌}
-use native.Mathlib.Omega.{arith}
-use borrow.Author.Rules.{rules}
 use Rattle.lists.specs.Lists.{some}
-use Rattle.plan.specs.Plan.{reads, Step}
+use Rattle.plan.specs.Plan.{reads}
 use Rattle.plan.specs.Decode.{step_of}
 use Rattle.plan.specs.Place.{transaction_from}
-use Rattle.plan.proofs.Steps.{steps_from, steps_all}
+use Rattle.plan.proofs.Steps.{steps_from}
 use Rattle.operation.specs.Operation.{cells_named}
 use Rattle.conflict.specs.Written.{step_writes}
-use Rattle.conflict.proofs.Named.{row_passes, read_found, read_other, read_done}
-use Rattle.conflict.proofs.WriteWords.{writes_here}
 use Rattle.conflict.proofs.written.writes_read.Given as goal
 
 abbrev pub invariant-loop-s : goal.invariant-loop-s

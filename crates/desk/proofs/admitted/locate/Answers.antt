@@ -2,7 +2,6 @@
 -- Assumes nothing.
 use mathlib.Core.Path.{◌≡◌, ◌∙◌, sym, ap, ap₂}
 use mathlib.Core.Bool.{true}
-use borrow.Author.Tests.{not-true, not-false}
 use Rattle.verdict.specs.Verdict.{Verdict, ask}
 use Rattle.plan.specs.Decode.{plan_of}
 use Rattle.plan.specs.Place.{transaction_place}
@@ -13,7 +12,6 @@ use Rattle.desk.proofs.Asked.{below_32, place_looked_up, no_transaction_lem, sta
 use native.Mathlib.Omega.{arith}
 use lib.ListN.{get_or}
 use Rattle.plan.proofs.Placing.{places_long}
-use borrow.Author.Rules.{rules}
 use Rattle.desk.proofs.admitted.locate.Goals as goal
 
 pub returns-then-not-transaction_exists : goal.returns-then-not-transaction_exists

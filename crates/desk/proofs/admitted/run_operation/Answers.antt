@@ -7,7 +7,6 @@ use Rattle.execution.specs.Run.{Outcome, run as run_of}
 use Rattle.execution.specs.Answer.{outcome_of}
 use Rattle.desk.specs.Queueing.{operation_of}
 use Rattle.desk.proofs.Asked.{admitted_stands, parameters_passed, run_asked}
-use borrow.Author.Rules.{rules}
 use Rattle.desk.proofs.admitted.run_operation.Goals as goal
 
 pub run-outcome-requires : goal.run-outcome-requires

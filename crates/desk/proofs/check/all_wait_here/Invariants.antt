@@ -1,19 +1,12 @@
 -- Question 6 of the waiting records: the records still to come have the answer of all.
 -- Assumes nothing.
-use mathlib.Core.Path.{◌≡◌, refl, ◌∙◌, sym, ap}
-use mathlib.Core.Bool.{Bool, ◌&&◌}
-use mathlib.Core.List.{List}
-use Prim.Native.Nat.{ℕ, ◌+◌, ◌≤◌, ◌<◌, ◌-◌}
-use native.Mathlib.Omega.{arith}
-use lib.ListN.{length, take, drop}
-use borrow.Author.Tests.{not-true, not-false}
+use mathlib.Core.Path.{◌≡◌}
+use Prim.Native.Nat.{◌≤◌, ◌-◌}
+use lib.ListN.{take, drop}
 use Rattle.lists.specs.Lists.{every}
-use Rattle.lists.proofs.Laws.{every_take_here, every_take_past, length_tabulate, get_or_tabulate}
 use Rattle.plan.specs.Decode.{plan_of}
-use Rattle.queue.specs.Queue.{no_request}
-use Rattle.queue.specs.Words.{record_in, records_in}
+use Rattle.queue.specs.Words.{records_in}
 use Rattle.desk.specs.Admission.{waits_here}
-use borrow.Author.Rules.{rules}
 use Rattle.desk.proofs.check.all_wait_here.Given as goal
 
 abbrev pub invariant-loop-i : goal.invariant-loop-i

@@ -3,7 +3,7 @@
 use mathlib.Core.Path.{◌≡◌, ◌∙◌, sym, ap}
 use mathlib.Core.Bool.{Bool}
 use native.Mathlib.Omega.{arith}
-use borrow.Author.Tests.{lt-ltb, not-true, not-false}
+use borrow.Author.Tests.{lt-ltb}
 use Rattle.plan.specs.Decode.{plan_of}
 use Rattle.plan.proofs.Accepted.{accepted_gives}
 use Rattle.queue.specs.Words.{records_in}
@@ -11,7 +11,6 @@ use Rattle.desk.specs.Queueing.{waiting_in}
 use Rattle.desk.specs.Admission.{queue_fits, desk_fits}
 use Rattle.desk.specs.Place.{masks_if}
 use Rattle.desk.proofs.QuestionSix.{desk_out, too_many, other_visit, by_records, none_waits, one_unfit, by_order}
-use borrow.Author.Rules.{rules}
 use Rattle.desk.proofs.check.desk_fits.Goals as goal
 
 pub bounds-plan-0 : goal.bounds-plan-0

@@ -5,7 +5,6 @@ use mathlib.Core.Bool.{Bool}
 use borrow.Author.Tests.{lt-ltb, le-ltb}
 use Rattle.plan.specs.Decode.{plan_of}
 use Rattle.desk.specs.Place.{masks_if}
-use borrow.Author.Rules.{rules}
 use Rattle.desk.proofs.check.fill_if_waiting.Goals as goal
 
 pub returns-then-waiting-gt0 : goal.returns-then-waiting-gt0

@@ -1,7 +1,6 @@
 -- Question 6 of one record: each answer is the branch of the definition that the tests before it chose.
 -- Assumes nothing.
 use mathlib.Core.Path.{◌≡◌, ◌∙◌, sym, ap}
-use borrow.Author.Tests.{not-true, not-false}
 use lib.Dec.{eqb}
 use Prim.Native.Nat.{ℕ}
 use Rattle.plan.specs.Decode.{plan_of}
@@ -10,7 +9,6 @@ use Rattle.desk.specs.Queueing.{operation_of}
 use Rattle.desk.specs.Place.{Placed, place_of}
 use Rattle.desk.proofs.Asked.{placed_at, found_lacking, admitted_stands, parameters_passed, class_asked}
 use Rattle.desk.proofs.QuestionSix.{no_operation, not_global, by_desk}
-use borrow.Author.Rules.{rules}
 use Rattle.desk.proofs.check.waits_here.Goals as goal
 
 pub returns-in_default : goal.returns-in_default

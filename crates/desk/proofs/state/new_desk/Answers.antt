@@ -6,7 +6,6 @@ use Rattle.verdict.specs.Verdict.{accepted, verdict_of}
 use Rattle.plan.specs.Admission.{plan_verdict}
 use Rattle.plan.proofs.Accepted.{accepted_gives, desk_count_lem}
 use Rattle.desk.specs.Answer.{new_desk_result}
-use borrow.Author.Rules.{rules}
 use Rattle.desk.proofs.state.new_desk.Goals as goal
 
 pub returns-in-Refused : goal.returns-in-Refused

@@ -1,18 +1,13 @@
 -- Question 6 of the order: the records still to come have the answer of all, by whether the one before them is urgent.
 -- Assumes nothing.
-use mathlib.Core.Path.{◌≡◌, refl, ◌∙◌, sym, ap}
-use mathlib.Core.Bool.{Bool, true, false≢true}
-use mathlib.Core.List.{◌∷◌}
-use Prim.Native.Nat.{◌+◌, ◌≤◌, ◌-◌}
+use mathlib.Core.Path.{◌≡◌}
+use Prim.Native.Nat.{◌≤◌, ◌-◌}
 use lib.ListN.{take, drop}
-use borrow.Author.Tests.{not-true, not-false}
 use Rattle.plan.specs.Decode.{plan_of}
-use Rattle.queue.specs.Words.{record_in, records_in}
+use Rattle.queue.specs.Words.{records_in}
 use Rattle.desk.specs.Queueing.{is_urgent}
 use Rattle.desk.specs.Priority.{urgent_lead}
-use Rattle.desk.proofs.Priority.{lead_behind, lead_behind_lem, lead_broken, lead_behind_none}
-use Rattle.desk.proofs.WaitingRecords.{waiting_here, waiting_past}
-use borrow.Author.Rules.{rules}
+use Rattle.desk.proofs.Priority.{lead_behind}
 use Rattle.desk.proofs.urgent.urgent_lead.Given as goal
 
 abbrev pub invariant-loop-i : goal.invariant-loop-i

@@ -1,19 +1,12 @@
 -- How many of the waiting records are urgent: those counted, and those still to come.
 -- Assumes nothing.
-use mathlib.Core.Path.{◌≡◌, ◌∙◌, sym, ap}
-use mathlib.Core.List.{List, ◌∷◌}
-use Prim.Native.Nat.{ℕ, suc, ◌+◌, ◌≤◌, ◌-◌}
-use native.Mathlib.Nat.{zero-add, add-zero}
-use native.Mathlib.Omega.{arith}
+use mathlib.Core.Path.{◌≡◌}
+use Prim.Native.Nat.{◌+◌, ◌≤◌, ◌-◌}
 use lib.ListN.{length, take, drop}
 use Rattle.lists.specs.Lists.{select}
-use Rattle.lists.proofs.Laws.{select_yes, select_no}
 use Rattle.plan.specs.Decode.{plan_of}
-use Rattle.queue.specs.declared.record.Request.{Request}
-use Rattle.queue.specs.Words.{record_in, records_in}
+use Rattle.queue.specs.Words.{records_in}
 use Rattle.desk.specs.Queueing.{is_urgent}
-use Rattle.desk.proofs.WaitingRecords.{waiting_here, waiting_past}
-use borrow.Author.Rules.{rules}
 use Rattle.desk.proofs.urgent.urgent_waiting.Given as goal
 
 abbrev pub invariant-loop-i : goal.invariant-loop-i

@@ -8,7 +8,6 @@ use lib.Dec.{leb}
 use borrow.Author.Tests.{eq-eqb, ne_eqb, le-leb, lt-leb}
 use Rattle.plan.specs.Decode.{action_by}
 use Rattle.execution.specs.Run.{act}
-use borrow.Author.Rules.{rules}
 use Rattle.execution.proofs.execution.act.Goals as goal
 
 pub returns-then-kind-eq5 : goal.returns-then-kind-eq5

@@ -1,9 +1,9 @@
 -- The store as the first i pairs left it, one pair after another.
 -- Assumes nothing.
 use mathlib.Core.Path.{◌≡◌, refl, ◌∙◌, sym, ap}
-use Prim.Native.Nat.{◌-◌, ◌≤◌, ◌<◌}
+use Prim.Native.Nat.{◌≤◌}
 use native.Mathlib.Omega.{arith}
-use lib.ListN.{length, get_or, length-set}
+use lib.ListN.{length, length-set}
 use Rattle.operation.specs.Store.{apply_update}
 use Rattle.execution.specs.Answer.{pairs}
 use Rattle.execution.proofs.Updates.{apply_none, apply_written, apply_passed, pairs_past}

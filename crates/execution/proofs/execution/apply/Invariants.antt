@@ -1,13 +1,10 @@
 -- The store as the first i pairs left it, one pair after another.
 -- Assumes nothing.
-use mathlib.Core.Path.{◌≡◌, refl, ◌∙◌, sym, ap}
-use Prim.Native.Nat.{◌-◌, ◌≤◌, ◌<◌}
-use native.Mathlib.Omega.{arith}
-use lib.ListN.{length, get_or, length-set}
+use mathlib.Core.Path.{◌≡◌}
+use Prim.Native.Nat.{◌-◌, ◌≤◌}
+use lib.ListN.{length}
 use Rattle.operation.specs.Store.{apply_update}
 use Rattle.execution.specs.Answer.{pairs}
-use Rattle.execution.proofs.Updates.{apply_none, apply_written, apply_passed, pairs_past}
-use borrow.Author.Rules.{rules}
 use Rattle.execution.proofs.execution.apply.Given as goal
 
 abbrev pub invariant-loop-i : goal.invariant-loop-i

@@ -2,7 +2,6 @@
 -- Assumes nothing.
 use mathlib.Core.Path.{refl, ap}
 use mathlib.Core.List.{[]}
-use borrow.Author.Rules.{rules}
 use Rattle.execution.specs.Run.{Reply}
 use Rattle.execution.specs.Answer.{pairs}
 use Rattle.execution.proofs.execution.declined.Goals as goal

@@ -1,7 +1,6 @@
 -- The outcome of a run that is done: its reply has what it told.
 -- Assumes nothing.
 use mathlib.Core.Path.{refl, ap}
-use borrow.Author.Rules.{rules}
 use Rattle.execution.specs.Run.{Reply}
 use Rattle.execution.specs.Answer.{pairs}
 use Rattle.execution.proofs.execution.finished.Goals as goal

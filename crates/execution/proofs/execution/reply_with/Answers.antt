@@ -1,6 +1,5 @@
 -- The four words of a reply: the told numbers, and zeros behind them.
 -- Assumes nothing.
-use borrow.Author.Rules.{rules}
 use Rattle.execution.proofs.ToldNumbers.{reply_told}
 use Rattle.execution.proofs.execution.reply_with.Goals as goal
 

@@ -1,13 +1,12 @@
 -- The cell as the first i writes left it, one write after another.
 -- Assumes nothing.
 use mathlib.Core.Path.{◌≡◌, ◌∙◌, sym, ap}
-use Prim.Native.Nat.{ℕ, ◌-◌, ◌≤◌, ◌<◌}
+use Prim.Native.Nat.{ℕ, ◌≤◌}
 use native.Mathlib.Omega.{arith}
 use lib.ListN.{length, get_or, get_or-eq_default}
 use Rattle.operation.specs.Store.{Store, apply_update}
 use Rattle.execution.specs.Answer.{pairs}
 use Rattle.execution.proofs.Updates.{apply_length, apply_none, seen_override, seen_keep}
-use borrow.Author.Rules.{rules}
 use Rattle.execution.proofs.execution.seen.Goals as goal
 
 pub returns-then-store-at : goal.returns-then-store-at

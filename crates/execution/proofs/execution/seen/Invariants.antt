@@ -1,13 +1,10 @@
 -- The cell as the first i writes left it, one write after another.
 -- Assumes nothing.
-use mathlib.Core.Path.{◌≡◌, ◌∙◌, sym, ap}
-use Prim.Native.Nat.{ℕ, ◌-◌, ◌≤◌, ◌<◌}
-use native.Mathlib.Omega.{arith}
-use lib.ListN.{length, get_or, get_or-eq_default}
-use Rattle.operation.specs.Store.{Store, apply_update}
+use mathlib.Core.Path.{◌≡◌}
+use Prim.Native.Nat.{◌-◌, ◌≤◌, ◌<◌}
+use lib.ListN.{length, get_or}
+use Rattle.operation.specs.Store.{apply_update}
 use Rattle.execution.specs.Answer.{pairs}
-use Rattle.execution.proofs.Updates.{apply_length, apply_none, seen_override, seen_keep}
-use borrow.Author.Rules.{rules}
 use Rattle.execution.proofs.execution.seen.Given as goal
 
 abbrev pub invariant-loop-i : goal.invariant-loop-i

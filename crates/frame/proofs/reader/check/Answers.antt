@@ -1,6 +1,6 @@
 -- The verdict on the plan, then questions 10 to 12: the plan's refusal stands, and an accepted plan has 1 to 8 desks.
 -- Assumes nothing.
-use Rattle.std.proofs.Common.{◌≡◌, ℕ, sym, ap, ◌∙◌, rules}
+use Rattle.std.proofs.Common.{◌≡◌, ℕ, sym, ap, ◌∙◌}
 use Rattle.verdict.specs.Verdict.{accepted, verdict_of}
 use Rattle.plan.specs.Admission.{plan_verdict}
 use Rattle.plan.proofs.Accepted.{desk_count_lem}

@@ -1,7 +1,6 @@
 -- Questions 10 to 12: each answer is the branch of the verdict that the questions before it chose.
 -- Assumes nothing.
-use Rattle.std.proofs.Common.{◌≡◌, true, sym, ◌∙◌, rules}
-use borrow.Author.Tests.{not-true, not-false}
+use Rattle.std.proofs.Common.{◌≡◌, true, sym, ◌∙◌}
 use Rattle.frame.specs.Admission.{frame_verdict, frame_headed}
 use Rattle.frame.proofs.Verdicts.{headed}
 use Rattle.frame.proofs.reader.check_frame.Goals as goal

@@ -1,7 +1,7 @@
 -- Question 10: each answer is what the definition's tests give.
 -- Assumes nothing.
-use Rattle.std.proofs.Common.{sym, ◌∙◌, rules, eq-eqb, ne_eqb, le-leb}
-use borrow.Author.Tests.{lt-leb, not-true, not-false}
+use Rattle.std.proofs.Common.{sym, ◌∙◌, eq-eqb, ne_eqb, le-leb}
+use borrow.Author.Tests.{lt-leb}
 use Rattle.frame.specs.Admission.{frame_headed}
 use Rattle.frame.proofs.reader.frame_headed.Goals as goal
 

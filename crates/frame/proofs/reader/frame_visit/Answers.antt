@@ -1,6 +1,6 @@
 -- The visit number of an accepted frame, or the check's refusal.
 -- Assumes nothing.
-use Rattle.std.proofs.Common.{◌≡◌, sym, ap, ◌∙◌, arith, rules}
+use Rattle.std.proofs.Common.{◌≡◌, sym, ap, ◌∙◌, arith}
 use Rattle.verdict.specs.Verdict.{accepted, verdict_of}
 use Rattle.frame.specs.Admission.{read_verdict}
 use Rattle.frame.specs.Answer.{visit_read}

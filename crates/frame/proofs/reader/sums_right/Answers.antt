@@ -1,6 +1,6 @@
 -- Question 11: one sum after the other.
 -- Assumes nothing.
-use Rattle.std.proofs.Common.{sym, arith, length-take-le, rules}
+use Rattle.std.proofs.Common.{sym, arith, length-take-le}
 use Rattle.frame.proofs.Summing.{first_wrong, first_right}
 use Rattle.frame.proofs.reader.sums_right.Goals as goal
 

@@ -1,6 +1,6 @@
 -- Question 12: the addressed desk, then the updates.
 -- Assumes nothing.
-use Rattle.std.proofs.Common.{◌≡◌, ℕ, ◌-◌, length, take, drop, ap, ◌∙◌, arith, rules, eq-eqb, ne_eqb}
+use Rattle.std.proofs.Common.{◌≡◌, ℕ, ◌-◌, length, take, drop, ap, ◌∙◌, arith, eq-eqb, ne_eqb}
 use Rattle.frame.specs.Admission.{updates_right, updates_admitted}
 use Rattle.frame.proofs.reader.updates_right.Goals as goal
 

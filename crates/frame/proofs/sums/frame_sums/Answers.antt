@@ -1,8 +1,7 @@
 -- What the words still to come add to the sums so far gives both sums.
 -- Assumes nothing.
-use Rattle.std.proofs.Common.{◌≡◌, ◌-◌, ◌≤◌, length, sym, ◌∙◌, arith, rules}
-use Rattle.frame.specs.Frame.{sums_of}
-use Rattle.frame.proofs.Summing.{sums_at, sums_start, sums_next, sums_end}
+use Rattle.std.proofs.Common.{sym, ◌∙◌, arith, rules}
+use Rattle.frame.proofs.Summing.{sums_start, sums_next, sums_end}
 use Rattle.frame.proofs.sums.frame_sums.Goals as goal
 
 pub loop-at-init : goal.loop-at-init

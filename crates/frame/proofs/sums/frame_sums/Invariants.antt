@@ -1,8 +1,8 @@
 -- What the words still to come add to the sums so far gives both sums.
 -- Assumes nothing.
-use Rattle.std.proofs.Common.{◌≡◌, ◌-◌, ◌≤◌, length, sym, ◌∙◌, arith, rules}
+use Rattle.std.proofs.Common.{◌≡◌, ◌-◌, ◌≤◌, length}
 use Rattle.frame.specs.Frame.{sums_of}
-use Rattle.frame.proofs.Summing.{sums_at, sums_start, sums_next, sums_end}
+use Rattle.frame.proofs.Summing.{sums_at}
 use Rattle.frame.proofs.sums.frame_sums.Given as goal
 
 abbrev pub invariant-loop-at : goal.invariant-loop-at

@@ -1,6 +1,6 @@
 -- Question 12 of a cell's word: each answer is what the definition's tests give.
 -- Assumes nothing.
-use Rattle.std.proofs.Common.{rules, eq-eqb, ne_eqb}
+use Rattle.std.proofs.Common.{eq-eqb, ne_eqb}
 use Rattle.frame.specs.Admission.{cell_formed}
 use Rattle.frame.proofs.updates.cell_formed.Goals as goal
 

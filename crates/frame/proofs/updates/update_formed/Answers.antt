@@ -1,7 +1,6 @@
 -- Question 12 of an update's word: each answer is what the definition's tests give.
 -- Assumes nothing.
-use Rattle.std.proofs.Common.{sym, ◌∙◌, rules, le-ltb, lt-ltb, eq-eqb, ne_eqb}
-use borrow.Author.Tests.{not-true, not-false}
+use Rattle.std.proofs.Common.{sym, ◌∙◌, le-ltb, lt-ltb, eq-eqb, ne_eqb}
 use Rattle.frame.specs.Admission.{update_formed}
 use Rattle.frame.proofs.updates.update_formed.Goals as goal
 

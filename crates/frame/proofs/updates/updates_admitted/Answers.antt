@@ -1,10 +1,9 @@
 -- Question 12 over the words: at each place of the walk, what is still to come gives the whole answer.
 -- Assumes nothing.
-use Rattle.std.proofs.Common.{◌≡◌, ◌-◌, ◌<◌, ◌≤◌, true, length, get_or, sym, ◌∙◌, arith, length-set, rules}
-use borrow.Author.Tests.{not-true, not-false}
+use Rattle.std.proofs.Common.{◌≡◌, ◌<◌, true, get_or, sym, ◌∙◌, arith, length-set, rules}
 use Rattle.word.specs.Field.{update_desk}
-use Rattle.frame.specs.Admission.{update_formed, updates_admitted}
-use Rattle.frame.proofs.Walking.{rest_at, formed_desk, at_update_fault, at_update_many, at_update, at_cell_fault}
+use Rattle.frame.specs.Admission.{update_formed}
+use Rattle.frame.proofs.Walking.{formed_desk, at_update_fault, at_update_many, at_update, at_cell_fault}
 use Rattle.frame.proofs.Walking.{at_cell_last, at_cell, at_end, walk_start}
 use Rattle.frame.proofs.updates.updates_admitted.Goals as goal
 

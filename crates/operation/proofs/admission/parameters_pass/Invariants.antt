@@ -1,13 +1,7 @@
 -- Question 8: first the unused parameters, then the rows step by step.
 -- Assumes nothing.
-use mathlib.Core.Path.{◌∙◌, sym}
-use Prim.Native.Nat.{◌-◌, ◌<◌}
-use native.Mathlib.Omega.{arith}
-use lib.ListN.{length}
-use borrow.Author.Tests.{not-true, not-false}
-use Rattle.plan.proofs.Steps.{step_formed_lem}
-use Rattle.operation.proofs.Rows.{Asking, unused_fails, asking_start, asking_fails, asking_next, asking_done}
-use borrow.Author.Rules.{rules}
+use Prim.Native.Nat.{◌-◌}
+use Rattle.operation.proofs.Rows.{Asking}
 use Rattle.operation.proofs.admission.parameters_pass.Given as goal
 
 abbrev pub invariant-loop-s : goal.invariant-loop-s

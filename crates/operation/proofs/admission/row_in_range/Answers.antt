@@ -9,7 +9,6 @@ use Rattle.plan.specs.Plan.{Step}
 use Rattle.plan.specs.Decode.{step_of}
 use Rattle.operation.proofs.StepKinds.{step_above_4}
 use Rattle.operation.specs.Admission.{row_in_range}
-use borrow.Author.Rules.{rules}
 use Rattle.operation.proofs.admission.row_in_range.Goals as goal
 
 pub returns-then-word-gt4 : goal.returns-then-word-gt4

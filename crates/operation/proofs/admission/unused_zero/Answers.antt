@@ -1,12 +1,11 @@
 -- Question 8, "Are unused parameters zero": what is still to be asked is the whole answer.
 -- Assumes nothing.
-use mathlib.Core.Path.{◌≡◌, ◌∙◌, sym, refl}
-use Prim.Native.Nat.{◌-◌, ◌≤◌, ◌<◌}
+use mathlib.Core.Path.{◌∙◌, sym, refl}
+use Prim.Native.Nat.{◌≤◌, ◌<◌}
 use native.Mathlib.Omega.{arith}
 use lib.Dec.{eqb}
-use lib.ListN.{length, drop}
+use lib.ListN.{length}
 use borrow.Author.Tests.{eq-eqb, ne_eqb}
-use Rattle.lists.specs.Lists.{every}
 use Rattle.lists.proofs.Laws.{every_here, every_past}
 use Rattle.operation.specs.Admission.{unused_zero}
 use borrow.Author.Rules.{rules}

@@ -5,7 +5,6 @@ use Prim.Native.Nat.{ℕ, ◌%◌}
 use Rattle.plan.specs.Plan.{Partitioning}
 use Rattle.plan.proofs.Partitionings.{names_parameter, no_parameter_elim}
 use Rattle.operation.specs.Operation.{desk_by}
-use borrow.Author.Rules.{rules}
 use Rattle.operation.proofs.cell.desk.Goals as goal
 
 pub returns-then-names_no_parameter : goal.returns-then-names_no_parameter

@@ -2,7 +2,6 @@
 -- Assumes nothing.
 use mathlib.Core.Path.{sym, ◌∙◌}
 use Rattle.operation.proofs.Values.{value_fixed, value_param}
-use borrow.Author.Rules.{rules}
 use Rattle.operation.proofs.cell.source_value.Goals as goal
 
 pub returns-then-source-eq7 : goal.returns-then-source-eq7

@@ -5,7 +5,6 @@ use native.Mathlib.Omega.{arith}
 use Rattle.verdict.specs.Verdict.{accepted, verdict_of}
 use Rattle.plan.specs.Admission.{open_plan_verdict}
 use Rattle.partitioning.proofs.Chosen.{refused_plan, too_open, chosen_plan}
-use borrow.Author.Rules.{rules}
 use Rattle.partitioning.proofs.choice.choose.Goals as goal
 
 pub returns-in-Refused : goal.returns-in-Refused

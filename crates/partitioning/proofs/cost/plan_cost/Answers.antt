@@ -1,12 +1,8 @@
 -- The cost: what is summed up, with what the words still to come add, is the whole. At most 255 for each word.
 -- Assumes nothing.
-use mathlib.Core.Path.{◌≡◌, ◌∙◌, sym}
-use Prim.Native.Nat.{◌+◌, ◌*◌, ◌-◌, ◌≤◌}
+use mathlib.Core.Path.{◌∙◌, sym}
 use native.Mathlib.Omega.{arith}
-use lib.ListN.{length}
-use Rattle.partitioning.specs.Shared.{cost_from}
-use Rattle.partitioning.proofs.CostWalk.{cost_rest, cost_start, cost_transaction, cost_shares, cost_not, cost_done}
-use borrow.Author.Rules.{rules}
+use Rattle.partitioning.proofs.CostWalk.{cost_start, cost_transaction, cost_shares, cost_not, cost_done}
 use Rattle.partitioning.proofs.cost.plan_cost.Goals as goal
 
 pub loop-i-init : goal.loop-i-init

@@ -1,12 +1,10 @@
 -- The cost: what is summed up, with what the words still to come add, is the whole. At most 255 for each word.
 -- Assumes nothing.
-use mathlib.Core.Path.{◌≡◌, ◌∙◌, sym}
+use mathlib.Core.Path.{◌≡◌}
 use Prim.Native.Nat.{◌+◌, ◌*◌, ◌-◌, ◌≤◌}
-use native.Mathlib.Omega.{arith}
 use lib.ListN.{length}
 use Rattle.partitioning.specs.Shared.{cost_from}
-use Rattle.partitioning.proofs.CostWalk.{cost_rest, cost_start, cost_transaction, cost_shares, cost_not, cost_done}
-use borrow.Author.Rules.{rules}
+use Rattle.partitioning.proofs.CostWalk.{cost_rest}
 use Rattle.partitioning.proofs.cost.plan_cost.Given as goal
 
 abbrev pub invariant-loop-i : goal.invariant-loop-i

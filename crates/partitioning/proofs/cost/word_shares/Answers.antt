@@ -7,7 +7,6 @@ use lib.Bits.{bit_and}
 use lib.Dec.{eqb}
 use lib.ListN.{get_or}
 use borrow.Author.Tests.{eq-eqb, ne_eqb}
-use borrow.Author.Rules.{rules}
 use Rattle.partitioning.proofs.cost.word_shares.Goals as goal
 
 pub returns-then-word-ne4 : goal.returns-then-word-ne4

@@ -1,13 +1,11 @@
 -- How many fields are open: those met, with those still to come.
 -- Assumes nothing.
-use mathlib.Core.Path.{◌≡◌, ◌∙◌, sym, ap}
+use mathlib.Core.Path.{◌∙◌, sym, ap}
 use mathlib.Core.List.{List}
-use Prim.Native.Nat.{ℕ, ◌+◌, ◌-◌, ◌≤◌}
+use Prim.Native.Nat.{ℕ}
 use native.Mathlib.Omega.{arith}
 use lib.ListN.{length}
-use Rattle.partitioning.specs.Best.{open_words}
-use Rattle.partitioning.proofs.OpenWordsFrom.{open_words_from, open_start, open_here, open_not, open_done}
-use borrow.Author.Rules.{rules}
+use Rattle.partitioning.proofs.OpenWordsFrom.{open_start, open_here, open_not, open_done}
 use Rattle.partitioning.proofs.filling.open_count.Goals as goal
 
 pub loop-i-init : goal.loop-i-init

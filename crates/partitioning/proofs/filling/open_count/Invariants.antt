@@ -1,13 +1,10 @@
 -- How many fields are open: those met, with those still to come.
 -- Assumes nothing.
-use mathlib.Core.Path.{◌≡◌, ◌∙◌, sym, ap}
-use mathlib.Core.List.{List}
-use Prim.Native.Nat.{ℕ, ◌+◌, ◌-◌, ◌≤◌}
-use native.Mathlib.Omega.{arith}
+use mathlib.Core.Path.{◌≡◌}
+use Prim.Native.Nat.{◌+◌, ◌-◌, ◌≤◌}
 use lib.ListN.{length}
 use Rattle.partitioning.specs.Best.{open_words}
-use Rattle.partitioning.proofs.OpenWordsFrom.{open_words_from, open_start, open_here, open_not, open_done}
-use borrow.Author.Rules.{rules}
+use Rattle.partitioning.proofs.OpenWordsFrom.{open_words_from}
 use Rattle.partitioning.proofs.filling.open_count.Given as goal
 
 abbrev pub invariant-loop-i : goal.invariant-loop-i

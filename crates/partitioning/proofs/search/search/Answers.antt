@@ -1,13 +1,9 @@
 -- The first of the fillings that cost least: after i turns it is the first of those below i.
 -- Assumes nothing.
 use mathlib.Core.Path.{◌∙◌}
-use mathlib.Core.Logic.{⊎_elim}
-use Prim.Native.Nat.{◌-◌, ◌≤◌}
 use native.Mathlib.Omega.{arith}
-use Rattle.partitioning.specs.Best.{cost_by}
 use Rattle.partitioning.proofs.Counts.{count_pos}
-use Rattle.partitioning.proofs.SearchWalk.{Least, least_start, least_lower, least_kept, least_all}
-use borrow.Author.Rules.{rules}
+use Rattle.partitioning.proofs.SearchWalk.{least_start, least_lower, least_kept, least_all}
 use Rattle.partitioning.proofs.search.search.Goals as goal
 use Rattle.partitioning.proofs.search.search.Goals.{then-cost-least, else-cost-least}
 
@@ -34,7 +30,7 @@ loop-i-preserved c =
     let d = c.loop-i in (
       omega arith,
       elim c.if-cost-least.branch [
-        then-cost-least w ↦
+        | then-cost-least w ↦
             least_lower _ _ _ _ d.invariant.1 _ _ _ c.filling_cost-cost.ensures w.if-cost-least.true w.number-is w.least-is
         | else-cost-least w ↦
             least_kept _ _ _ _ d.invariant.1 _ _ _ c.filling_cost-cost.ensures w.if-cost-least.false w.number-is w.least-is

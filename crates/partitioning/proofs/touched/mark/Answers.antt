@@ -1,7 +1,6 @@
 -- The rows of one step, joined into their set.
 -- Assumes nothing.
 use mathlib.Core.Path.{sym}
-use borrow.Author.Rules.{rules}
 use Rattle.partitioning.proofs.Marking.{mark_past, mark_open_lem, mark_here}
 use Rattle.partitioning.proofs.touched.mark.Goals as goal
 

@@ -1,13 +1,9 @@
 -- The rows of the transactions that are not open: what the words still to come make of the sets is what the whole plan does.
 -- Assumes nothing.
-use mathlib.Core.Path.{◌≡◌, ◌∙◌, sym}
-use Prim.Native.Nat.{◌-◌}
+use mathlib.Core.Path.{◌∙◌, sym}
 use native.Mathlib.Omega.{arith}
-use lib.ListN.{length}
-use Rattle.partitioning.specs.Touched.{mark_closed}
 use Rattle.partitioning.proofs.Marking.{mark_length}
-use Rattle.partitioning.proofs.ClosedMarks.{closed_from, closed_start, closed_transaction, closed_step, closed_done}
-use borrow.Author.Rules.{rules}
+use Rattle.partitioning.proofs.ClosedMarks.{closed_start, closed_transaction, closed_step, closed_done}
 use Rattle.partitioning.proofs.touched.mark_closed.Goals as goal
 
 pub loop-i-init : goal.loop-i-init

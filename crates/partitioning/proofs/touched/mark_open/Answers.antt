@@ -1,16 +1,13 @@
 -- The rows of the open transactions, as a filling fills them: what the words still to come make of the sets is what the whole plan does.
 -- Assumes nothing.
 use mathlib.Core.Path.{◌≡◌, ◌∙◌, sym, ap}
-use Prim.Native.Nat.{ℕ, ◌+◌, ◌-◌, ◌/◌, ◌≤◌}
+use Prim.Native.Nat.{ℕ, ◌+◌, ◌/◌, ◌≤◌}
 use native.Mathlib.Omega.{arith}
-use lib.ListN.{length}
 use Rattle.partitioning.specs.Best.{filling_count}
-use Rattle.partitioning.specs.Touched.{mark_open}
 use Rattle.partitioning.proofs.Counts.{count_pos}
 use Rattle.partitioning.proofs.Marking.{mark_length}
 use Rattle.partitioning.proofs.OpenWordsFrom.{open_words_from, open_start, count_not, below_open}
-use Rattle.partitioning.proofs.OpenMarks.{opened_from, opened_start, opened_open, opened_closed, opened_step, opened_done}
-use borrow.Author.Rules.{rules}
+use Rattle.partitioning.proofs.OpenMarks.{opened_start, opened_open, opened_closed, opened_step, opened_done}
 use Rattle.partitioning.proofs.touched.mark_open.Goals as goal
 
 pub loop-i-init : goal.loop-i-init

@@ -3,7 +3,6 @@
 use mathlib.Core.Path.{◌∙◌, sym}
 use native.Mathlib.Omega.{arith}
 use borrow.Author.Tests.{eq-eqb, ne_eqb}
-use borrow.Author.Rules.{rules}
 use Rattle.partitioning.proofs.RowSets.{row_bit}
 use Rattle.partitioning.proofs.touched.rows.Goals as goal
 

@@ -2,7 +2,6 @@
 -- Assumes nothing.
 use native.Mathlib.Omega.{arith}
 use borrow.Author.Tests.{eq-eqb, ne_eqb}
-use borrow.Author.Rules.{rules}
 use Rattle.partitioning.proofs.touched.set_of.Goals as goal
 
 pub returns-then-partitioning-eq-UNPARTITIONED : goal.returns-then-partitioning-eq-UNPARTITIONED

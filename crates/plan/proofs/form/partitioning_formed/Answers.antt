@@ -1,7 +1,6 @@
 -- A partitioning field: each answer is what the definition's tests give.
 -- Assumes nothing.
 use borrow.Author.Tests.{lt-ltb, le-ltb}
-use borrow.Author.Rules.{rules}
 use Rattle.plan.proofs.form.partitioning_formed.Goals as goal
 
 pub returns-then-partitioning-lt4 : goal.returns-then-partitioning-lt4

@@ -8,7 +8,6 @@ use Rattle.plan.specs.Plan.{Partitioning}
 use Rattle.plan.specs.Decode.{names_no_parameter, part_by}
 use Rattle.plan.specs.Admission.{part_exists}
 use Rattle.plan.proofs.Partitionings.{names_parameter, no_parameter_elim}
-use borrow.Author.Rules.{rules}
 use Rattle.plan.proofs.form.partitioning_missing.Goals as goal
 
 none_exists : (n q : ℕ) → names_no_parameter q ≡ true → part_exists n (part_by q) ≡ true

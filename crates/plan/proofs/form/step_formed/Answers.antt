@@ -1,9 +1,7 @@
 -- Question 3 of a step's word: kind, source and zero bits, as the definition has them.
 -- Assumes nothing.
 use mathlib.Core.Path.{◌∙◌, sym}
-use borrow.Author.Tests.{not-true, not-false}
 use Rattle.plan.specs.Admission.{step_formed}
-use borrow.Author.Rules.{rules}
 use Rattle.plan.proofs.form.step_formed.Goals as goal
 
 pub returns-then-not-step_kind : goal.returns-then-not-step_kind

@@ -4,7 +4,6 @@ use borrow.Author.Tests.{eq-eqb, ne_eqb, lt-ltb, le-ltb}
 use mathlib.Core.Bool.{or-false, or-true}
 use mathlib.Core.Path.{sym}
 use Rattle.plan.proofs.Words.{tell_exists, step_exists_lem}
-use borrow.Author.Rules.{rules}
 use Rattle.plan.proofs.form.step_missing.Goals as goal
 
 pub returns-then-word-eq13 : goal.returns-then-word-eq13

@@ -1,7 +1,6 @@
 -- One more that tells, exactly where the word has kind 13.
 -- Assumes nothing.
 use borrow.Author.Tests.{eq-eqb, ne_eqb}
-use borrow.Author.Rules.{rules}
 use native.Mathlib.Nat.{add-zero}
 use mathlib.Core.Path.{sym}
 use Rattle.plan.proofs.Words.{tell_of}

@@ -1,9 +1,8 @@
 -- Question 3 of a transaction's word: each answer is what the definition's tests give.
 -- Assumes nothing.
 use mathlib.Core.Path.{◌∙◌, sym}
-use borrow.Author.Tests.{le-leb, lt-leb, eq-eqb, ne_eqb, not-true, not-false}
+use borrow.Author.Tests.{le-leb, lt-leb, eq-eqb, ne_eqb}
 use Rattle.plan.specs.Admission.{transaction_formed}
-use borrow.Author.Rules.{rules}
 use Rattle.plan.proofs.form.transaction_formed.Goals as goal
 
 pub returns-then-word-ne2 : goal.returns-then-word-ne2

@@ -1,13 +1,8 @@
 -- Whether some word is open: what the words still to come say is the whole answer.
 -- Assumes nothing.
-use mathlib.Core.Path.{◌≡◌, ◌∙◌, sym}
-use Prim.Native.Nat.{◌-◌}
+use mathlib.Core.Path.{◌∙◌, sym}
 use native.Mathlib.Omega.{arith}
-use lib.ListN.{length}
-use Rattle.lists.specs.Lists.{some}
-use Rattle.plan.specs.Decode.{is_open}
-use Rattle.plan.proofs.OpenWords.{some_open_from, open_all, open_here, open_none}
-use borrow.Author.Rules.{rules}
+use Rattle.plan.proofs.OpenWords.{open_all, open_here, open_none}
 use Rattle.plan.proofs.open.has_open.Goals as goal
 
 pub loop-i-init : goal.loop-i-init

@@ -1,13 +1,8 @@
 -- `plan::transaction_place`: after i turns the walk is at the place of transaction i, at most 17 words further for each.
 -- Assumes nothing.
-use mathlib.Core.Path.{◌≡◌, refl, ◌∙◌, sym, ap}
-use Prim.Native.Nat.{ℕ, ◌+◌, ◌-◌, ◌*◌, ◌≤◌}
-use native.Mathlib.Omega.{arith}
-use lib.ListN.{get_or}
-use Rattle.word.specs.Field.{step_count}
+use mathlib.Core.Path.{◌≡◌}
+use Prim.Native.Nat.{◌+◌, ◌-◌, ◌*◌, ◌≤◌}
 use Rattle.plan.specs.Place.{transaction_place}
-use Rattle.plan.proofs.Places.{place_next}
-use borrow.Author.Rules.{rules}
 use Rattle.plan.proofs.place.transaction_place.Given as goal
 
 abbrev pub invariant-loop-i : goal.invariant-loop-i

@@ -1,7 +1,7 @@
 -- The table of places: after k turns it has those of the first k transactions, and the walk is at the next.
 -- Assumes nothing.
-use mathlib.Core.Path.{◌≡◌, refl, ◌∙◌, sym, ap}
-use Prim.Native.Nat.{ℕ, ◌+◌, ◌-◌, ◌≤◌, ◌<◌}
+use mathlib.Core.Path.{refl, ◌∙◌, sym, ap}
+use Prim.Native.Nat.{ℕ, ◌+◌, ◌≤◌, ◌<◌}
 use native.Mathlib.Omega.{arith}
 use lib.ListN.{length}
 use Rattle.word.specs.Field.{head_transactions}
@@ -9,7 +9,7 @@ use Rattle.plan.specs.Decode.{head_of}
 use Rattle.plan.specs.Place.{StandsAt, steps_at, transaction_place}
 use Rattle.plan.proofs.Accepted.{accepted_gives}
 use Rattle.plan.proofs.Places.{place_next, stands_at_lem}
-use Rattle.plan.proofs.Placing.{Placing, placing_none, placing_more, placing_done}
+use Rattle.plan.proofs.Placing.{placing_none, placing_more, placing_done}
 use borrow.Author.Rules.{rules}
 use Rattle.plan.proofs.place.transaction_places.Goals as goal
 

@@ -1,15 +1,11 @@
 -- The table of places: after k turns it has those of the first k transactions, and the walk is at the next.
 -- Assumes nothing.
-use mathlib.Core.Path.{◌≡◌, refl, ◌∙◌, sym, ap}
-use Prim.Native.Nat.{ℕ, ◌+◌, ◌-◌, ◌≤◌, ◌<◌}
-use native.Mathlib.Omega.{arith}
+use mathlib.Core.Path.{◌≡◌}
+use Prim.Native.Nat.{◌-◌, ◌≤◌}
 use Rattle.word.specs.Field.{head_transactions}
 use Rattle.plan.specs.Decode.{head_of}
-use Rattle.plan.specs.Place.{StandsAt, steps_at, transaction_place}
-use Rattle.plan.proofs.Accepted.{accepted_gives}
-use Rattle.plan.proofs.Places.{place_next, stands_at_lem}
-use Rattle.plan.proofs.Placing.{Placing, placing_none, placing_more, placing_done}
-use borrow.Author.Rules.{rules}
+use Rattle.plan.specs.Place.{transaction_place}
+use Rattle.plan.proofs.Placing.{Placing}
 use Rattle.plan.proofs.place.transaction_places.Given as goal
 
 abbrev pub invariant-loop-k : goal.invariant-loop-k

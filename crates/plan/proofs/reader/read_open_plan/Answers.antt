@@ -1,9 +1,8 @@
 -- Questions 1 to 4: each answer is the branch of the verdict that the questions before it chose.
 -- Assumes nothing.
-use borrow.Author.Tests.{le-leb, lt-leb, eq-eqb, ne_eqb, not-true, not-false}
+use borrow.Author.Tests.{le-leb, lt-leb, eq-eqb, ne_eqb}
 use mathlib.Core.Path.{◌∙◌, sym}
 use Rattle.plan.specs.Admission.{open_plan_verdict, has_head}
-use borrow.Author.Rules.{rules}
 use Rattle.plan.proofs.reader.read_open_plan.Goals as goal
 
 pub returns-then-words-lt1 : goal.returns-then-words-lt1

@@ -4,7 +4,6 @@ use mathlib.Core.Path.{◌≡◌, ◌∙◌, sym, ap}
 use Rattle.verdict.specs.Verdict.{accepted, verdict_of}
 use Rattle.plan.specs.Admission.{open_plan_verdict, plan_verdict}
 use Rattle.plan.proofs.OpenWords.{open_found}
-use borrow.Author.Rules.{rules}
 use Rattle.plan.proofs.reader.read_plan.Goals as goal
 
 pub returns-in-Refused : goal.returns-in-Refused

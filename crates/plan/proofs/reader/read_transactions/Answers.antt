@@ -2,19 +2,16 @@
 -- Assumes nothing.
 use mathlib.Core.Path.{◌≡◌, ◌∙◌, sym, ap, ap₂}
 use mathlib.Core.Bool.{Bool, true, cond}
-use mathlib.Core.List.{List}
-use Prim.Native.Nat.{ℕ, ◌+◌, ◌-◌, ◌≤◌, ◌<◌}
-use borrow.Author.Tests.{not-true, not-false, leb-true}
-use mathlib.Core.Logic.{⊎_elim}
+use Prim.Native.Nat.{◌+◌, ◌≤◌, ◌<◌}
+use borrow.Author.Tests.{leb-true}
 use native.Mathlib.Omega.{arith}
 use lib.ListN.{length, get_or, drop}
 use Rattle.lists.proofs.Laws.{and_fst, and_snd}
 use Rattle.verdict.specs.Verdict.{accepted, refused}
 use Rattle.plan.specs.Decode.{step_of}
 use Rattle.plan.specs.Admission.{transactions_verdict, transaction_formed, step_formed, step_fits, one_if_tells, most_tells}
-use Rattle.plan.proofs.Rest.{formed_at, stands, rest_at, rest_in_at, walk_start, tx_fault, tx_step, end_more, end_done, step_fault}
+use Rattle.plan.proofs.Rest.{formed_at, stands, rest_at, walk_start, tx_fault, tx_step, end_more, end_done, step_fault}
 use Rattle.plan.proofs.Rest.{step_step, steps_done}
-use borrow.Author.Rules.{rules}
 use Rattle.plan.proofs.reader.read_transactions.Goals as goal
 use Rattle.plan.proofs.reader.read_transactions.Goals.{else-transactions-test, then-transactions-test+then-not-transaction_at}
 use Rattle.plan.proofs.reader.read_transactions.Goals.{then-transactions-test+else-not-transaction_at+then-loop-s-test+then-not-step_at}
@@ -89,7 +86,7 @@ transactions-preserved c = sym (steps_done _ _ _ _ _ _ _ _ _ c.loop-s.invariant.
 pub returns-then-t-transactions : goal.returns-then-t-transactions
 returns-then-t-transactions c =
     elim c.transactions-test.branch [
-      else-transactions-test w ↦ absurd (omega arith)
+      | else-transactions-test w ↦ absurd (omega arith)
       | then-transactions-test+then-not-transaction_at w ↦
           sym (tx_fault _ _ _ _ _ w.transactions-test.true (sym w.transaction_at.ensures ∙ w.if-not-transaction_at.true))
           ∙ c.transactions.invariant
@@ -101,34 +98,34 @@ pub returns-then-at-plan : goal.returns-then-at-plan
 returns-then-at-plan c =
     -- past both loops with no fault
     let at_end : rest_at c.args.transactions c.transactions.t c.args.plan.now c.transactions-test.at c.transactions-test.missing
-        ≡ transactions_verdict c.args.transactions (drop 1 c.args.plan.now) =
-        elim c.transactions-test.branch [
-          else-transactions-test w ↦ ap₂ (rest_at _ _ _) w.at-is w.missing-is ∙ c.transactions.invariant
-          | then-transactions-test+then-not-transaction_at w ↦ absurd (omega arith)
-          | then-transactions-test+else-not-transaction_at+then-loop-s-test+then-not-step_at w ↦ absurd (omega arith)
-        ] in
+    ≡ transactions_verdict c.args.transactions (drop 1 c.args.plan.now) =
+    elim c.transactions-test.branch [
+      | else-transactions-test w ↦ ap₂ (rest_at _ _ _) w.at-is w.missing-is ∙ c.transactions.invariant
+      | then-transactions-test+then-not-transaction_at w ↦ absurd (omega arith)
+      | then-transactions-test+else-not-transaction_at+then-loop-s-test+then-not-step_at w ↦ absurd (omega arith)
+    ] in
     sym (end_more _ _ _ _ _ c.if-t-transactions.false c.if-at-plan.true) ∙ at_end
 
 pub returns-then-missing : goal.returns-then-missing
 returns-then-missing c =
     let at_end : rest_at c.args.transactions c.transactions.t c.args.plan.now c.transactions-test.at c.transactions-test.missing
-        ≡ transactions_verdict c.args.transactions (drop 1 c.args.plan.now) =
-        elim c.transactions-test.branch [
-          else-transactions-test w ↦ ap₂ (rest_at _ _ _) w.at-is w.missing-is ∙ c.transactions.invariant
-          | then-transactions-test+then-not-transaction_at w ↦ absurd (omega arith)
-          | then-transactions-test+else-not-transaction_at+then-loop-s-test+then-not-step_at w ↦ absurd (omega arith)
-        ] in
+    ≡ transactions_verdict c.args.transactions (drop 1 c.args.plan.now) =
+    elim c.transactions-test.branch [
+      | else-transactions-test w ↦ ap₂ (rest_at _ _ _) w.at-is w.missing-is ∙ c.transactions.invariant
+      | then-transactions-test+then-not-transaction_at w ↦ absurd (omega arith)
+      | then-transactions-test+else-not-transaction_at+then-loop-s-test+then-not-step_at w ↦ absurd (omega arith)
+    ] in
     sym (ap (λ (m : Bool). cond m (refused 4) accepted) c.if-missing.true)
     ∙ sym (end_done _ _ _ _ _ c.if-t-transactions.false c.if-at-plan.false) ∙ at_end
 
 pub returns : goal.returns
 returns c =
     let at_end : rest_at c.args.transactions c.transactions.t c.args.plan.now c.transactions-test.at c.transactions-test.missing
-        ≡ transactions_verdict c.args.transactions (drop 1 c.args.plan.now) =
-        elim c.transactions-test.branch [
-          else-transactions-test w ↦ ap₂ (rest_at _ _ _) w.at-is w.missing-is ∙ c.transactions.invariant
-          | then-transactions-test+then-not-transaction_at w ↦ absurd (omega arith)
-          | then-transactions-test+else-not-transaction_at+then-loop-s-test+then-not-step_at w ↦ absurd (omega arith)
-        ] in
+    ≡ transactions_verdict c.args.transactions (drop 1 c.args.plan.now) =
+    elim c.transactions-test.branch [
+      | else-transactions-test w ↦ ap₂ (rest_at _ _ _) w.at-is w.missing-is ∙ c.transactions.invariant
+      | then-transactions-test+then-not-transaction_at w ↦ absurd (omega arith)
+      | then-transactions-test+else-not-transaction_at+then-loop-s-test+then-not-step_at w ↦ absurd (omega arith)
+    ] in
     sym (ap (λ (m : Bool). cond m (refused 4) accepted) c.if-missing.false)
     ∙ sym (end_done _ _ _ _ _ c.if-t-transactions.false c.if-at-plan.false) ∙ at_end

@@ -1,7 +1,6 @@
 -- A word stands at the place, and is well formed; past the end none does.
 -- Assumes nothing.
 use borrow.Author.Tests.{lt-ltb, le-ltb}
-use borrow.Author.Rules.{rules}
 use Rattle.plan.proofs.reader.transaction_at.Goals as goal
 
 pub returns-then-at-plan : goal.returns-then-at-plan

@@ -3,10 +3,10 @@
 use mathlib.Core.Path.{◌≡◌, refl, ◌∙◌, ap}
 use mathlib.Core.Bool.{not}
 use borrow.Author.Tests.{eq-eqb, ne_eqb}
-use Prim.Native.Nat.{◌+◌, ◌-◌, ◌≤◌, ◌<◌}
+use Prim.Native.Nat.{◌+◌, ◌<◌}
 use native.Mathlib.Omega.{arith}
 use lib.ListN.{length, length-set}
-use Rattle.token.proofs.Forwarding.{Forwarded, forward_start, forward_end, forward_own, forward_head, forward_more}
+use Rattle.token.proofs.Forwarding.{forward_start, forward_end, forward_own, forward_head, forward_more}
 use Rattle.token.proofs.Forwarding.{forward_past, forward_cell, forward_length, head_room, cell_room}
 use borrow.Author.Rules.{rules}
 use Rattle.token.proofs.forward.forward_foreign.Goals as goal

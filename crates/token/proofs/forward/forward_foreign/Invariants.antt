@@ -1,12 +1,9 @@
 -- The store with the others' writes still to come, and the outgoing words with their words still to come, are what is to be left.
 -- Assumes nothing.
-use mathlib.Core.Path.{◌≡◌, refl, ◌∙◌, ap}
-use Prim.Native.Nat.{◌+◌, ◌-◌, ◌≤◌, ◌<◌}
-use native.Mathlib.Omega.{arith}
-use lib.ListN.{length, length-set}
-use Rattle.token.proofs.Forwarding.{Forwarded, forward_start, forward_end, forward_own, forward_head, forward_more}
-use Rattle.token.proofs.Forwarding.{forward_past, forward_cell, forward_length, head_room, cell_room}
-use borrow.Author.Rules.{rules}
+use mathlib.Core.Path.{◌≡◌}
+use Prim.Native.Nat.{◌-◌, ◌≤◌}
+use lib.ListN.{length}
+use Rattle.token.proofs.Forwarding.{Forwarded}
 use Rattle.token.proofs.forward.forward_foreign.Given as goal
 
 abbrev pub invariant-loop-at : goal.invariant-loop-at

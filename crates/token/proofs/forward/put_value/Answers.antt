@@ -2,7 +2,6 @@
 -- Assumes nothing.
 use mathlib.Core.Path.{sym}
 use lib.Seq.{set_out}
-use borrow.Author.Rules.{rules}
 use Rattle.token.proofs.forward.put_value.Goals as goal
 
 pub returns-else-cell-cells : goal.returns-else-cell-cells

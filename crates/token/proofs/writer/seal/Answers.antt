@@ -5,7 +5,6 @@ use native.Mathlib.Omega.{arith}
 use lib.ListN.{length-set}
 use lib.Seq.{length-take-le}
 use Rattle.token.proofs.Sealed.{seal_law}
-use borrow.Author.Rules.{rules}
 use Rattle.token.proofs.writer.seal.Goals as goal
 
 pub bounds-out-1 : goal.bounds-out-1

@@ -1,7 +1,6 @@
 -- Question 5, then the seal around no update.
 -- Assumes nothing.
 use borrow.Author.Tests.{le-leb, lt-leb}
-use borrow.Author.Rules.{rules}
 use Rattle.token.proofs.writer.starting_frame.Goals as goal
 
 pub returns-then-out-lt-LEAST_FRAME : goal.returns-then-out-lt-LEAST_FRAME

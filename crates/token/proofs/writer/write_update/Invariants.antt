@@ -1,13 +1,10 @@
 -- The update's word, then the pairs one after another: at each turn the words written so far stand in front of the old ones.
 -- Assumes nothing.
-use mathlib.Core.Path.{◌≡◌, refl, ◌∙◌, ap}
-use mathlib.Core.List.{List}
-use Prim.Native.Nat.{ℕ, ◌+◌, ◌-◌, ◌*◌, ◌≤◌}
-use native.Mathlib.Omega.{arith}
-use lib.ListN.{length, set, length-set}
+use mathlib.Core.Path.{◌≡◌}
+use Prim.Native.Nat.{◌+◌, ◌-◌, ◌*◌, ◌≤◌}
+use lib.ListN.{length}
 use Rattle.frame.specs.Frame.{update_head}
-use Rattle.token.proofs.Written.{filled_to, filled_none, filled_next, filled_all, held_words}
-use borrow.Author.Rules.{rules}
+use Rattle.token.proofs.Written.{filled_to}
 use Rattle.token.proofs.writer.write_update.Given as goal
 
 abbrev pub invariant-loop-i : goal.invariant-loop-i

@@ -1,7 +1,6 @@
 -- `word::reserved_zero`: each answer is that of the kinds which the tests leave, at the word's own source.
 -- Assumes nothing.
 use mathlib.Core.Path.{◌∙◌}
-use borrow.Author.Rules.{rules}
 use Rattle.word.proofs.ReservedBits.{none_below_2, transaction_zero, access_zero, operand_zero, sourceless_zero}
 use Rattle.word.proofs.reserved.reserved_zero.Goals as goal
 
