@@ -10,7 +10,7 @@ use Rattle.plan.specs.Plan.{Plan}
 use Rattle.plan.specs.Decode.{plan_of}
 use Rattle.operation.specs.Operation.{Operation}
 use Rattle.operation.specs.Store.{Store}
-use Rattle.execution.specs.Run.{Reply, Outcome, run}
+use Rattle.execution.specs.Run.{Reply, Outcome}
 use Rattle.conflict.specs.Class.{Class}
 use Rattle.desk.specs.Queueing.{operation_of}
 use Rattle.visits.specs.Waiting.{Answered}

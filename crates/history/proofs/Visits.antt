@@ -31,7 +31,7 @@ use Rattle.desk.specs.Holding.{Holding, waiting_at}
 use Rattle.desk.specs.Admission.{desk_buffers_fit, desk_fits}
 use Rattle.desk.proofs.QuestionSix.{none_waits}
 use Rattle.visits.specs.Admission.{visit_buffers_fit, turn_verdict}
-use Rattle.token.specs.Forward.{foreign, apply_all}
+use Rattle.token.specs.Forward.{foreign}
 use Rattle.visits.specs.Visit.{Visited, caught_up, outgoing_updates, outgoing_frame, accepted_visit, visited_by, visit_verdict}
 use Rattle.visits.specs.Visit.{visit_result}
 use Rattle.visits.specs.Snapshot.{snapshot_taken}

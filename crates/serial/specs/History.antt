@@ -1,5 +1,5 @@
 -- A history: calls one after another, each at its desk; how it starts; and the premise on accepted frames.
-use Rattle.std.specs.Prelude.{ℕ, ◌<◌, ◌≡◌, false, cond, eqb}
+use Rattle.std.specs.Prelude.{ℕ, ◌<◌, ◌≡◌, false}
 use mathlib.Core.List.{List, [], ◌∷◌, ◌++◌, Memᴰ}
 use Rattle.lists.specs.Lists.{assign}
 use Rattle.serial.specs.Store.{Store}

@@ -7,7 +7,6 @@ use Rattle.operation.specs.Admission.{operation_verdict}
 use Rattle.desk.specs.Queueing.{operation_of}
 use Rattle.desk.specs.Place.{place_of, Placed}
 use Rattle.desk.proofs.Asked.{placed_at, found_lacking}
-use borrow.Author.Rules.{rules}
 use Rattle.requests.proofs.asking.admitted_result.Goals as goal
 
 pub routed_result-requires : goal.routed_result-requires

@@ -13,7 +13,6 @@ use Rattle.desk.specs.Queueing.{waiting_in}
 use Rattle.requests.specs.Request.{is_waits}
 use Rattle.requests.specs.Step.{place_in}
 use Rattle.requests.specs.Answer.{response_of}
-use borrow.Author.Rules.{rules}
 use Rattle.requests.proofs.asking.enqueue.Goals as goal
 
 pub join-requires : goal.join-requires

@@ -4,7 +4,6 @@ use mathlib.Core.Path.{◌≡◌, ◌∙◌, sym, ap}
 use Rattle.verdict.specs.Verdict.{accepted, verdict_of}
 use Rattle.plan.specs.Admission.{plan_verdict}
 use Rattle.requests.proofs.Handed.{plan_refused, store_unfit, queue_unfit, buffers_fit_lem}
-use borrow.Author.Rules.{rules}
 use Rattle.requests.proofs.asking.opening_verdict.Goals as goal
 
 pub returns-in-Refused : goal.returns-in-Refused

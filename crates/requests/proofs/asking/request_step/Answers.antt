@@ -6,7 +6,7 @@ use mathlib.Core.Bool.{false≢true}
 use mathlib.Core.List.{List, []}
 use Prim.Native.Nat.{ℕ}
 use lib.ListN.{length}
-use borrow.Author.Tests.{not-true, not-false, eq-eqb}
+use borrow.Author.Tests.{eq-eqb}
 use Rattle.verdict.specs.Verdict.{accepted, verdict_of}
 use Rattle.plan.specs.Decode.{plan_of}
 use Rattle.operation.specs.Admission.{operation_verdict}

@@ -14,7 +14,6 @@ use Rattle.requests.specs.Route.{way_of, way_by}
 use Rattle.requests.specs.Step.{without_queue}
 use Rattle.requests.specs.declared.route.Route.{Route}
 use Rattle.requests.proofs.Routes.{left_by, routed_by_way}
-use borrow.Author.Rules.{rules}
 use Rattle.requests.proofs.asking.routed_result.Goals as goal
 
 pub returns-in-Runs : goal.returns-in-Runs

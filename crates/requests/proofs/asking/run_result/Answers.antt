@@ -6,7 +6,6 @@ use Prim.Native.Nat.{ℕ}
 use Rattle.execution.specs.Run.{Reply}
 use Rattle.desk.specs.Holding.{holding}
 use Rattle.requests.specs.Request.{replied, unchanged}
-use borrow.Author.Rules.{rules}
 use Rattle.requests.proofs.asking.run_result.Goals as goal
 
 pub returns : goal.returns

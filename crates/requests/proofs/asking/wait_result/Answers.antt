@@ -1,7 +1,6 @@
 -- Question 9, and the state of a desk at which one more waits.
 -- Assumes nothing.
 use borrow.Author.Tests.{lt-ltb, le-ltb}
-use borrow.Author.Rules.{rules}
 use Rattle.requests.proofs.asking.wait_result.Goals as goal
 
 pub returns-then-waiting-ge-MOST_WAITING : goal.returns-then-waiting-ge-MOST_WAITING

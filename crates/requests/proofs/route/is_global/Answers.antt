@@ -2,7 +2,6 @@
 -- Assumes nothing.
 use mathlib.Core.Path.{◌≡◌, ◌∙◌, sym, ap}
 use mathlib.Core.Bool.{Bool, true, false}
-use borrow.Author.Tests.{not-true}
 use Rattle.plan.specs.Decode.{plan_of}
 use Rattle.plan.specs.Place.{StandsAt, transaction_from}
 use Rattle.operation.specs.Admission.{parameters_pass}
@@ -11,7 +10,6 @@ use Rattle.conflict.proofs.Tabled.{reading_not_global}
 use Rattle.desk.specs.Queueing.{operation_of}
 use Rattle.desk.specs.Place.{masks_if}
 use Rattle.desk.proofs.Asked.{admitted_stands, parameters_passed, class_asked}
-use borrow.Author.Rules.{rules}
 use Rattle.requests.proofs.route.is_global.Goals as goal
 
 pub is_global-requires : goal.is_global-requires

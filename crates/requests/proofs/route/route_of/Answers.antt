@@ -8,7 +8,6 @@ use Rattle.desk.specs.Queueing.{operation_of}
 use Rattle.requests.specs.Route.{way_by}
 use Rattle.desk.proofs.Asked.{admitted_stands, parameters_passed, class_asked}
 use Rattle.requests.proofs.Routes.{own_waits, own_runs, free_runs, other_leaves}
-use borrow.Author.Rules.{rules}
 use Rattle.requests.proofs.route.route_of.Goals as goal
 
 pub returns-then-is_global : goal.returns-then-is_global

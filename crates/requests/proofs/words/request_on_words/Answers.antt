@@ -4,7 +4,6 @@ use mathlib.Core.Path.{◌∙◌, ap}
 use Rattle.queue.specs.Words.{queue_in, row_left}
 use Rattle.desk.specs.Holding.{holding}
 use Rattle.requests.specs.Request.{Requested, request_result}
-use borrow.Author.Rules.{rules}
 use Rattle.requests.proofs.words.request_on_words.Goals as goal
 
 pub returns : goal.returns

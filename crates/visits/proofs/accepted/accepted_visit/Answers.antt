@@ -17,7 +17,6 @@ use Rattle.visits.specs.Running.{all_made}
 use Rattle.visits.specs.Core.{Passable}
 use Rattle.visits.proofs.Assembled.{Copied, Joined, copied_length, copied_room, end_is, all_length, sealed_over}
 use Rattle.visits.proofs.Outgoing.{frame_size, part_is, written, body_room, words_fit, all_run, accepted_is}
-use borrow.Author.Rules.{rules}
 use Rattle.visits.proofs.accepted.accepted_visit.Goals as goal
 
 pub overflow_sub-sums : goal.overflow_sub-sums

@@ -12,7 +12,6 @@ use Rattle.frame.specs.Frame.{sent, update_words}
 use Rattle.desk.specs.Queueing.{operation_of}
 use Rattle.visits.specs.Waiting.{answered, reply_words}
 use Rattle.desk.proofs.Asked.{admitted_stands, parameters_passed, run_asked}
-use borrow.Author.Rules.{rules}
 use Rattle.visits.proofs.running.run_one.Goals as goal
 
 pub run-outcome-requires : goal.run-outcome-requires

@@ -1,11 +1,10 @@
 -- The waiting requests one after another, each read from the row: what has run joined with what is still to run.
 -- Assumes nothing.
 use mathlib.Core.Path.{◌≡◌, refl, ◌∙◌, sym, ap}
-use Prim.Native.Nat.{◌+◌, ◌-◌, ◌*◌, ◌≤◌, ◌<◌}
+use Prim.Native.Nat.{◌+◌, ◌*◌, ◌≤◌, ◌<◌}
 use native.Mathlib.Omega.{arith}
 use lib.ListN.{length, take, length-drop, get_or}
 use lib.Seq.{length-take-le, get_or-take}
-use borrow.Author.Rules.{rules}
 use Rattle.lists.proofs.Laws.{every_index, fill_length, length_tabulate, get_or_tabulate, take_remainder}
 use Rattle.plan.specs.Decode.{plan_of}
 use Rattle.plan.proofs.Placing.{places_long}
@@ -13,8 +12,8 @@ use Rattle.queue.specs.Queue.{no_request}
 use Rattle.queue.specs.Words.{record_in, records_in}
 use Rattle.desk.specs.Admission.{Admitted}
 use Rattle.desk.proofs.Asked.{below_32, admitted_exists, place_looked_up, operation_admitted}
-use Rattle.visits.specs.Running.{AllRun, is_operation, made_words}
-use Rattle.visits.proofs.WaitingRuns.{Running, running_start, running_next, running_done, room_here, reply_room_here}
+use Rattle.visits.specs.Running.{is_operation, made_words}
+use Rattle.visits.proofs.WaitingRuns.{running_start, running_next, running_done, room_here, reply_room_here}
 use Rattle.visits.proofs.WaitingRuns.{replies_length}
 use Rattle.visits.specs.Waiting.{reply_size}
 use Rattle.visits.proofs.running.run_waiting.Goals as goal

@@ -4,7 +4,6 @@ use mathlib.Core.Path.{◌∙◌, ap}
 use mathlib.Core.List.{◌∷◌, [], ◌++◌}
 use native.Mathlib.Omega.{arith}
 use lib.ListN.{length-set, drop}
-use borrow.Author.Rules.{rules}
 use Rattle.lists.proofs.Laws.{fill_none, fill_word, fill_done}
 use Rattle.visits.proofs.running.write_reply.Goals as goal
 

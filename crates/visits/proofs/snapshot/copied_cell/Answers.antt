@@ -1,7 +1,6 @@
 -- The word that a snapshot has of a cell, by whether it is shared.
 -- Assumes nothing.
 use mathlib.Core.Path.{◌∙◌, sym}
-use borrow.Author.Rules.{rules}
 use Rattle.visits.proofs.snapshot.copied_cell.Goals as goal
 
 pub returns-then-is_shared : goal.returns-then-is_shared

@@ -1,11 +1,8 @@
 -- The cells one after another: each word is what the definition says of its cell.
 -- Assumes nothing.
 use mathlib.Core.Path.{◌∙◌, sym}
-use Prim.Native.Nat.{◌-◌}
 use native.Mathlib.Omega.{arith}
-use lib.ListN.{get_or}
-use Rattle.visits.proofs.SharedCopied.{Copying, copying_none, copying_more, copying_done}
-use borrow.Author.Rules.{rules}
+use Rattle.visits.proofs.SharedCopied.{copying_none, copying_more, copying_done}
 use Rattle.visits.proofs.snapshot.copy_shared.Goals as goal
 
 pub loop-c-init : goal.loop-c-init

@@ -1,11 +1,8 @@
 -- The cells one after another: each word is what the definition says of its cell.
 -- Assumes nothing.
-use mathlib.Core.Path.{◌∙◌, sym}
 use Prim.Native.Nat.{◌-◌}
-use native.Mathlib.Omega.{arith}
 use lib.ListN.{get_or}
-use Rattle.visits.proofs.SharedCopied.{Copying, copying_none, copying_more, copying_done}
-use borrow.Author.Rules.{rules}
+use Rattle.visits.proofs.SharedCopied.{Copying}
 use Rattle.visits.proofs.snapshot.copy_shared.Given as goal
 
 abbrev pub invariant-loop-c : goal.invariant-loop-c

@@ -6,7 +6,6 @@ use native.Mathlib.Omega.{arith}
 use borrow.Author.Tests.{lt-ltb, le-ltb}
 use Rattle.plan.specs.Decode.{plan_of}
 use Rattle.desk.specs.Place.{masks_if}
-use borrow.Author.Rules.{rules}
 use Rattle.visits.proofs.snapshot.fill_unless_waiting.Goals as goal
 
 pub fill_masks-requires : goal.fill_masks-requires

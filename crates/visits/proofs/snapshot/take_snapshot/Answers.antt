@@ -9,7 +9,6 @@ use Rattle.plan.specs.Decode.{plan_of}
 use Rattle.conflict.specs.Touch.{desk_mask}
 use Rattle.visits.specs.Snapshot.{copied_by}
 use Rattle.visits.proofs.SharedCopied.{copied_by_table}
-use borrow.Author.Rules.{rules}
 use Rattle.visits.proofs.snapshot.take_snapshot.Goals as goal
 
 pub copy_shared-requires : goal.copy_shared-requires

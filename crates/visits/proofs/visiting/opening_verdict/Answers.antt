@@ -4,7 +4,6 @@ use mathlib.Core.Path.{◌≡◌, ◌∙◌, sym, ap}
 use Rattle.verdict.specs.Verdict.{ask, verdict_of}
 use Rattle.visits.specs.Core.{opening_verdict}
 use Rattle.visits.proofs.Visited.{plan_refused, by_buffers}
-use borrow.Author.Rules.{rules}
 use Rattle.visits.proofs.visiting.opening_verdict.Goals as goal
 
 pub returns-in-Refused : goal.returns-in-Refused

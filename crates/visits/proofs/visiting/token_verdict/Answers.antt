@@ -3,7 +3,6 @@
 use mathlib.Core.Path.{◌≡◌, ◌∙◌, sym, ap}
 use mathlib.Core.Bool.{true}
 use Prim.Native.Nat.{ℕ}
-use borrow.Author.Tests.{not-true, not-false}
 use Rattle.verdict.specs.Verdict.{accepted, verdict_of}
 use Rattle.plan.specs.Decode.{plan_of}
 use Rattle.plan.proofs.Accepted.{accepted_gives, desk_count_lem}
@@ -12,7 +11,6 @@ use Rattle.queue.specs.Words.{records_in}
 use Rattle.desk.specs.Admission.{desk_fits}
 use Rattle.visits.proofs.Outgoing.{frame_size}
 use Rattle.visits.proofs.Visited.{desk_unfit, frame_refused, by_turn}
-use borrow.Author.Rules.{rules}
 use Rattle.visits.proofs.visiting.token_verdict.Goals as goal
 
 pub returns-then-not-desk_fits : goal.returns-then-not-desk_fits

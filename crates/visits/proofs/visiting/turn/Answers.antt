@@ -3,7 +3,6 @@
 use native.Mathlib.Omega.{arith}
 use borrow.Author.Tests.{eq-eqb, ne_eqb, lt-ltb, le-ltb}
 use Rattle.visits.specs.Admission.{turn_verdict}
-use borrow.Author.Rules.{rules}
 use Rattle.visits.proofs.visiting.turn.Goals as goal
 
 pub returns-then-addressed-state : goal.returns-then-addressed-state
