@@ -159,7 +159,8 @@ module _ (ws : List ℕ) (at : ℕ) (p : StandsAt ws at) where
             ∙ ap (λ (y : ℕ). lowest_from f (cond (ltb y m && f y) y m) behind) (sym j) ∙ ap (λ (y : ℕ). lowest_from f y behind) (sym q)
 
         pub lowest_other : (kind_of w ≡ 4 → ⊥)
-            → lowest_from f m (cells_named writes ps (steps_from ws at s)) ≡ lowest_from f m (cells_named writes ps (steps_from ws at (s + 1)))
+            → lowest_from f m (cells_named writes ps (steps_from ws at s)) ≡ lowest_from f m (cells_named writes ps (steps_from ws at
+            (s + 1)))
         unfolding access_by
         lowest_other e = ap (lowest_from f m) (cells_other 4 (omega arith) (omega arith) e)
 

@@ -78,7 +78,8 @@ pub fixed_along : (n q v row : ℕ) → row ≡ v → mask_of n (λ d. ltb d n) 
 unfolding row_touched
 fixed_along n q v row h = mask_ext n (λ d. ltb d n) _ (λ d. simp (eq-eqb row v h))
 
-pub param_unsplit : (n f i row : ℕ) → names_no_parameter f ≡ true → mask_of n (λ d. eqb d 0) ≡ mask_of n (row_touched n (part_by f) (param i) row)
+pub param_unsplit : (n f i row : ℕ) → names_no_parameter f ≡ true → mask_of n (λ d. eqb d 0) ≡ mask_of n (row_touched n (part_by f)
+    (param i) row)
 unfolding row_touched
 param_unsplit n f i row e = none_mask n f (param i) row e
 

@@ -44,7 +44,8 @@ module _ (ws : List ℕ) (r : Request) where
     place_looked_up l t = place_found ws l t r.transaction below below_32
 
   -- 7
-  pub no_transaction_lem : transaction_exists (plan_of ws) r.transaction ≡ false → operation_verdict (plan_of ws) (operation_of r) ≡ refused 7
+  pub no_transaction_lem : transaction_exists (plan_of ws) r.transaction ≡ false → operation_verdict (plan_of ws) (operation_of r)
+      ≡ refused 7
   unfolding operation_verdict
   no_transaction_lem h = rw h
 
@@ -94,7 +95,8 @@ module _ (ws : List ℕ) (r : Request) where
           ask_accepted 8 (parameters_pass (transaction_from ws at) ps)
           (sym (verdict_here a.planned (admitted_exists a) at i ps q) ∙ a.passed)
 
-      pub desk_asked : desk_by (head_desks (head_of ws)) (part_by (partitioning_field (get_or ws at 0))) ps ≡ desk_of (plan_of ws) (operation_of r)
+      pub desk_asked : desk_by (head_desks (head_of ws)) (part_by (partitioning_field (get_or ws at 0))) ps ≡ desk_of (plan_of ws)
+          (operation_of r)
       desk_asked = rw (transaction_asked, desk_count_lem ws, q)
 
       pub class_asked : class_by (plan_of ws) (transaction_from ws at) ps ≡ class_of (plan_of ws) (operation_of r)

@@ -24,7 +24,8 @@ use Rattle.execution.specs.Effect.{cells_of, ReadsDecide, DoneWrites, DeclinedWr
 -- ---- the read set decides
 
 -- the same write to both keeps two stores alike at a cell
-pub alike_set : (a b : Store) (c d x : ℕ) → length a ≡ length b → get_or a c 0 ≡ get_or b c 0 → get_or (set a d x) c 0 ≡ get_or (set b d x) c 0
+pub alike_set : (a b : Store) (c d x : ℕ) → length a ≡ length b → get_or a c 0 ≡ get_or b c 0 → get_or (set a d x) c 0 ≡ get_or
+    (set b d x) c 0
 alike_set [] [] c d x l e = refl
 alike_set [] (v ∷ b) c d x l e = absurd (omega (arith, l))
 alike_set (v ∷ a) [] c d x l e = absurd (omega (arith, l))

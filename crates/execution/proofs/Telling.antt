@@ -80,7 +80,8 @@ module _ (ps : List ℕ) where
       told_at ss after s (get_or s (cell_number t (value_of ps r) c) 0) ts u k (omega arith) h d
   told_at (cell writes t c r ∷ ss) after s x ts u k e h d = told_at ss after _ x ts _ k (omega arith) h d
   told_at (operand g v ∷ ss) after s x ts u k e h d =
-      onward_done (act g x (value_of ps v)) (λ y. run_from ps ss s y ts u) (λ y. run_from ps (ss ++ (tells ∷ after)) s y ts u) (declined x ts)
+      onward_done (act g x (value_of ps v)) (λ y. run_from ps ss s y ts u) (λ y. run_from ps (ss ++ (tells ∷ after)) s y ts u)
+      (declined x ts)
       (declined x ts) k refl (λ y. told_at ss after s y ts u k (omega arith) h) d
   told_at (tells ∷ ss) after s x ts u k e h d =
       told_at ss after s x (ts ++ (x ∷ [])) u k (omega (arith, length-append ts (x ∷ []))) h d

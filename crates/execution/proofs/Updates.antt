@@ -95,4 +95,5 @@ module _ (n : ℕ) (cs vs : List ℕ) (s : Store) (h : n < length cs) (k : n < l
 
   pub seen_keep : (i : ℕ) → (get_or cs n 0 ≡ i → ⊥)
       → get_or (apply_update (pairs n cs vs) s) i 0 ≡ get_or (apply_update (pairs (n + 1) cs vs) s) i 0
-  seen_keep i d = rw apply_next (sym (get_or-set_other (apply_update (pairs n cs vs) s) (get_or cs n 0) i (get_or vs n 0) 0 (λ e. d (sym e))))
+  seen_keep i d = rw apply_next (sym (get_or-set_other (apply_update (pairs n cs vs) s) (get_or cs n 0) i (get_or vs n 0) 0 (λ e. d
+      (sym e))))

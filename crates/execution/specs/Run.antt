@@ -50,7 +50,8 @@ unfoldable pub run_from : List ℕ → List Step → Store → ℕ → List ℕ 
 run_from ps [] s x ts u = finished x ts u
 run_from ps (cell reads table column row ∷ ss) s x ts u = run_from ps ss s (get_or s (cell_number table (value_of ps row) column) 0) ts u
 run_from ps (cell writes table column row ∷ ss) s x ts u =
-    run_from ps ss (set s (cell_number table (value_of ps row) column) x) x ts (u ++ ((cell_number table (value_of ps row) column, x) ∷ []))
+    run_from ps ss (set s (cell_number table (value_of ps row) column) x) x ts
+    (u ++ ((cell_number table (value_of ps row) column, x) ∷ []))
 run_from ps (operand f v ∷ ss) s x ts u = onward (act f x (value_of ps v)) (λ y. run_from ps ss s y ts u) (declined x ts)
 run_from ps (tells ∷ ss) s x ts u = run_from ps ss s x (ts ++ (x ∷ [])) u
 

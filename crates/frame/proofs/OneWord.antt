@@ -1,6 +1,9 @@
 -- A frame that reads, with one word changed, is refused with 10 or 11.
 -- Assumes nothing.
-use Rattle.std.proofs.Common.{◌≡◌, ℕ, zero, suc, ◌+◌, ◌-◌, ◌%◌, ◌^◌, ◌<◌, ◌≤◌, Bool, true, false, eqb, ◌⊎◌, List, [], ◌∷◌, length, get_or, take, set, sym, refl, ap, ◌∙◌, subst, inl, inr, ⊎_elim, le_of_suc-le-suc, not-suc-le-zero, add_assoc, eq-or-lt_of_le, arith, length-set, length-take-le, get_or-set_other, get_or-take, get_or-set_same, eqb-true}
+use Rattle.std.proofs.Common.{◌≡◌, ℕ, zero, suc, ◌+◌, ◌-◌, ◌%◌, ◌^◌, ◌<◌, ◌≤◌, Bool, true, false, eqb, ◌⊎◌, List, [], ◌∷◌, length, get_or}
+use Rattle.std.proofs.Common.{take, set, sym, refl, ap, ◌∙◌, subst, inl, inr, ⊎_elim}
+use Rattle.std.proofs.Common.{le_of_suc-le-suc, not-suc-le-zero, add_assoc, eq-or-lt_of_le, arith}
+use Rattle.std.proofs.Common.{length-set, length-take-le, get_or-set_other, get_or-take, get_or-set_same, eqb-true}
 use native.Mathlib.Nat.{mod-add-mod}
 use lib.Seq.{take-set-le, take-set-lt}
 use Rattle.verdict.specs.Verdict.{refused}
@@ -47,7 +50,8 @@ same_first l i x h hg hx e =
 
 -- what stands for the sums is right
 right : (ws : List ℕ) → sums_right ws ≡ true
-    → (get_or ws (length ws - 2) 0 ≡ (sums_of (take (length ws - 2) ws)).0) × (get_or ws (length ws - 1) 0 ≡ (sums_of (take (length ws - 2) ws)).1)
+    → (get_or ws (length ws - 2) 0 ≡ (sums_of (take (length ws - 2) ws)).0) × (get_or ws (length ws - 1) 0 ≡ (sums_of (take
+    (length ws - 2) ws)).1)
 unfolding sums_right
 right ws e =
     (eqb-true _ _ (and_fst _ _ e), eqb-true _ _ (and_snd (eqb (get_or ws (length ws - 2) 0) (sums_of (take (length ws - 2) ws)).0) _ e))

@@ -1,6 +1,7 @@
 -- The two sums, one word after another; the first sum is the words' total modulo 2^32.
 -- Assumes nothing.
-use Rattle.std.proofs.Common.{◌≡◌, ℕ, ◌+◌, ◌-◌, ◌%◌, ◌^◌, ◌<◌, ◌≤◌, false, eqb, List, length, get_or, take, drop, refl, add-one, arith, drop_of_length-le, drop-cons, eq-eqb, ne_eqb}
+use Rattle.std.proofs.Common.{◌≡◌, ℕ, ◌+◌, ◌-◌, ◌%◌, ◌^◌, ◌<◌, ◌≤◌, false, eqb, List}
+use Rattle.std.proofs.Common.{length, get_or, take, drop, refl, add-one, arith, drop_of_length-le, drop-cons, eq-eqb, ne_eqb}
 use Rattle.frame.specs.Frame.{sums_from, sums_of}
 use Rattle.frame.specs.Admission.{sums_right}
 

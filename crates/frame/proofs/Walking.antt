@@ -1,6 +1,8 @@
 -- Question 12 as a walk over the words: what is still to come gives the whole answer, with a count for each desk of what has passed.
 -- Assumes nothing.
-use Rattle.std.proofs.Common.{◌≡◌, ℕ, zero, suc, ◌+◌, ◌-◌, ◌<◌, ◌≤◌, Bool, true, false, ◌&&◌, eqb, ltb, leb, List, [], ◌∷◌, length, get_or, drop, set, replicate, sym, refl, ap, ◌∙◌, arith, length-set, drop_of_length-le, ltb-true, le-ltb, lt-ltb, ne_eqb}
+use Rattle.std.proofs.Common.{◌≡◌, ℕ, zero, suc, ◌+◌, ◌-◌, ◌<◌, ◌≤◌, Bool, true, false, ◌&&◌, eqb, ltb, leb, List, []}
+use Rattle.std.proofs.Common.{◌∷◌, length, get_or, drop, set, replicate, sym, refl}
+use Rattle.std.proofs.Common.{ap, ◌∙◌, arith, length-set, drop_of_length-le, ltb-true, le-ltb, lt-ltb, ne_eqb}
 use mathlib.Core.Bool.{and_assoc}
 use Rattle.lists.specs.Lists.{every}
 use Rattle.lists.proofs.Laws.{drop_here, and_fst, and_snd, every_same}

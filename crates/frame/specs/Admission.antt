@@ -1,5 +1,6 @@
 -- Questions 10 to 12 ("questions at the door"), the verdict on a frame, and what the words of a frame stand for.
-use Rattle.std.specs.Prelude.{◌≡◌, ℕ, zero, suc, ◌+◌, ◌-◌, ◌%◌, Bool, true, false, cond, ◌&&◌, leb, List, [], ◌∷◌, length, take, drop, ◌==◌, nat_le, nat_lt, slice_index}
+use Rattle.std.specs.Prelude.{◌≡◌, ℕ, zero, suc, ◌+◌, ◌-◌, ◌%◌, Bool, true, false, cond}
+use Rattle.std.specs.Prelude.{◌&&◌, leb, List, [], ◌∷◌, length, take, drop, ◌==◌, nat_le, nat_lt, slice_index}
 use Rattle.verdict.specs.Verdict.{Verdict, accepted, ask, ◌then◌}
 use Rattle.lists.specs.Lists.{every}
 use Rattle.word.specs.Field.{kind_of, addressed_desk, frame_length, update_desk, cell_count, cell_field}

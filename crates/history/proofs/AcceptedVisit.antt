@@ -184,7 +184,8 @@ module _ (plan : List ℕ) (h : Holding) (snapshot frame out replies : List ℕ)
           runs = mem_All (Runs (plan_of plan)) waiting (waits_runs fit);
         } in
         let sizes : Sizes = record { records = λ q. length h.queue; words = λ q. length snapshot } in
-        let r = sends_reads plan plan_of_lem sizes h ok snapshot frame out replies (turn_of plan h snapshot frame out replies verdict_of_lem) in
+        let r = sends_reads plan plan_of_lem sizes h ok snapshot frame out replies
+        (turn_of plan h snapshot frame out replies verdict_of_lem) in
         let whole : take words left.out ≡ sends =
         rw (accepted_is.2, same_words accepted_is.0) (take-append_seam sends (drop (length sends) out)) in
         rw whole

@@ -10,7 +10,8 @@ use lib.ListN.{get_or}
 use Rattle.lists.specs.Lists.{every, some, tabulate}
 use Rattle.word.specs.Reserved.{reserved_zero, source_field}
 use Rattle.plan.specs.Decode.{step_of, part_by, access_by, action_by, transactions_of, plan_of}
-use Rattle.plan.specs.Admission.{has_head, counts_in_range, transaction_formed, step_formed, tell_count, source_exists, step_exists, part_exists}
+use Rattle.plan.specs.Admission.{has_head, counts_in_range, transaction_formed, step_formed}
+use Rattle.plan.specs.Admission.{tell_count, source_exists, step_exists, part_exists}
 use Rattle.plan.specs.Admission.{parameters_exist, transactions_verdict, open_plan_verdict, plan_verdict}
 use Rattle.operation.specs.Operation.{cells_named}
 use Rattle.operation.specs.Admission.{transaction_exists, unused_zero, row_in_range, parameters_pass, operation_verdict}
@@ -43,12 +44,17 @@ small a b h k (suc (suc (suc zero))) = omega arith
 small a b h k (suc (suc (suc (suc i)))) = omega arith
 
 pub course : Course
-unfolding ones open_plan_verdict plan_verdict has_head counts_in_range transactions_verdict plans.well_formed every transaction_formed step_formed
-    tell_count parameters_exist part_exists step_exists source_exists transactions_of plan_of step_of part_by access_by action_by reserved_zero
-    source_field frame_verdict frame_headed sums_right updates_right well_formed update_formed cell_formed few_per_desk desk_count writes_from
-    updates_from sums_from frame_around cells_named transaction_exists unused_zero row_in_range parameters_pass operation_verdict apply_update act
+unfolding ones open_plan_verdict plan_verdict has_head counts_in_range transactions_verdict plans.well_formed every transaction_formed
+    step_formed
+    tell_count parameters_exist part_exists step_exists source_exists transactions_of plan_of step_of part_by access_by action_by
+    reserved_zero
+    source_field frame_verdict frame_headed sums_right updates_right well_formed update_formed cell_formed few_per_desk desk_count
+    writes_from
+    updates_from sums_from frame_around cells_named transaction_exists unused_zero row_in_range parameters_pass operation_verdict
+    apply_update act
     run_from mask_of some row_touched cell_touched step_touches desk_mask cell_given step_writes written class_by write_words update_words
-    updates_words desk_buffers_fit visit_buffers_fit waits_here urgent_lead queue_fits desk_fits turn_verdict request_verdict request_result foreign
+    updates_words desk_buffers_fit visit_buffers_fit waits_here urgent_lead queue_fits desk_fits turn_verdict request_verdict request_result
+    foreign
     apply_all visit_verdict visit_result copied_by tabulate run_all updates_of replies_of replies_words
 course =
     record {

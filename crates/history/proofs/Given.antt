@@ -76,7 +76,8 @@ module _ (ws : List ℕ) (accept : plan_verdict ws ≡ accepted) (class : Operat
   Match i cs w =
       (j : ℕ) → get_or (map desk.given (answers_seen (machine ws accept class right sizes) w cs)) j [] ≡ map answered_seen (replies (i + j))
 
-  first : (i : ℕ) (a : desk.Answer Reply) → desk.given a ≡ map answered_seen (replies (i + 0)) → desk.given a ≡ map answered_seen (replies i)
+  first : (i : ℕ) (a : desk.Answer Reply) → desk.given a ≡ map answered_seen (replies (i + 0)) → desk.given a ≡ map answered_seen
+      (replies i)
   first i a e = e ∙ ap (λ (k : ℕ). map answered_seen (replies k)) (add-zero i)
 
   later : (i j : ℕ) → map answered_seen (replies (i + suc j)) ≡ map answered_seen (replies (suc i + j))

@@ -26,7 +26,8 @@ use Rattle.serial.specs.Desk as desk
 use Rattle.serial.specs.Step as step
 use Rattle.serial.specs.Machine.{Machine, Words, machine_after, answers_seen, MachineProper}
 use Rattle.history.specs.History.{Call, request, visit, Outcome, requested, visited, is_refused, Kept, holding_after}
-use Rattle.history.specs.History.{is_refused_response, is_refused_forwarding, frame_written, written, outcome, step_at, outcome_at, outcomes}
+use Rattle.history.specs.History.{is_refused_response, is_refused_forwarding, frame_written, written}
+use Rattle.history.specs.History.{outcome, step_at, outcome_at, outcomes}
 use Rattle.history.specs.History.{kept_after, holdings_after, WordsFit, Proper}
 use Rattle.history.specs.SerialRun.{Classifies}
 use Rattle.history.proofs.Protocol.{Sizes, Brought, system}

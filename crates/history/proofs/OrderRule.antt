@@ -73,4 +73,5 @@ order_follows_rule plan accept class right cells rows snapshots cs pr =
     in_order (ordered plan accept class right cells rows snapshots cs pr)
     (subst (Pairs protocolOrder.Precedes) (order_seen plan accept class right cells rows snapshots cs pr)
     (protocolRule.order_follows_rule S (map call_seen cs) (refusals plan accept class right cells rows snapshots cs pr)
-    (at_desks S (map call_seen cs) (new_desks S cells) (start_frame ∷ []) (proper_seen plan accept class right cells rows snapshots cs pr))))
+    (at_desks S (map call_seen cs) (new_desks S cells) (start_frame ∷ [])
+    (proper_seen plan accept class right cells rows snapshots cs pr))))

@@ -68,7 +68,8 @@ pub other_cells_stay : OtherCellsStay
 other_cells_stay plan [] w d x f = refl
 other_cells_stay plan (c ∷ cs) w d x f = other_cells_stay plan cs (step_at plan w c) d x f ∙ other_step plan w c d x f
 
-one_desk_step : (plan : List ℕ) (w : ℕ → Kept) (c : Call) (d : ℕ) → (plan_of plan).desks ≡ 1 → (step_at plan w c d).snapshot ≡ (w d).snapshot
+one_desk_step : (plan : List ℕ) (w : ℕ → Kept) (c : Call) (d : ℕ) → (plan_of plan).desks ≡ 1 → (step_at plan w c d).snapshot ≡
+    (w d).snapshot
 one_desk_step plan w (request q client k ps) d one = by_same d q (λ e. rw (eqb_yes e) (rw e refl)) (λ e. rw (eqb_no e) refl)
 one_desk_step plan w (visit q frame out replies) d one =
     by_same d q (λ e. rw (eqb_yes e) (rw e (one_desk_left plan (w q).holding (w q).snapshot frame out replies one)))

@@ -58,7 +58,8 @@ start_sound ws cells rows snapshots p h =
     record {
       desk = refl;
       fits = and_true _ _ (lt-ltb p (plan_of ws).desks h)
-          (and_true _ _ refl (and_true _ _ (eq-eqb (p % (plan_of ws).desks) p (mod-eq_of_lt h)) (none_waits (plan_of ws) p (rows p) 0 refl)));
+          (and_true _ _ refl (and_true _ _ (eq-eqb (p % (plan_of ws).desks) p (mod-eq_of_lt h)) (none_waits (plan_of ws) p
+          (rows p) 0 refl)));
       size = refl;
       room = omega arith;
       runs = tt;

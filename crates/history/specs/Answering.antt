@@ -69,7 +69,8 @@ abbrev pub RequestWaits : Type 0
 RequestWaits =
     (plan : List ℕ) (w : ℕ → Kept) (p client k : ℕ) (ps : List ℕ)
     → (request_result plan (w p).holding (record_of client k ps)).answer ≡ asked.waits
-    → WaitsAt (place_at plan (w p).holding (record_of client k ps)) (record_of client k ps) (step_at plan w (request p client k ps) p).holding
+    → WaitsAt (place_at plan (w p).holding (record_of client k ps)) (record_of client k ps)
+    (step_at plan w (request p client k ps) p).holding
 
 -- "An arriving urgent request moves the waiting others up by a place.": where record i stands after a request at its desk, one place
 -- further on if the request is told to wait and its place is i or before it

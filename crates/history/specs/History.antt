@@ -109,7 +109,9 @@ abbrev pub start : List ℕ → (ℕ → List Request) → (ℕ → List ℕ) �
 start cells rows snapshots p = kept (holding (new_desk p) cells (rows p)) (snapshots p)
 
 abbrev pub NewDeskStarts : Type 0
-NewDeskStarts = (plan : List ℕ) → plan_verdict plan ≡ accepted → (p : ℕ) → p < (plan_of plan).desks → new_desk_result plan p ≡ opened (new_desk p)
+NewDeskStarts =
+    (plan : List ℕ) → plan_verdict plan ≡ accepted → (p : ℕ) → p < (plan_of plan).desks
+    → new_desk_result plan p ≡ opened (new_desk p)
 
 -- ---- the premise
 

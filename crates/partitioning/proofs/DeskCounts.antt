@@ -43,4 +43,5 @@ all_several false false false = tt
 pub several_desks : (n m : ℕ) (e o z : Bool) → n ≤ 8 → m < n → several n m e o z ≡ several_by n m e o z
 several_desks n m e o z h l =
     same_is (leb n m) (several n m e o z) (several_by n m e o z) (lt-leb n m l)
-    (below_at 8 (several_test e o z n) (below_at 9 (λ n. below 8 (several_test e o z n)) (all_several e o z) n (omega arith)) m (omega arith))
+    (below_at 8 (several_test e o z n) (below_at 9 (λ n. below 8 (several_test e o z n)) (all_several e o z) n (omega arith)) m
+    (omega arith))

@@ -108,7 +108,8 @@ module _ (n f : ℕ) (few : n ≤ 4) (c : Candidate n f) where
   candidate_decided = ⊎_elim (λ (h : f < n). rw (part_of_parameter f (omega arith))) (λ (h : f ≡ 15). rw (h, part_of_none)) c
 
 -- and only a candidate is
-field_candidate : (n f : ℕ) → partitioning_formed f ≡ true → part_exists n (part_by f) ≡ true → part_decided (part_by f) ≡ true → Candidate n f
+field_candidate : (n f : ℕ) → partitioning_formed f ≡ true → part_exists n (part_by f) ≡ true → part_decided (part_by f) ≡ true
+    → Candidate n f
 unfolding part_exists
 field_candidate n f form exists closed =
     ⊎_elim (λ (h : f < 4). inl (ltb-true f n (rw (part_of_parameter f h) at exists))) (λ (h : f ≡ 15). inr h)

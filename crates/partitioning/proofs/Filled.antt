@@ -61,7 +61,8 @@ module _ (n w : ℕ) (ws fs : List ℕ) (e : well_formed (suc n) (w ∷ ws) ≡ 
       ap (λ (k : ℕ). take k (fill (fields_behind fs w) ws)) (put_steps (get_or fs 0 0) w here)
       ∙ (fill_steps (step_count w) ws (fields_behind fs w) parts.steps).0
 
-  dropped : drop (step_count (put_field (get_or fs 0 0) w)) (fill (fields_behind fs w) ws) ≡ fill (fields_behind fs w) (drop (step_count w) ws)
+  dropped : drop (step_count (put_field (get_or fs 0 0) w)) (fill (fields_behind fs w) ws) ≡ fill (fields_behind fs w) (drop
+      (step_count w) ws)
   dropped =
       ap (λ (k : ℕ). drop k (fill (fields_behind fs w) ws)) (put_steps (get_or fs 0 0) w here)
       ∙ (fill_steps (step_count w) ws (fields_behind fs w) parts.steps).1

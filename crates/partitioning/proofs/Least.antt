@@ -23,7 +23,8 @@ module _ (f : ℕ → ℕ) where
   moves_or_stays n = go (ltb (f n) (f (least_at f n))) refl
     where
       go : (b : Bool) → ltb (f n) (f (least_at f n)) ≡ b
-          → ((cond b n (least_at f n) ≡ n) × (f n < f (least_at f n))) ⊎ ((cond b n (least_at f n) ≡ least_at f n) × (f (least_at f n) ≤ f n))
+          → ((cond b n (least_at f n) ≡ n) × (f n < f (least_at f n))) ⊎ ((cond b n (least_at f n) ≡ least_at f n) × (f
+          (least_at f n) ≤ f n))
       go true e = inl (refl, ltb-true _ _ e)
       go false e = inr (refl, ltb-false _ _ e)
 

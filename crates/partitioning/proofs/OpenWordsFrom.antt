@@ -39,7 +39,8 @@ module _ (ws : List ℕ) (i : ℕ) where
   unfolding filling_count
   count_here h e = ap filling_count (open_here h e)
 
-  pub count_not : i < length ws → is_open (get_or ws i 0) ≡ false → filling_count (open_words_from ws i) ≡ filling_count (open_words_from ws (i + 1))
+  pub count_not : i < length ws → is_open (get_or ws i 0) ≡ false → filling_count (open_words_from ws i) ≡ filling_count (open_words_from ws
+      (i + 1))
   count_not h e = ap filling_count (open_not h e)
 
   pub count_done : length ws ≤ i → filling_count (open_words_from ws i) ≡ 1

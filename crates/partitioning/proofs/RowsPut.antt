@@ -75,7 +75,8 @@ module _ (q w : ℕ) (t : List ℕ) (f : ℕ → ℕ → Bool) (h : Holds t f) w
           ≡ mask_of 32 (λ r. f k r || (eqb (set_of q w) k && row_given (row_of w) r))
       other k l e =
           get_or-set_other t (set_of q w) k joined 0 (λ s. e (sym s)) ∙ h.sets k l
-          ∙ mask_ext 32 _ _ (λ r. sym (ap (λ (b : Bool). f k r || (b && row_given (row_of w) r)) (ne_eqb (set_of q w) k e) ∙ or-false (f k r)))
+          ∙ mask_ext 32 _ _ (λ r. sym (ap (λ (b : Bool). f k r || (b && row_given (row_of w) r)) (ne_eqb (set_of q w) k e) ∙ or-false
+          (f k r)))
 
       go : (b : Bool) → Holds (cond b (set t (set_of q w) joined) t) (λ k r. f k r || (b && (eqb (set_of q w) k && row_given (row_of w) r)))
       go true = record {
@@ -86,7 +87,8 @@ module _ (q w : ℕ) (t : List ℕ) (f : ℕ → ℕ → Bool) (h : Holds t f) w
 
 -- ---- along the words
 
-pub holds_closed : (q : ℕ) (ws t : List ℕ) (f : ℕ → ℕ → Bool) → Holds t f → Holds (mark_closed q ws t) (λ k r. f k r || closed_puts k r q ws)
+pub holds_closed : (q : ℕ) (ws t : List ℕ) (f : ℕ → ℕ → Bool) → Holds t f → Holds (mark_closed q ws t)
+    (λ k r. f k r || closed_puts k r q ws)
 unfolding mark_closed closed_puts
 holds_closed q [] t f h = holds_same t f _ (λ k r. sym (or-false (f k r))) h
 holds_closed q (w ∷ ws) t f h =

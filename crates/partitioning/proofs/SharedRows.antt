@@ -102,7 +102,8 @@ module _ (p : Plan) (ws : List ℕ) (m q : ℕ) (few : p.desks ≤ 8) (some_desk
         ≡ some_below 32 (λ r. shared p (cell_in (table_column w) r) && row_given (row_of w) r)
     word_rows w =
         let l : table_column w < 32 = omega arith in
-        ap (λ (x : ℕ). not (eqb x 0)) (ap₂ bit_and (get_or_tabulate 32 (shared_in p.desks t) (table_column w) 0 l ∙ shared_column (table_column w) l)
+        ap (λ (x : ℕ). not (eqb x 0)) (ap₂ bit_and (get_or_tabulate 32 (shared_in p.desks t) (table_column w) 0 l ∙ shared_column
+        (table_column w) l)
         (rows_mask_lem w) ∙ mask_and 32 _ _)
         ∙ mask_empty 32 _
 

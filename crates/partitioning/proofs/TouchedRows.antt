@@ -124,7 +124,8 @@ module _ (n q r a c d : ℕ) (i : InTableColumn a r c) where
     eq-eqb (c % 4) (column_field w) (omega (arith, column_parts w, e, i.column)),
   )
 
-  other_column : (w : ℕ) (b : Bool) → (table_column w ≡ a → ⊥) → (eqb (c / 128) (table_field w) && (eqb (c % 4) (column_field w) && b)) ≡ false
+  other_column : (w : ℕ) (b : Bool) → (table_column w ≡ a → ⊥) → (eqb (c / 128) (table_field w) && (eqb (c % 4) (column_field w) && b))
+      ≡ false
   other_column w b e = go (eqb (c / 128) (table_field w)) (eqb (c % 4) (column_field w)) refl refl
     where
       go : (x y : Bool) → eqb (c / 128) (table_field w) ≡ x → eqb (c % 4) (column_field w) ≡ y → (x && (y && b)) ≡ false

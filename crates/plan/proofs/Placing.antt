@@ -29,7 +29,8 @@ pub record Placing (ws : List ℕ) (n : ℕ) (l : List ℕ) : Type 0 where
 pub placing_none : (ws : List ℕ) → Placing ws 0 (replicate 32 0)
 placing_none ws = record {
   long = length-replicate {A = ℕ} 32 0;
-  entries = λ j h. get_or-replicate {A = ℕ} 32 j 0 0 h ∙ sym (ap (λ (b : Bool). cond b (transaction_place ws j) 0) (le-ltb j 0 (omega arith)));
+  entries = λ j h. get_or-replicate {A = ℕ} 32 j 0 0 h ∙ sym (ap (λ (b : Bool). cond b (transaction_place ws j) 0) (le-ltb j 0
+      (omega arith)));
 }
 
 module _ (ws : List ℕ) (n : ℕ) (l : List ℕ) (p : Placing ws n l) where

@@ -1,5 +1,6 @@
 -- Questions 1 to 4 ("questions at the door") and the refusal 17 of open fields, and the plan reader's verdict.
-use Rattle.std.specs.Prelude.{ℕ, zero, suc, ◌+◌, ◌≤◌, ◌≡◌, Bool, true, false, not, ◌&&◌, ◌||◌, List, [], ◌∷◌, map, length, take, drop, ltb, leb, eqb}
+use Rattle.std.specs.Prelude.{ℕ, zero, suc, ◌+◌, ◌≤◌, ◌≡◌, Bool, true, false, not, ◌&&◌}
+use Rattle.std.specs.Prelude.{◌||◌, List, [], ◌∷◌, map, length, take, drop, ltb, leb, eqb}
 use Rattle.verdict.specs.Verdict.{Verdict, accepted, ask, ◌then◌}
 use Rattle.lists.specs.Lists.{every, some}
 use Rattle.word.specs.Field.{kind_of, head_desks, head_transactions, head_words, parameter_count, step_count, partitioning_field}
@@ -14,7 +15,9 @@ longest_plan = 417
 
 -- 1: "Has the plan a head word of kind 1 whose count is the words handed in, 1–417?"
 unfoldable pub has_head : List ℕ → Bool
-has_head ws = leb 1 (length ws) && (leb (length ws) longest_plan && (eqb (kind_of (head_of ws)) 1 && eqb (head_words (head_of ws)) (length ws)))
+has_head ws =
+    leb 1 (length ws) && (leb (length ws) longest_plan
+    && (eqb (kind_of (head_of ws)) 1 && eqb (head_words (head_of ws)) (length ws)))
 
 -- 2: "Are desks and transactions in range?"
 unfoldable pub counts_in_range : ℕ → Bool

@@ -11,7 +11,8 @@ use Rattle.serial.specs.History.{answer_at, step_at, answers, desks_after, Prope
 use Rattle.serial.specs.SerialRun.{Serial, note, note_all}
 use Rattle.serial.specs.Visits.{Visit, visits_at, visits, frame_after, latest_frame, frames_after}
 
-pub latest_frame_append : {R : Type 0} (f : Frame) (xs ys : List (Answer R)) → latest_frame f (xs ++ ys) ≡ latest_frame (latest_frame f xs) ys
+pub latest_frame_append : {R : Type 0} (f : Frame) (xs ys : List (Answer R)) → latest_frame f (xs ++ ys) ≡ latest_frame
+    (latest_frame f xs) ys
 latest_frame_append f [] ys = refl
 latest_frame_append f (x ∷ xs) ys = latest_frame_append (frame_after f x) xs ys
 

@@ -5,7 +5,8 @@ use lib.Count.{ones}
 use Rattle.lists.specs.Lists.{every, some, lowest_below, tabulate}
 use Rattle.word.specs.Reserved.{source_field, reserved_zero}
 use Rattle.plan.specs.Decode.{access_by, action_by, step_of, part_by, transactions_of, plan_of}
-use Rattle.plan.specs.Admission.{has_head, counts_in_range, transaction_formed, step_formed, tell_count, well_formed, source_exists, step_exists}
+use Rattle.plan.specs.Admission.{has_head, counts_in_range, transaction_formed, step_formed}
+use Rattle.plan.specs.Admission.{tell_count, well_formed, source_exists, step_exists}
 use Rattle.plan.specs.Admission.{part_exists, parameters_exist, transactions_verdict, open_plan_verdict, plan_verdict}
 use Rattle.operation.specs.Operation.{cells_named}
 use Rattle.operation.specs.Admission.{transaction_exists, unused_zero, row_in_range, parameters_pass, operation_verdict}
@@ -36,8 +37,11 @@ unfolding ones source_field reserved_zero access_by action_by step_of part_by tr
     open_plan_verdict plan_verdict cells_named transaction_exists unused_zero row_in_range parameters_pass operation_verdict mask_of some
     row_touched cell_touched step_touches desk_mask cell_given step_writes written class_by lowest_below in_mask
     is_other cause_desk has_other cause_cell cause_transaction classify_result
-    read_verdict frame_verdict frame_headed sums_right updates_right frames.well_formed update_formed cell_formed few_per_desk desk_count writes_from
-    updates_from sums_from frame_around write_words update_words updates_words act run_from apply_update desk_buffers_fit visit_buffers_fit waits_here
-    urgent_lead queue_fits desk_fits turn_verdict run_all updates_of replies_of replies_words foreign apply_all visit_verdict visit_result copied_by
+    read_verdict frame_verdict frame_headed sums_right updates_right frames.well_formed update_formed cell_formed few_per_desk desk_count
+    writes_from
+    updates_from sums_from frame_around write_words update_words updates_words act run_from apply_update desk_buffers_fit visit_buffers_fit
+    waits_here
+    urgent_lead queue_fits desk_fits turn_verdict run_all updates_of replies_of replies_words foreign apply_all visit_verdict visit_result
+    copied_by
     tabulate
 starred = refl

@@ -16,7 +16,8 @@ use Rattle.operation.specs.Store.{Update}
 use Rattle.frame.specs.Frame.{SentUpdate, sent, update_head, write_words, update_words, updates_words}
 use Rattle.frame.specs.Admission.{writes_from, updates_from, update_formed, cell_formed, well_formed}
 use Rattle.token.specs.WellFormed.{cell_fits, update_fits}
-use Rattle.token.proofs.HeadWords.{update_read, update_desk_lem, update_cells, update_formed_lem, cell_read, cell_field_lem, cell_formed_lem}
+use Rattle.token.proofs.HeadWords.{update_read, update_desk_lem, update_cells}
+use Rattle.token.proofs.HeadWords.{update_formed_lem, cell_read, cell_field_lem, cell_formed_lem}
 
 -- ---- from words to updates
 

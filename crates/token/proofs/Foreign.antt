@@ -20,7 +20,8 @@ pub words_append : (us ts : List SentUpdate) → updates_words (us ++ ts) ≡ up
 unfolding updates_words
 words_append [] ts = refl
 words_append (u ∷ us) ts =
-    ap (λ (w : List ℕ). update_words u ++ w) (words_append us ts) ∙ sym (append_assoc (update_words u) (updates_words us) (updates_words ts))
+    ap (λ (w : List ℕ). update_words u ++ w) (words_append us ts) ∙ sym (append_assoc (update_words u) (updates_words us)
+    (updates_words ts))
 
 -- ---- each of them
 

@@ -154,8 +154,10 @@ module _ {desk : ℕ} {ws s₀ o s t : List ℕ} {kept : Bool} {left end i : ℕ
           };
         })
 
-    module _ (room : length (foreign_words desk ws) ≤ length o) (z : left ≡ 0) (e : not (eqb (update_desk (get_or ws i 0)) desk) ≡ true) where
-      head_words_lem : Filling (foreign_words desk ws) o t end (get_or ws i 0 ∷ coming desk true (cell_count (get_or ws i 0)) (drop (i + 1) ws))
+    module _ (room : length (foreign_words desk ws) ≤ length o) (z : left ≡ 0) (e : not (eqb (update_desk (get_or ws i 0)) desk)
+        ≡ true) where
+      head_words_lem : Filling (foreign_words desk ws) o t end (get_or ws i 0 ∷ coming desk true (cell_count (get_or ws i 0)) (drop
+          (i + 1) ws))
       head_words_lem = fill_same (at_head z).words (head_coming _ _ desk kept (not-true _ e) (head_reads _ _ (at_head z).reads).1)
 
       pub head_room : end < length t

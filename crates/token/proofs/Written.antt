@@ -73,7 +73,8 @@ module _ (h : ℕ) (cs vs o : List ℕ) where
   filled_next i at w v t e p a b l q r =
       let n : length (pairs i cs vs) ≡ i = pairs_length i cs vs (omega arith) (omega arith) in
       rw (e, p, q, r, pairs_next i cs vs a b)
-      (ap (λ (k : ℕ). set (set (filled h (pairs i cs vs) o) (1 + 2 * k) (cell_word (get_or cs i 0))) (1 + 2 * k + 1) (get_or vs i 0)) (sym n)
+      (ap (λ (k : ℕ). set (set (filled h (pairs i cs vs) o) (1 + 2 * k) (cell_word (get_or cs i 0))) (1 + 2 * k + 1) (get_or vs i 0))
+      (sym n)
       ∙ fill_next h (pairs i cs vs) o (get_or cs i 0) (get_or vs i 0) (omega arith))
 
 -- ---- an update whose arrays hold 12 cells and values: its count says no more than 12

@@ -67,7 +67,8 @@ module _ (p : Plan) (desk : ℕ) (rs : List Request) (s₀ o₀ q₀ : List ℕ)
   pub running_start : Running s₀ o₀ q₀ 0 0
   running_start = record { store = refl; words = fill_none _ o₀; replies = fill_none _ q₀ }
 
-  module _ (s o q : List ℕ) (end at : ℕ) (v : Running s o q end at) (h : at < length rs) (r : Request) (e : get_or rs at no_request ≡ r) where
+  module _ (s o q : List ℕ) (end at : ℕ) (v : Running s o q end at) (h : at < length rs) (r : Request) (e : get_or rs at no_request
+      ≡ r) where
     here : drop at rs ≡ r ∷ drop (at + 1) rs
     here = rw (add-one, drop-cons rs at no_request h) (ap (λ (x : Request). x ∷ drop (suc at) rs) e)
 
@@ -107,7 +108,8 @@ module _ (p : Plan) (desk : ℕ) (rs : List Request) (s₀ o₀ q₀ : List ℕ)
           store = ap (run_all p (drop (at + 1) rs)) x.store ∙ sym (store_first p desk r (drop (at + 1) rs) s)
               ∙ ap (λ (l : List Request). run_all p l s) (sym here) ∙ v.store;
           words = rw (put_remainder o o' end, wrote, x.count, x.store) (fill_part (made_words p desk r s) words_here);
-          replies = rw (put_remainder q q' (at * reply_size), replied, x.store, next) (fill_part (reply_words (reply_to p r s)) replies_here);
+          replies = rw (put_remainder q q' (at * reply_size), replied, x.store, next) (fill_part (reply_words
+              (reply_to p r s)) replies_here);
         }
 
   pub running_done : (s o q : List ℕ) (end at : ℕ) → Running s o q end at → length rs ≤ at → AllRan p rs desk s₀ o₀ q₀ end s o q

@@ -24,12 +24,14 @@ loop-s-init c =
 
 pub cell_named-requires : goal.cell_named-requires
 cell_named-requires c =
-    let low_row : value_of c.args.params (row_of c.step_word-word.result) ≤ 31 = row_passes _ _ c.requires.0 _ (omega arith) _ c.step_word-word.ensures _ c.requires.1 (omega arith) in
+    let low_row : value_of c.args.params (row_of c.step_word-word.result) ≤ 31 = row_passes _ _ c.requires.0 _
+    (omega arith) _ c.step_word-word.ensures _ c.requires.1 (omega arith) in
     low_row
 
 pub lower_cell-lowest-requires : goal.lower_cell-lowest-requires
 lower_cell-lowest-requires c =
-    let low_row : value_of c.args.params (row_of c.step_word-word.result) ≤ 31 = row_passes _ _ c.requires.0 _ (omega arith) _ c.step_word-word.ensures _ c.requires.1 (omega arith) in
+    let low_row : value_of c.args.params (row_of c.step_word-word.result) ≤ 31 = row_passes _ _ c.requires.0 _
+    (omega arith) _ c.step_word-word.ensures _ c.requires.1 (omega arith) in
     let h = low_row in (
       omega (arith, c.cell_named.ensures),
       ap (λ (l : List ℕ). length l) c.requires.2 ∙ length_tabulate 1024 (desk_mask (plan_of c.args.plan.now)),

@@ -29,7 +29,8 @@ loop-t-init c = (refl, omega arith, fails_below_none _)
 
 pub transaction_touches-requires : goal.transaction_touches-requires
 transaction_touches-requires c =
-    let stands : StandsAt c.args.plan.now c.loop-t.at = rw c.loop-t.invariant.0 (stands_at_lem _ c.requires.0 c.loop-t.t c.loop-t-test.true) in
+    let stands : StandsAt c.args.plan.now c.loop-t.at = rw c.loop-t.invariant.0
+    (stands_at_lem _ c.requires.0 c.loop-t.t c.loop-t-test.true) in
     (c.requires.0, stands, c.requires.1)
 
 pub returns-then-transaction_touches : goal.returns-then-transaction_touches
@@ -47,17 +48,20 @@ returns-then-transaction_touches c =
 
 pub overflow_add-at : goal.overflow_add-at
 overflow_add-at c =
-    let stands : StandsAt c.args.plan.now c.loop-t.at = rw c.loop-t.invariant.0 (stands_at_lem _ c.requires.0 c.loop-t.t c.loop-t-test.true) in
+    let stands : StandsAt c.args.plan.now c.loop-t.at = rw c.loop-t.invariant.0
+    (stands_at_lem _ c.requires.0 c.loop-t.t c.loop-t-test.true) in
     omega (arith, stands.room)
 
 pub step_count-requires : goal.step_count-requires
 step_count-requires c =
-    let stands : StandsAt c.args.plan.now c.loop-t.at = rw c.loop-t.invariant.0 (stands_at_lem _ c.requires.0 c.loop-t.t c.loop-t-test.true) in
+    let stands : StandsAt c.args.plan.now c.loop-t.at = rw c.loop-t.invariant.0
+    (stands_at_lem _ c.requires.0 c.loop-t.t c.loop-t-test.true) in
     stands
 
 pub overflow_add-at-in-loop-t : goal.overflow_add-at-in-loop-t
 overflow_add-at-in-loop-t c =
-    let stands : StandsAt c.args.plan.now c.loop-t.at = rw c.loop-t.invariant.0 (stands_at_lem _ c.requires.0 c.loop-t.t c.loop-t-test.true) in
+    let stands : StandsAt c.args.plan.now c.loop-t.at = rw c.loop-t.invariant.0
+    (stands_at_lem _ c.requires.0 c.loop-t.t c.loop-t-test.true) in
     omega (arith, stands.room, c.step_count.ensures)
 
 pub loop-t-preserved : goal.loop-t-preserved

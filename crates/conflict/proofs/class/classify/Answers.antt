@@ -31,7 +31,8 @@ parameters_pass-requires c =
     let plan_passes : plan_verdict c.args.plan.now ≡ accepted = sym c.read_plan.ensures ∙ ap verdict_of c.in_default.is in
     let exists : transaction_exists (plan_of c.args.plan.now)
     c.args.transaction ≡ true = sym c.transaction_exists.ensures ∙ c.if-not-transaction_exists.false in
-    let placed : StandsAt c.args.plan.now c.transaction_place-at.result = stands c.args.plan.now c.args.transaction c.args.params plan_passes exists _
+    let placed : StandsAt c.args.plan.now c.transaction_place-at.result =
+    stands c.args.plan.now c.args.transaction c.args.params plan_passes exists _
     c.transaction_place-at.ensures in
     placed
 
@@ -49,7 +50,8 @@ class_answer-requires c =
     let plan_passes : plan_verdict c.args.plan.now ≡ accepted = sym c.read_plan.ensures ∙ ap verdict_of c.in_default.is in
     let exists : transaction_exists (plan_of c.args.plan.now)
     c.args.transaction ≡ true = sym c.transaction_exists.ensures ∙ c.if-not-transaction_exists.false in
-    let placed : StandsAt c.args.plan.now c.transaction_place-at.result = stands c.args.plan.now c.args.transaction c.args.params plan_passes exists _
+    let placed : StandsAt c.args.plan.now c.transaction_place-at.result =
+    stands c.args.plan.now c.args.transaction c.args.params plan_passes exists _
     c.transaction_place-at.ensures in
     let passed : parameters_pass (transaction_from c.args.plan.now
     c.transaction_place-at.result)

@@ -22,12 +22,14 @@ loop-s-init c =
 
 pub cell_named-cell-requires : goal.cell_named-cell-requires
 cell_named-cell-requires c =
-    let low_row : value_of c.args.params (row_of c.step_word-word.result) ≤ 31 = row_passes _ _ c.requires.0 _ (omega arith) _ c.step_word-word.ensures _ c.requires.1 (omega arith) in
+    let low_row : value_of c.args.params (row_of c.step_word-word.result) ≤ 31 = row_passes _ _ c.requires.0 _
+    (omega arith) _ c.step_word-word.ensures _ c.requires.1 (omega arith) in
     low_row
 
 pub bounds-masks-cell : goal.bounds-masks-cell
 bounds-masks-cell c =
-    let low_row : value_of c.args.params (row_of c.step_word-word.result) ≤ 31 = row_passes _ _ c.requires.0 _ (omega arith) _ c.step_word-word.ensures _ c.requires.1 (omega arith) in
+    let low_row : value_of c.args.params (row_of c.step_word-word.result) ≤ 31 = row_passes _ _ c.requires.0 _
+    (omega arith) _ c.step_word-word.ensures _ c.requires.1 (omega arith) in
     let h = low_row in omega arith
 
 pub returns-then-desks_in-ne1 : goal.returns-then-desks_in-ne1

@@ -25,7 +25,8 @@ pub returns-then-not-one_desk_each : goal.returns-then-not-one_desk_each
 returns-then-not-one_desk_each c =
     let class : let a = c.args in
     cond c.one_desk_each.result local global
-    ≡ class_by (plan_of a.plan.now) (transaction_from a.plan.now a.at) a.params = class_writing c.args.plan.now c.args.at c.args.params c.requires.2 _ _ _ c.fill_masks.ensures c.requires.4
+    ≡ class_by (plan_of a.plan.now) (transaction_from a.plan.now a.at) a.params =
+    class_writing c.args.plan.now c.args.at c.args.params c.requires.2 _ _ _ c.fill_masks.ensures c.requires.4
     c.one_desk_each.ensures in
     answered_global c.args.plan.now c.args.at c.args.params c.args.desk c.requires.5
     (sym (ap (λ (b : Bool). cond b local global) c.if-not-one_desk_each.true)
@@ -35,7 +36,8 @@ pub returns : goal.returns
 returns c =
     let class : let a = c.args in
     cond c.one_desk_each.result local global
-    ≡ class_by (plan_of a.plan.now) (transaction_from a.plan.now a.at) a.params = class_writing c.args.plan.now c.args.at c.args.params c.requires.2 _ _ _ c.fill_masks.ensures c.requires.4
+    ≡ class_by (plan_of a.plan.now) (transaction_from a.plan.now a.at) a.params =
+    class_writing c.args.plan.now c.args.at c.args.params c.requires.2 _ _ _ c.fill_masks.ensures c.requires.4
     c.one_desk_each.ensures in
     answered_local c.args.plan.now c.args.at c.args.params c.args.desk c.requires.5
     (sym (ap (λ (b : Bool). cond b local global) c.if-not-one_desk_each.false)

@@ -22,18 +22,21 @@ loop-t-init c =
 
 pub offset_bounds-plan-at : goal.offset_bounds-plan-at
 offset_bounds-plan-at c =
-    let stands : StandsAt c.args.plan.now c.loop-t.at = rw c.loop-t.invariant.0 (stands_at_lem _ c.requires.0 c.loop-t.t c.loop-t-test.true) in
+    let stands : StandsAt c.args.plan.now c.loop-t.at = rw c.loop-t.invariant.0
+    (stands_at_lem _ c.requires.0 c.loop-t.t c.loop-t-test.true) in
     let h : c.loop-t.at < length c.args.plan.now = omega (arith, stands.room) in
     search rules
 
 pub bounds-plan-at : goal.bounds-plan-at
 bounds-plan-at c =
-    let stands : StandsAt c.args.plan.now c.loop-t.at = rw c.loop-t.invariant.0 (stands_at_lem _ c.requires.0 c.loop-t.t c.loop-t-test.true) in
+    let stands : StandsAt c.args.plan.now c.loop-t.at = rw c.loop-t.invariant.0
+    (stands_at_lem _ c.requires.0 c.loop-t.t c.loop-t-test.true) in
     omega (arith, stands.room)
 
 pub step_count-steps-requires : goal.step_count-steps-requires
 step_count-steps-requires c =
-    let stands : StandsAt c.args.plan.now c.loop-t.at = rw c.loop-t.invariant.0 (stands_at_lem _ c.requires.0 c.loop-t.t c.loop-t-test.true) in
+    let stands : StandsAt c.args.plan.now c.loop-t.at = rw c.loop-t.invariant.0
+    (stands_at_lem _ c.requires.0 c.loop-t.t c.loop-t-test.true) in
     stands
 
 pub loop-s-init : goal.loop-s-init
@@ -43,7 +46,8 @@ loop-s-init c =
 
 pub step_word-requires : goal.step_word-requires
 step_word-requires c =
-    let stands : StandsAt c.args.plan.now c.loop-t.at = rw c.loop-t.invariant.0 (stands_at_lem _ c.requires.0 c.loop-t.t c.loop-t-test.true) in
+    let stands : StandsAt c.args.plan.now c.loop-t.at = rw c.loop-t.invariant.0
+    (stands_at_lem _ c.requires.0 c.loop-t.t c.loop-t-test.true) in
     (stands, omega arith)
 
 pub mark-requires : goal.mark-requires
@@ -53,19 +57,22 @@ mark-requires c =
 
 pub loop-s-preserved : goal.loop-s-preserved
 loop-s-preserved c =
-    let stands : StandsAt c.args.plan.now c.loop-t.at = rw c.loop-t.invariant.0 (stands_at_lem _ c.requires.0 c.loop-t.t c.loop-t-test.true) in
+    let stands : StandsAt c.args.plan.now c.loop-t.at = rw c.loop-t.invariant.0
+    (stands_at_lem _ c.requires.0 c.loop-t.t c.loop-t-test.true) in
     step_on _ _ _ _ _ _ _
     (rw (steps_cons _ _ c.loop-s.s stands (omega arith) _ c.step_word.ensures) at c.loop-s.invariant) _
     c.mark.ensures
 
 pub overflow_add-at : goal.overflow_add-at
 overflow_add-at c =
-    let stands : StandsAt c.args.plan.now c.loop-t.at = rw c.loop-t.invariant.0 (stands_at_lem _ c.requires.0 c.loop-t.t c.loop-t-test.true) in
+    let stands : StandsAt c.args.plan.now c.loop-t.at = rw c.loop-t.invariant.0
+    (stands_at_lem _ c.requires.0 c.loop-t.t c.loop-t-test.true) in
     omega (arith, stands.room)
 
 pub overflow_add-at-in-loop-t : goal.overflow_add-at-in-loop-t
 overflow_add-at-in-loop-t c =
-    let stands : StandsAt c.args.plan.now c.loop-t.at = rw c.loop-t.invariant.0 (stands_at_lem _ c.requires.0 c.loop-t.t c.loop-t-test.true) in
+    let stands : StandsAt c.args.plan.now c.loop-t.at = rw c.loop-t.invariant.0
+    (stands_at_lem _ c.requires.0 c.loop-t.t c.loop-t-test.true) in
     omega (arith, stands.room)
 
 pub loop-t-preserved : goal.loop-t-preserved

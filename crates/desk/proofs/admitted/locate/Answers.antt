@@ -40,7 +40,8 @@ parameters_pass-requires c =
     let exists : transaction_exists (plan_of c.args.plan.now)
     c.args.request.transaction
     ≡ true = sym c.transaction_exists.ensures ∙ c.if-not-transaction_exists.false in
-    let place : get_or c.args.places.now c.args.request.transaction 0 ≡ transaction_place c.args.plan.now c.args.request.transaction = place_looked_up c.args.plan.now c.args.request c.requires.0 exists c.args.places.now c.requires.1 in
+    let place : get_or c.args.places.now c.args.request.transaction 0 ≡ transaction_place c.args.plan.now c.args.request.transaction =
+    place_looked_up c.args.plan.now c.args.request c.requires.0 exists c.args.places.now c.requires.1 in
     stands c.args.plan.now c.args.request c.requires.0 exists _ place
 
 pub returns-then-not-parameters_pass : goal.returns-then-not-parameters_pass
@@ -48,8 +49,10 @@ returns-then-not-parameters_pass c =
     let exists : transaction_exists (plan_of c.args.plan.now)
     c.args.request.transaction
     ≡ true = sym c.transaction_exists.ensures ∙ c.if-not-transaction_exists.false in
-    let place : get_or c.args.places.now c.args.request.transaction 0 ≡ transaction_place c.args.plan.now c.args.request.transaction = place_looked_up c.args.plan.now c.args.request c.requires.0 exists c.args.places.now c.requires.1 in
-    let found : operation_verdict (plan_of c.args.plan.now) (operation_of c.args.request) ≡ ask 8 c.parameters_pass.result = verdict_here c.args.plan.now c.args.request c.requires.0 exists _ place _ c.params.ensures
+    let place : get_or c.args.places.now c.args.request.transaction 0 ≡ transaction_place c.args.plan.now c.args.request.transaction =
+    place_looked_up c.args.plan.now c.args.request c.requires.0 exists c.args.places.now c.requires.1 in
+    let found : operation_verdict (plan_of c.args.plan.now) (operation_of c.args.request) ≡ ask 8 c.parameters_pass.result =
+    verdict_here c.args.plan.now c.args.request c.requires.0 exists _ place _ c.params.ensures
     ∙ ap (ask 8) (sym c.parameters_pass.ensures) in
     sym (ap (λ (v : Verdict). place_by v (transaction_place c.args.plan.now c.args.request.transaction))
     (found ∙ ap (ask 8) (c.if-not-parameters_pass.true)))
@@ -59,8 +62,10 @@ returns c =
     let exists : transaction_exists (plan_of c.args.plan.now)
     c.args.request.transaction
     ≡ true = sym c.transaction_exists.ensures ∙ c.if-not-transaction_exists.false in
-    let place : get_or c.args.places.now c.args.request.transaction 0 ≡ transaction_place c.args.plan.now c.args.request.transaction = place_looked_up c.args.plan.now c.args.request c.requires.0 exists c.args.places.now c.requires.1 in
-    let found : operation_verdict (plan_of c.args.plan.now) (operation_of c.args.request) ≡ ask 8 c.parameters_pass.result = verdict_here c.args.plan.now c.args.request c.requires.0 exists _ place _ c.params.ensures
+    let place : get_or c.args.places.now c.args.request.transaction 0 ≡ transaction_place c.args.plan.now c.args.request.transaction =
+    place_looked_up c.args.plan.now c.args.request c.requires.0 exists c.args.places.now c.requires.1 in
+    let found : operation_verdict (plan_of c.args.plan.now) (operation_of c.args.request) ≡ ask 8 c.parameters_pass.result =
+    verdict_here c.args.plan.now c.args.request c.requires.0 exists _ place _ c.params.ensures
     ∙ ap (ask 8) (sym c.parameters_pass.ensures) in
     sym (ap₂ place_by (found ∙ ap (ask 8) (c.if-not-parameters_pass.false))
     (sym place))

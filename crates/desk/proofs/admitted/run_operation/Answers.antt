@@ -22,4 +22,8 @@ returns c =
     outcome_of c.run-outcome.result ≡ run_of (plan_of d.args.plan.now) (operation_of d.args.request) d.args.cells.now = let d = c.before in
     c.run-outcome.ensures.outcome
     ∙ run_asked d.args.plan.now d.args.request d.requires.admitted _ d.requires.place _ c.params.ensures d.args.cells.now in
-    let d = c.before in record { replied = ap (λ (o : Outcome). o.reply) ran; applied = c.apply.ensures ∙ ap (λ (o : Outcome). apply_update o.update d.args.cells.now) ran }
+    let d = c.before in record {
+      replied = ap (λ (o : Outcome). o.reply) ran;
+      applied = c.apply.ensures ∙ ap (λ
+          (o : Outcome). apply_update o.update d.args.cells.now) ran;
+    }

@@ -26,7 +26,8 @@ pub returns-then-not-waits_here : goal.returns-then-not-waits_here
 returns-then-not-waits_here c =
     let turned : let waiting = take c.args.waiting (records_in c.args.row.now) in
     every (waits_here (plan_of c.args.plan.now) c.args.desk) waiting
-    ≡ (c.waits_here.result && every (waits_here (plan_of c.args.plan.now) c.args.desk) (drop (c.loop-i.i + 1) waiting)) = let row = c.args.row.now in
+    ≡ (c.waits_here.result && every (waits_here (plan_of c.args.plan.now) c.args.desk) (drop (c.loop-i.i + 1) waiting)) = let row =
+    c.args.row.now in
     let f = waits_here (plan_of c.args.plan.now) c.args.desk in
     let here = c.loop-i-test.true in
     let low : c.loop-i.i < 32 = omega (arith, here, c.requires.1) in
@@ -44,7 +45,8 @@ pub loop-i-preserved : goal.loop-i-preserved
 loop-i-preserved c =
     let turned : let waiting = take c.args.waiting (records_in c.args.row.now) in
     every (waits_here (plan_of c.args.plan.now) c.args.desk) waiting
-    ≡ (c.waits_here.result && every (waits_here (plan_of c.args.plan.now) c.args.desk) (drop (c.loop-i.i + 1) waiting)) = let row = c.args.row.now in
+    ≡ (c.waits_here.result && every (waits_here (plan_of c.args.plan.now) c.args.desk) (drop (c.loop-i.i + 1) waiting)) = let row =
+    c.args.row.now in
     let f = waits_here (plan_of c.args.plan.now) c.args.desk in
     let here = c.loop-i-test.true in
     let low : c.loop-i.i < 32 = omega (arith, here, c.requires.1) in

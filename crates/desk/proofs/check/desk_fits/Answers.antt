@@ -26,13 +26,15 @@ returns-then-waiting-gt-QUEUE_SIZE c =
 
 pub returns-then-state-desks : goal.returns-then-state-desks
 returns-then-state-desks c =
-    sym (other_visit c.args.plan.now c.args.state (records_in c.args.row.now) c.if-desks-desk.false c.if-waiting-gt-QUEUE_SIZE.false c.if-state-desks.true)
+    sym (other_visit c.args.plan.now c.args.state
+    (records_in c.args.row.now) c.if-desks-desk.false c.if-waiting-gt-QUEUE_SIZE.false c.if-state-desks.true)
 
 pub returns-then-waiting-eq0 : goal.returns-then-waiting-eq0
 returns-then-waiting-eq0 c =
     let asked : desk_fits (plan_of c.args.plan.now) c.args.state (records_in c.args.row.now)
     ≡ queue_fits (plan_of c.args.plan.now) c.args.state.desk
-    (waiting_in c.args.state.waiting (records_in c.args.row.now)) = by_records c.args.plan.now c.args.state (records_in c.args.row.now) c.if-desks-desk.false c.if-waiting-gt-QUEUE_SIZE.false c.if-state-desks.false in
+    (waiting_in c.args.state.waiting (records_in c.args.row.now)) = by_records c.args.plan.now c.args.state
+    (records_in c.args.row.now) c.if-desks-desk.false c.if-waiting-gt-QUEUE_SIZE.false c.if-state-desks.false in
     sym (asked ∙ none_waits _ _ _ _ c.if-waiting-eq0.true)
 
 pub all_wait_here-requires : goal.all_wait_here-requires
@@ -49,7 +51,8 @@ pub returns-then-not-all_wait_here : goal.returns-then-not-all_wait_here
 returns-then-not-all_wait_here c =
     let asked : desk_fits (plan_of c.args.plan.now) c.args.state (records_in c.args.row.now)
     ≡ queue_fits (plan_of c.args.plan.now) c.args.state.desk
-    (waiting_in c.args.state.waiting (records_in c.args.row.now)) = by_records c.args.plan.now c.args.state (records_in c.args.row.now) c.if-desks-desk.false c.if-waiting-gt-QUEUE_SIZE.false c.if-state-desks.false in
+    (waiting_in c.args.state.waiting (records_in c.args.row.now)) = by_records c.args.plan.now c.args.state
+    (records_in c.args.row.now) c.if-desks-desk.false c.if-waiting-gt-QUEUE_SIZE.false c.if-state-desks.false in
     sym (asked ∙ one_unfit _ _ _ (sym c.all_wait_here.ensures ∙ c.if-not-all_wait_here.true))
 
 pub urgent_lead-requires : goal.urgent_lead-requires
@@ -60,6 +63,7 @@ pub returns : goal.returns
 returns c =
     let asked : desk_fits (plan_of c.args.plan.now) c.args.state (records_in c.args.row.now)
     ≡ queue_fits (plan_of c.args.plan.now) c.args.state.desk
-    (waiting_in c.args.state.waiting (records_in c.args.row.now)) = by_records c.args.plan.now c.args.state (records_in c.args.row.now) c.if-desks-desk.false c.if-waiting-gt-QUEUE_SIZE.false c.if-state-desks.false in
+    (waiting_in c.args.state.waiting (records_in c.args.row.now)) = by_records c.args.plan.now c.args.state
+    (records_in c.args.row.now) c.if-desks-desk.false c.if-waiting-gt-QUEUE_SIZE.false c.if-state-desks.false in
     c.urgent_lead.ensures
     ∙ sym (asked ∙ by_order _ _ _ (sym c.all_wait_here.ensures ∙ c.if-not-all_wait_here.false))

@@ -18,7 +18,8 @@ returns-in_default c =
 
 pub is_global-requires : goal.is_global-requires
 is_global-requires c =
-    let placed : Placed c.args.plan.now c.args.request c.in-At.at = placed_at c.args.plan.now c.args.request c.requires.0 _ (sym (ap place_of c.in-At.is) ∙ c.locate.ensures) in
+    let placed : Placed c.args.plan.now c.args.request c.in-At.at = placed_at c.args.plan.now c.args.request c.requires.0 _ (sym
+    (ap place_of c.in-At.is) ∙ c.locate.ensures) in
     let g = placed in (
       admitted_stands c.args.plan.now c.args.request g.admitted _ g.place,
       parameters_passed c.args.plan.now c.args.request g.admitted _ g.place _ c.params.ensures,
@@ -27,7 +28,8 @@ is_global-requires c =
 
 pub returns-then-not-is_global : goal.returns-then-not-is_global
 returns-then-not-is_global c =
-    let placed : Placed c.args.plan.now c.args.request c.in-At.at = placed_at c.args.plan.now c.args.request c.requires.0 _ (sym (ap place_of c.in-At.is) ∙ c.locate.ensures) in
+    let placed : Placed c.args.plan.now c.args.request c.in-At.at = placed_at c.args.plan.now c.args.request c.requires.0 _ (sym
+    (ap place_of c.in-At.is) ∙ c.locate.ensures) in
     let found : is_global (class_of (plan_of c.args.plan.now) (operation_of c.args.request)) ≡ c.is_global.result = let g = placed in
     sym (c.is_global.ensures
     ∙ ap is_global (class_asked c.args.plan.now c.args.request g.admitted _ g.place _ c.params.ensures)) in
@@ -36,12 +38,14 @@ returns-then-not-is_global c =
 
 pub operation_desk-requires : goal.operation_desk-requires
 operation_desk-requires c =
-    let placed : Placed c.args.plan.now c.args.request c.in-At.at = placed_at c.args.plan.now c.args.request c.requires.0 _ (sym (ap place_of c.in-At.is) ∙ c.locate.ensures) in
+    let placed : Placed c.args.plan.now c.args.request c.in-At.at = placed_at c.args.plan.now c.args.request c.requires.0 _ (sym
+    (ap place_of c.in-At.is) ∙ c.locate.ensures) in
     placed
 
 pub returns : goal.returns
 returns c =
-    let placed : Placed c.args.plan.now c.args.request c.in-At.at = placed_at c.args.plan.now c.args.request c.requires.0 _ (sym (ap place_of c.in-At.is) ∙ c.locate.ensures) in
+    let placed : Placed c.args.plan.now c.args.request c.in-At.at = placed_at c.args.plan.now c.args.request c.requires.0 _ (sym
+    (ap place_of c.in-At.is) ∙ c.locate.ensures) in
     let found : is_global (class_of (plan_of c.args.plan.now) (operation_of c.args.request)) ≡ c.is_global.result = let g = placed in
     sym (c.is_global.ensures
     ∙ ap is_global (class_asked c.args.plan.now c.args.request g.admitted _ g.place _ c.params.ensures)) in

@@ -38,8 +38,10 @@ offset_bounds-plan-at c =
     let exists : transaction_exists (plan_of c.args.plan.now)
     c.args.request.transaction
     ≡ true = sym c.transaction_exists.ensures ∙ c.if-not-transaction_exists.false in
-    let place : get_or c.args.places.now c.args.request.transaction 0 ≡ transaction_place c.args.plan.now c.args.request.transaction = place_looked_up c.args.plan.now c.args.request c.requires.0 exists c.args.places.now c.requires.1 in
-    let within : get_or c.args.places.now c.args.request.transaction 0 < length c.args.plan.now = let s = (stands c.args.plan.now c.args.request c.requires.0 exists _ place).room in
+    let place : get_or c.args.places.now c.args.request.transaction 0 ≡ transaction_place c.args.plan.now c.args.request.transaction =
+    place_looked_up c.args.plan.now c.args.request c.requires.0 exists c.args.places.now c.requires.1 in
+    let within : get_or c.args.places.now c.args.request.transaction 0 < length c.args.plan.now = let s =
+    (stands c.args.plan.now c.args.request c.requires.0 exists _ place).room in
     omega (arith, s) in
     let h = within in
     search rules
@@ -49,8 +51,10 @@ bounds-plan-at c =
     let exists : transaction_exists (plan_of c.args.plan.now)
     c.args.request.transaction
     ≡ true = sym c.transaction_exists.ensures ∙ c.if-not-transaction_exists.false in
-    let place : get_or c.args.places.now c.args.request.transaction 0 ≡ transaction_place c.args.plan.now c.args.request.transaction = place_looked_up c.args.plan.now c.args.request c.requires.0 exists c.args.places.now c.requires.1 in
-    let within : get_or c.args.places.now c.args.request.transaction 0 < length c.args.plan.now = let s = (stands c.args.plan.now c.args.request c.requires.0 exists _ place).room in
+    let place : get_or c.args.places.now c.args.request.transaction 0 ≡ transaction_place c.args.plan.now c.args.request.transaction =
+    place_looked_up c.args.plan.now c.args.request c.requires.0 exists c.args.places.now c.requires.1 in
+    let within : get_or c.args.places.now c.args.request.transaction 0 < length c.args.plan.now = let s =
+    (stands c.args.plan.now c.args.request c.requires.0 exists _ place).room in
     omega (arith, s) in
     within
 
@@ -59,5 +63,6 @@ returns c =
     let exists : transaction_exists (plan_of c.args.plan.now)
     c.args.request.transaction
     ≡ true = sym c.transaction_exists.ensures ∙ c.if-not-transaction_exists.false in
-    let place : get_or c.args.places.now c.args.request.transaction 0 ≡ transaction_place c.args.plan.now c.args.request.transaction = place_looked_up c.args.plan.now c.args.request c.requires.0 exists c.args.places.now c.requires.1 in
+    let place : get_or c.args.places.now c.args.request.transaction 0 ≡ transaction_place c.args.plan.now c.args.request.transaction =
+    place_looked_up c.args.plan.now c.args.request c.requires.0 exists c.args.places.now c.requires.1 in
     urgent_here c.args.plan.now c.args.request c.requires.0 exists _ place

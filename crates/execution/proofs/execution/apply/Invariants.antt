@@ -9,7 +9,8 @@ use Rattle.execution.proofs.execution.apply.Given as goal
 
 abbrev pub invariant-loop-i : goal.invariant-loop-i
 invariant-loop-i l =
-    (l.i ≤ l.update.count) × (l.i ≤ 12) × (length l.update.cells ≡ 12) × (length l.update.values ≡ 12) × (length l.store ≡ length l.initial.store)
+    (l.i ≤ l.update.count) × (l.i ≤ 12) × (length l.update.cells ≡ 12) × (length l.update.values ≡ 12) × (length l.store
+    ≡ length l.initial.store)
     × (l.store ≡ apply_update (pairs l.i l.update.cells l.update.values) l.initial.store)
 
 abbrev pub decreases-loop-i : goal.decreases-loop-i

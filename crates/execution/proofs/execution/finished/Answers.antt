@@ -7,4 +7,11 @@ use Rattle.execution.proofs.execution.finished.Goals as goal
 
 pub returns : goal.returns
 returns c =
-    let a = c.args in record { outcome = ap (λ (r : Reply). record { reply = r; update = pairs a.count a.cells a.values }) c.reply_with-reply.ensures; count = refl }
+    let a = c.args in record {
+      outcome = ap (λ (r : Reply). record {
+        reply = r;
+        update =
+            pairs a.count a.cells a.values;
+      }) c.reply_with-reply.ensures;
+      count = refl;
+    }

@@ -82,4 +82,8 @@ finished-requires c = c.loop-s.invariant.zeros
 
 pub returns : goal.returns
 returns c =
-    let r = c.loop-s.invariant in record { outcome = c.finished.ensures.outcome ∙ running_done _ _ _ _ _ _ _ _ _ _ r (omega arith); few = omega (arith, c.finished.ensures.count, r.few, r.within, transaction_steps _ r.whole.form) }
+    let r = c.loop-s.invariant in record {
+      outcome = c.finished.ensures.outcome ∙ running_done _ _ _ _ _ _ _ _ _ _ r (omega arith);
+      few =
+          omega (arith, c.finished.ensures.count, r.few, r.within, transaction_steps _ r.whole.form);
+    }

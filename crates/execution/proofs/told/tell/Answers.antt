@@ -11,4 +11,9 @@ pub returns : goal.returns
 returns c =
     let t = c.args.told in
     let room : t.count < length t.numbers = search rules in
-    let x = c.args.number in record { numbers = told_more t.numbers t.count x room; count = refl; zeros = zeros_more t.numbers t.count x c.requires.1 }
+    let x = c.args.number in record {
+      numbers = told_more t.numbers t.count x room;
+      count = refl;
+      zeros =
+          zeros_more t.numbers t.count x c.requires.1;
+    }

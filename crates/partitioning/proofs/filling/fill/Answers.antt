@@ -19,10 +19,12 @@ loop-i-init c =
 
 pub nonzero_div-rest : goal.nonzero_div-rest
 nonzero_div-rest c =
-    let left : c.loop-i.below / c.candidate_count-below.result ≡ filling_count (open_words_from c.loop-i.plan (c.loop-i.i + 1)) = let opened = sym c.is_open.ensures ∙ c.if-is_open.true in
+    let left : c.loop-i.below / c.candidate_count-below.result ≡ filling_count (open_words_from c.loop-i.plan (c.loop-i.i + 1)) =
+    let opened = sym c.is_open.ensures ∙ c.if-is_open.true in
     below_open c.loop-i.plan c.loop-i.i c.loop-i.below c.candidate_count-below.result (omega arith) opened c.loop-i.invariant.1
     c.candidate_count-below.ensures in
-    let some_left : 1 ≤ c.loop-i.below / c.candidate_count-below.result = rw left (count_pos (open_words_from c.loop-i.plan (c.loop-i.i + 1))) in
+    let some_left : 1 ≤ c.loop-i.below / c.candidate_count-below.result = rw left (count_pos (open_words_from c.loop-i.plan
+    (c.loop-i.i + 1))) in
     some_left
 
 pub with_field-requires : goal.with_field-requires
@@ -32,10 +34,12 @@ with_field-requires c =
 
 pub nonzero_rem-rest : goal.nonzero_rem-rest
 nonzero_rem-rest c =
-    let left : c.loop-i.below / c.candidate_count-below.result ≡ filling_count (open_words_from c.loop-i.plan (c.loop-i.i + 1)) = let opened = sym c.is_open.ensures ∙ c.if-is_open.true in
+    let left : c.loop-i.below / c.candidate_count-below.result ≡ filling_count (open_words_from c.loop-i.plan (c.loop-i.i + 1)) =
+    let opened = sym c.is_open.ensures ∙ c.if-is_open.true in
     below_open c.loop-i.plan c.loop-i.i c.loop-i.below c.candidate_count-below.result (omega arith) opened c.loop-i.invariant.1
     c.candidate_count-below.ensures in
-    let some_left : 1 ≤ c.loop-i.below / c.candidate_count-below.result = rw left (count_pos (open_words_from c.loop-i.plan (c.loop-i.i + 1))) in
+    let some_left : 1 ≤ c.loop-i.below / c.candidate_count-below.result = rw left (count_pos (open_words_from c.loop-i.plan
+    (c.loop-i.i + 1))) in
     some_left
 
 pub loop-i-smaller-then-is_open : goal.loop-i-smaller-then-is_open
@@ -43,7 +47,8 @@ loop-i-smaller-then-is_open c = rw length-set (omega arith)
 
 pub loop-i-preserved-then-is_open : goal.loop-i-preserved-then-is_open
 loop-i-preserved-then-is_open c =
-    let left : c.loop-i.below / c.candidate_count-below.result ≡ filling_count (open_words_from c.loop-i.plan (c.loop-i.i + 1)) = let opened = sym c.is_open.ensures ∙ c.if-is_open.true in
+    let left : c.loop-i.below / c.candidate_count-below.result ≡ filling_count (open_words_from c.loop-i.plan (c.loop-i.i + 1)) =
+    let opened = sym c.is_open.ensures ∙ c.if-is_open.true in
     below_open c.loop-i.plan c.loop-i.i c.loop-i.below c.candidate_count-below.result (omega arith) opened c.loop-i.invariant.1
     c.candidate_count-below.ensures in
     let plan = c.loop-i.plan in

@@ -10,7 +10,8 @@ use Rattle.partitioning.proofs.filling.fill.Given as goal
 
 abbrev pub invariant-loop-i : goal.invariant-loop-i
 invariant-loop-i l =
-    (length l.plan ≡ length l.initial.plan) × (l.below ≡ filling_count (open_words_from l.plan l.i)) × (filled_by l.initial.plan l.number ≡ filled_from l.plan l.i l.rest)
+    (length l.plan ≡ length l.initial.plan) × (l.below ≡ filling_count (open_words_from l.plan l.i)) × (filled_by l.initial.plan l.number
+    ≡ filled_from l.plan l.i l.rest)
 
 abbrev pub decreases-loop-i : goal.decreases-loop-i
 decreases-loop-i l = length l.plan - l.i

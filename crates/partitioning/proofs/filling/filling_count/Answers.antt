@@ -15,7 +15,8 @@ loop-i-init c = rw (open_start c.args.plan.now) (one-mul _)
 pub overflow_mul-count : goal.overflow_mul-count
 overflow_mul-count c =
     let met : let plan = c.args.plan.now in
-    c.loop-i.count * (c.candidate_count-count.result * filling_count (open_words_from plan (c.loop-i.i + 1))) ≡ filling_count (open_words plan) = let plan = c.args.plan.now in
+    c.loop-i.count * (c.candidate_count-count.result * filling_count (open_words_from plan (c.loop-i.i + 1))) ≡ filling_count
+    (open_words plan) = let plan = c.args.plan.now in
     let opened = sym c.is_open.ensures ∙ c.if-is_open.true in
     ap (λ (n : ℕ). c.loop-i.count * (n * filling_count (open_words_from plan (c.loop-i.i + 1)))) c.candidate_count-count.ensures
     ∙ ap (λ (n : ℕ). c.loop-i.count * n) (sym (count_here plan c.loop-i.i (omega arith) opened)) ∙ c.loop-i.invariant in
@@ -30,7 +31,8 @@ loop-i-smaller-then-is_open c = omega arith
 pub loop-i-preserved-then-is_open : goal.loop-i-preserved-then-is_open
 loop-i-preserved-then-is_open c =
     let met : let plan = c.args.plan.now in
-    c.loop-i.count * (c.candidate_count-count.result * filling_count (open_words_from plan (c.loop-i.i + 1))) ≡ filling_count (open_words plan) = let plan = c.args.plan.now in
+    c.loop-i.count * (c.candidate_count-count.result * filling_count (open_words_from plan (c.loop-i.i + 1))) ≡ filling_count
+    (open_words plan) = let plan = c.args.plan.now in
     let opened = sym c.is_open.ensures ∙ c.if-is_open.true in
     ap (λ (n : ℕ). c.loop-i.count * (n * filling_count (open_words_from plan (c.loop-i.i + 1)))) c.candidate_count-count.ensures
     ∙ ap (λ (n : ℕ). c.loop-i.count * n) (sym (count_here plan c.loop-i.i (omega arith) opened)) ∙ c.loop-i.invariant in

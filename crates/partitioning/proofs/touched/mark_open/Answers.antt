@@ -16,18 +16,22 @@ loop-i-init c =
 
 pub nonzero_div-rest : goal.nonzero_div-rest
 nonzero_div-rest c =
-    let left : c.loop-i.below / c.candidate_count-below.result ≡ filling_count (open_words_from c.args.plan.now (c.loop-i.i + 1)) = let opened = sym c.is_open.ensures ∙ c.if-is_open.true in
+    let left : c.loop-i.below / c.candidate_count-below.result ≡ filling_count (open_words_from c.args.plan.now (c.loop-i.i + 1)) =
+    let opened = sym c.is_open.ensures ∙ c.if-is_open.true in
     below_open c.args.plan.now c.loop-i.i c.loop-i.below c.candidate_count-below.result (omega arith) opened
     c.loop-i.invariant.1 c.candidate_count-below.ensures in
-    let some_left : 1 ≤ c.loop-i.below / c.candidate_count-below.result = rw left (count_pos (open_words_from c.args.plan.now (c.loop-i.i + 1))) in
+    let some_left : 1 ≤ c.loop-i.below / c.candidate_count-below.result = rw left (count_pos (open_words_from c.args.plan.now
+    (c.loop-i.i + 1))) in
     some_left
 
 pub nonzero_rem-rest : goal.nonzero_rem-rest
 nonzero_rem-rest c =
-    let left : c.loop-i.below / c.candidate_count-below.result ≡ filling_count (open_words_from c.args.plan.now (c.loop-i.i + 1)) = let opened = sym c.is_open.ensures ∙ c.if-is_open.true in
+    let left : c.loop-i.below / c.candidate_count-below.result ≡ filling_count (open_words_from c.args.plan.now (c.loop-i.i + 1)) =
+    let opened = sym c.is_open.ensures ∙ c.if-is_open.true in
     below_open c.args.plan.now c.loop-i.i c.loop-i.below c.candidate_count-below.result (omega arith) opened
     c.loop-i.invariant.1 c.candidate_count-below.ensures in
-    let some_left : 1 ≤ c.loop-i.below / c.candidate_count-below.result = rw left (count_pos (open_words_from c.args.plan.now (c.loop-i.i + 1))) in
+    let some_left : 1 ≤ c.loop-i.below / c.candidate_count-below.result = rw left (count_pos (open_words_from c.args.plan.now
+    (c.loop-i.i + 1))) in
     some_left
 
 pub loop-i-smaller-then-is_open : goal.loop-i-smaller-then-is_open
@@ -35,7 +39,8 @@ loop-i-smaller-then-is_open c = omega arith
 
 pub loop-i-preserved-then-is_open : goal.loop-i-preserved-then-is_open
 loop-i-preserved-then-is_open c =
-    let left : c.loop-i.below / c.candidate_count-below.result ≡ filling_count (open_words_from c.args.plan.now (c.loop-i.i + 1)) = let opened = sym c.is_open.ensures ∙ c.if-is_open.true in
+    let left : c.loop-i.below / c.candidate_count-below.result ≡ filling_count (open_words_from c.args.plan.now (c.loop-i.i + 1)) =
+    let opened = sym c.is_open.ensures ∙ c.if-is_open.true in
     below_open c.args.plan.now c.loop-i.i c.loop-i.below c.candidate_count-below.result (omega arith) opened
     c.loop-i.invariant.1 c.candidate_count-below.ensures in
     let d = c.loop-i in

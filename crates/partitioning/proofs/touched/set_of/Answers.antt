@@ -8,7 +8,11 @@ pub returns-then-partitioning-eq-UNPARTITIONED : goal.returns-then-partitioning-
 returns-then-partitioning-eq-UNPARTITIONED c = (rw (eq-eqb _ _ c.if-partitioning-eq-UNPARTITIONED.true) (omega arith), omega arith)
 
 pub returns-then-word-partitioning : goal.returns-then-word-partitioning
-returns-then-word-partitioning c = (rw (ne_eqb _ _ c.if-partitioning-eq-UNPARTITIONED.false, eq-eqb _ _ c.if-word-partitioning.true) (omega arith), omega arith)
+returns-then-word-partitioning c = (
+  rw (ne_eqb _ _ c.if-partitioning-eq-UNPARTITIONED.false, eq-eqb _ _ c.if-word-partitioning.true)
+      (omega arith),
+  omega arith,
+)
 
 pub returns : goal.returns
 returns c = (rw (ne_eqb _ _ c.if-partitioning-eq-UNPARTITIONED.false, ne_eqb _ _ c.if-word-partitioning.false) (omega arith), omega arith)

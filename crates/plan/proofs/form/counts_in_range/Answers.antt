@@ -14,7 +14,11 @@ returns-then-desks-gt8 c = simp (le-leb _ _ c.if-desks-lt1.false, lt-leb _ _ c.i
 
 pub returns-then-transactions-lt1 : goal.returns-then-transactions-lt1
 unfolding counts_in_range
-returns-then-transactions-lt1 c = simp (le-leb _ _ c.if-desks-lt1.false, le-leb _ _ c.if-desks-gt8.false, lt-leb _ _ c.if-transactions-lt1.true)
+returns-then-transactions-lt1 c = simp (
+  le-leb _ _ c.if-desks-lt1.false,
+  le-leb _ _ c.if-desks-gt8.false,
+  lt-leb _ _ c.if-transactions-lt1.true,
+)
 
 pub returns : goal.returns
 unfolding counts_in_range

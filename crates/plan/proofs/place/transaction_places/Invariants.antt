@@ -10,7 +10,8 @@ use Rattle.plan.proofs.place.transaction_places.Given as goal
 
 abbrev pub invariant-loop-k : goal.invariant-loop-k
 invariant-loop-k l =
-    (l.k ≤ l.transactions) × (l.transactions ≡ head_transactions (head_of l.plan)) × (l.at ≡ transaction_place l.plan l.k) × Placing l.plan l.k l.places
+    (l.k ≤ l.transactions) × (l.transactions ≡ head_transactions (head_of l.plan)) × (l.at ≡ transaction_place l.plan l.k)
+    × Placing l.plan l.k l.places
 
 abbrev pub decreases-loop-k : goal.decreases-loop-k
 decreases-loop-k l = l.transactions - l.k

@@ -25,7 +25,12 @@ returns-then-head-ne1 c = simp (
 pub returns-then-head-words : goal.returns-then-head-words
 unfolding open_plan_verdict has_head
 returns-then-head-words c =
-    simp (le-leb _ _ c.if-words-lt1.false, le-leb _ _ c.if-words-gt417.false, eq-eqb _ _ c.if-head-ne1.false, ne_eqb _ _ c.if-head-words.true)
+    simp (
+      le-leb _ _ c.if-words-lt1.false,
+      le-leb _ _ c.if-words-gt417.false,
+      eq-eqb _ _ c.if-head-ne1.false,
+      ne_eqb _ _ c.if-head-words.true,
+    )
 
 pub returns-then-not-counts_in_range : goal.returns-then-not-counts_in_range
 unfolding open_plan_verdict has_head

@@ -39,7 +39,8 @@ loop-s-init c =
 pub bounds-plan-at-in-loop-s : goal.bounds-plan-at-in-loop-s
 bounds-plan-at-in-loop-s c =
     let words = c.args.plan.now in
-    let step_formed_at : let l = c.loop-s in formed_at (step_fits l.tells) words l.at ≡ true = sym c.step_at.ensures ∙ c.if-not-step_at.false in
+    let step_formed_at : let l = c.loop-s in formed_at (step_fits l.tells) words l.at ≡ true = sym c.step_at.ensures
+    ∙ c.if-not-step_at.false in
     let step_here : c.loop-s.at < length words = let l = c.loop-s in (stands (step_fits l.tells) words l.at step_formed_at).0 in
     step_here
 
@@ -49,7 +50,8 @@ tells_with-tells-requires c = c.loop-s.invariant.0
 pub step_missing-missing-requires : goal.step_missing-missing-requires
 step_missing-missing-requires c =
     let words = c.args.plan.now in
-    let step_formed_at : let l = c.loop-s in formed_at (step_fits l.tells) words l.at ≡ true = sym c.step_at.ensures ∙ c.if-not-step_at.false in
+    let step_formed_at : let l = c.loop-s in formed_at (step_fits l.tells) words l.at ≡ true = sym c.step_at.ensures
+    ∙ c.if-not-step_at.false in
     let step_fits_lem : let l = c.loop-s in
     let w = get_or words l.at 0 in
     (step_formed w ≡ true) × (l.tells + one_if_tells (step_of w) ≤ most_tells) = let l = c.loop-s in
@@ -64,7 +66,8 @@ loop-s-smaller c = omega arith
 pub loop-s-preserved : goal.loop-s-preserved
 loop-s-preserved c =
     let words = c.args.plan.now in
-    let step_formed_at : let l = c.loop-s in formed_at (step_fits l.tells) words l.at ≡ true = sym c.step_at.ensures ∙ c.if-not-step_at.false in
+    let step_formed_at : let l = c.loop-s in formed_at (step_fits l.tells) words l.at ≡ true = sym c.step_at.ensures
+    ∙ c.if-not-step_at.false in
     let step_fits_lem : let l = c.loop-s in
     let w = get_or words l.at 0 in
     (step_formed w ≡ true) × (l.tells + one_if_tells (step_of w) ≤ most_tells) = let l = c.loop-s in

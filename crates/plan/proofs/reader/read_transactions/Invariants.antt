@@ -10,7 +10,8 @@ use Rattle.plan.proofs.reader.read_transactions.Given as goal
 abbrev pub invariant-loop-s : goal.invariant-loop-s
 invariant-loop-s l =
     (l.tells ≤ most_tells)
-    × (rest_in_at l.steps l.s l.parameters l.transactions l.t l.tells l.plan l.at l.missing ≡ transactions_verdict l.transactions (drop 1 l.plan))
+    × (rest_in_at l.steps l.s l.parameters l.transactions l.t l.tells l.plan l.at l.missing ≡ transactions_verdict l.transactions
+    (drop 1 l.plan))
 
 abbrev pub decreases-loop-s : goal.decreases-loop-s
 decreases-loop-s l = l.steps - l.s

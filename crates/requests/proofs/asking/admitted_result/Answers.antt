@@ -11,12 +11,14 @@ use Rattle.requests.proofs.asking.admitted_result.Goals as goal
 
 pub routed_result-requires : goal.routed_result-requires
 routed_result-requires c =
-    let placed : Placed c.args.plan.now c.args.request c.in-At.at = placed_at c.args.plan.now c.args.request c.requires.0 _ (sym (ap place_of c.in-At.is) ∙ c.locate.ensures) in
+    let placed : Placed c.args.plan.now c.args.request c.in-At.at = placed_at c.args.plan.now c.args.request c.requires.0 _ (sym
+    (ap place_of c.in-At.is) ∙ c.locate.ensures) in
     (placed, c.requires.2)
 
 pub returns-in-At : goal.returns-in-At
 returns-in-At c =
-    let placed : Placed c.args.plan.now c.args.request c.in-At.at = placed_at c.args.plan.now c.args.request c.requires.0 _ (sym (ap place_of c.in-At.is) ∙ c.locate.ensures) in
+    let placed : Placed c.args.plan.now c.args.request c.in-At.at = placed_at c.args.plan.now c.args.request c.requires.0 _ (sym
+    (ap place_of c.in-At.is) ∙ c.locate.ensures) in
     rw placed.admitted.passed c.routed_result.ensures
 
 pub returns-in-Refused : goal.returns-in-Refused

@@ -19,9 +19,11 @@ returns-then-cells-ne-STORE_SIZE c =
 pub returns-then-row-ne-QUEUE_WORDS : goal.returns-then-row-ne-QUEUE_WORDS
 returns-then-row-ne-QUEUE_WORDS c =
     let plan_passes : plan_verdict c.args.plan.now ≡ accepted = sym c.read_plan.ensures ∙ ap verdict_of c.in_default.is in
-    sym (queue_unfit c.args.plan.now c.args.cells.now c.args.row.now plan_passes c.if-cells-ne-STORE_SIZE.false c.if-row-ne-QUEUE_WORDS.true)
+    sym (queue_unfit c.args.plan.now c.args.cells.now c.args.row.now plan_passes c.if-cells-ne-STORE_SIZE.false
+    c.if-row-ne-QUEUE_WORDS.true)
 
 pub returns : goal.returns
 returns c =
     let plan_passes : plan_verdict c.args.plan.now ≡ accepted = sym c.read_plan.ensures ∙ ap verdict_of c.in_default.is in
-    sym (buffers_fit_lem c.args.plan.now c.args.cells.now c.args.row.now plan_passes c.if-cells-ne-STORE_SIZE.false c.if-row-ne-QUEUE_WORDS.false)
+    sym (buffers_fit_lem c.args.plan.now c.args.cells.now c.args.row.now plan_passes c.if-cells-ne-STORE_SIZE.false
+    c.if-row-ne-QUEUE_WORDS.false)

@@ -30,46 +30,62 @@ returns-in-Refused c =
     let row = d.args.row.now in
     let left = refused_left d.args.plan.now d.args.state d.args.cells.now (queue_in row) d.args.request _
     (opening_refused_lem _ _ _ _ _ _ (sym c.opening_verdict.ensures ∙ ap verdict_of c.in-Refused.is))
-    c.unchanged_result-refused.result c.unchanged_result-refused.ensures in record { left = left.0; row_left = sym (row_left_queue_in row); changed = left.1 }
+    c.unchanged_result-refused.result c.unchanged_result-refused.ensures in record {
+      left = left.0;
+      row_left = sym
+          (row_left_queue_in row);
+      changed = left.1;
+    }
 
 pub transaction_places-places-requires : goal.transaction_places-places-requires
 transaction_places-places-requires c =
     let opens : let d = c.before.before in
-    opening_verdict d.args.plan.now d.args.cells.now d.args.row.now ≡ accepted = sym c.opening_verdict.ensures ∙ ap verdict_of c.in_default.is in
+    opening_verdict d.args.plan.now d.args.cells.now d.args.row.now ≡ accepted = sym c.opening_verdict.ensures
+    ∙ ap verdict_of c.in_default.is in
     plan_passes _ _ _ opens
 
 pub fill_if_waiting-requires : goal.fill_if_waiting-requires
 fill_if_waiting-requires c =
     let opens : let d = c.before.before in
-    opening_verdict d.args.plan.now d.args.cells.now d.args.row.now ≡ accepted = sym c.opening_verdict.ensures ∙ ap verdict_of c.in_default.is in
+    opening_verdict d.args.plan.now d.args.cells.now d.args.row.now ≡ accepted = sym c.opening_verdict.ensures
+    ∙ ap verdict_of c.in_default.is in
     (plan_passes _ _ _ opens, search rules)
 
 pub desk_fits-requires : goal.desk_fits-requires
 desk_fits-requires c =
     let opens : let d = c.before.before in
-    opening_verdict d.args.plan.now d.args.cells.now d.args.row.now ≡ accepted = sym c.opening_verdict.ensures ∙ ap verdict_of c.in_default.is in
+    opening_verdict d.args.plan.now d.args.cells.now d.args.row.now ≡ accepted = sym c.opening_verdict.ensures
+    ∙ ap verdict_of c.in_default.is in
     (plan_passes _ _ _ opens, c.transaction_places-places.ensures, c.fill_if_waiting.ensures)
 
 pub returns-then-not-desk_fits : goal.returns-then-not-desk_fits
 returns-then-not-desk_fits c =
     let opens : let d = c.before.before in
-    opening_verdict d.args.plan.now d.args.cells.now d.args.row.now ≡ accepted = sym c.opening_verdict.ensures ∙ ap verdict_of c.in_default.is in
+    opening_verdict d.args.plan.now d.args.cells.now d.args.row.now ≡ accepted = sym c.opening_verdict.ensures
+    ∙ ap verdict_of c.in_default.is in
     let d = c.before.before.before in
     let row = d.args.row.now in
     let left = refused_left d.args.plan.now d.args.state d.args.cells.now (queue_in row) d.args.request 6
     (desk_unfit _ _ _ _ _ opens (sym c.desk_fits.ensures ∙ c.if-not-desk_fits.true))
-    c.unchanged_result-unfit.result c.unchanged_result-unfit.ensures in record { left = left.0; row_left = sym (row_left_queue_in row); changed = left.1 }
+    c.unchanged_result-unfit.result c.unchanged_result-unfit.ensures in record {
+      left = left.0;
+      row_left = sym
+          (row_left_queue_in row);
+      changed = left.1;
+    }
 
 pub admitted_result-result-requires : goal.admitted_result-result-requires
 admitted_result-result-requires c =
     let opens : let d = c.before.before in
-    opening_verdict d.args.plan.now d.args.cells.now d.args.row.now ≡ accepted = sym c.opening_verdict.ensures ∙ ap verdict_of c.in_default.is in
+    opening_verdict d.args.plan.now d.args.cells.now d.args.row.now ≡ accepted = sym c.opening_verdict.ensures
+    ∙ ap verdict_of c.in_default.is in
     (plan_passes _ _ _ opens, c.transaction_places-places.ensures, c.fill_if_waiting.ensures)
 
 pub enqueue-from-requires : goal.enqueue-from-requires
 enqueue-from-requires c =
     let opens : let d = c.before.before in
-    opening_verdict d.args.plan.now d.args.cells.now d.args.row.now ≡ accepted = sym c.opening_verdict.ensures ∙ ap verdict_of c.in_default.is in
+    opening_verdict d.args.plan.now d.args.cells.now d.args.row.now ≡ accepted = sym c.opening_verdict.ensures
+    ∙ ap verdict_of c.in_default.is in
     let d = c.before.before.before in (
       plan_passes _ _ _ opens,
       c.transaction_places-places.ensures,
@@ -82,7 +98,8 @@ enqueue-from-requires c =
 pub returns : goal.returns
 returns c =
     let opens : let d = c.before.before in
-    opening_verdict d.args.plan.now d.args.cells.now d.args.row.now ≡ accepted = sym c.opening_verdict.ensures ∙ ap verdict_of c.in_default.is in
+    opening_verdict d.args.plan.now d.args.cells.now d.args.row.now ≡ accepted = sym c.opening_verdict.ensures
+    ∙ ap verdict_of c.in_default.is in
     let beside : let d = c.before.before.before in
     requested_of c.admitted_result-result.result c.admitted_result-result.new.cells []
     ≡ without_queue (request_result d.args.plan.now (holding d.args.state d.args.cells.now (queue_in d.args.row.now))

@@ -15,7 +15,8 @@ drawn : (x f d : ℕ) → x < 4294967296 → f < 4294967296 → d < 4294967296 �
 drawn x f d p q r = record { fits = omega (arith, bounded x f p q, r) }
 
 abbrev invariant_loop : tie.invariant_loop
-invariant_loop m₀ place words factor increment x₀ i₀ m x i = (i ≤ words) × (x < 4294967296) × (factor < 4294967296) × (increment < 4294967296)
+invariant_loop m₀ place words factor increment x₀ i₀ m x i = (i ≤ words) × (x < 4294967296) × (factor < 4294967296) ×
+    (increment < 4294967296)
 
 abbrev decreases_loop : tie.decreases_loop
 decreases_loop m₀ place words factor increment x₀ i₀ m x i = words - i

@@ -16,21 +16,24 @@ loop-at-init c = (omega arith, refl, forward_start _ _ _ _ c.requires.0)
 
 pub offset_bounds-out-end : goal.offset_bounds-out-end
 offset_bounds-out-end c =
-    let one_more : (c.loop-at.end < length c.loop-at.out) × (length c.loop-at.out ≡ length c.args.out.now) = let f = c.loop-at.invariant.2 in
+    let one_more : (c.loop-at.end < length c.loop-at.out) × (length c.loop-at.out ≡ length c.args.out.now) = let f =
+    c.loop-at.invariant.2 in
     let p = c.requires.1 in
     (head_room f c.loop-at-test.true p c.if-left-eq0.true (ap not (ne_eqb _ _ c.if-kept.true)), forward_length f p) in
     let h = one_more in search rules
 
 pub bounds-out-end : goal.bounds-out-end
 bounds-out-end c =
-    let one_more : (c.loop-at.end < length c.loop-at.out) × (length c.loop-at.out ≡ length c.args.out.now) = let f = c.loop-at.invariant.2 in
+    let one_more : (c.loop-at.end < length c.loop-at.out) × (length c.loop-at.out ≡ length c.args.out.now) = let f =
+    c.loop-at.invariant.2 in
     let p = c.requires.1 in
     (head_room f c.loop-at-test.true p c.if-left-eq0.true (ap not (ne_eqb _ _ c.if-kept.true)), forward_length f p) in
     one_more.0
 
 pub overflow_add-end : goal.overflow_add-end
 overflow_add-end c =
-    let one_more : (c.loop-at.end < length c.loop-at.out) × (length c.loop-at.out ≡ length c.args.out.now) = let f = c.loop-at.invariant.2 in
+    let one_more : (c.loop-at.end < length c.loop-at.out) × (length c.loop-at.out ≡ length c.args.out.now) = let f =
+    c.loop-at.invariant.2 in
     let p = c.requires.1 in
     (head_room f c.loop-at-test.true p c.if-left-eq0.true (ap not (ne_eqb _ _ c.if-kept.true)), forward_length f p) in
     let h = one_more in search rules
@@ -53,42 +56,48 @@ bounds-body-at-else-left-eq0 c =
 
 pub offset_bounds-out-end-then-kept-2 : goal.offset_bounds-out-end-then-kept-2
 offset_bounds-out-end-then-kept-2 c =
-    let two_more : (c.loop-at.end + 1 < length c.loop-at.out) × (length c.loop-at.out ≡ length c.args.out.now) = let f = c.loop-at.invariant.2 in
+    let two_more : (c.loop-at.end + 1 < length c.loop-at.out) × (length c.loop-at.out ≡ length c.args.out.now) = let f =
+    c.loop-at.invariant.2 in
     let p = c.requires.1 in
     (cell_room f c.loop-at-test.true c.if-left-eq0.false p c.if-kept-2.true, forward_length f p) in
     let h = two_more in search rules
 
 pub bounds-out-end-then-kept-2 : goal.bounds-out-end-then-kept-2
 bounds-out-end-then-kept-2 c =
-    let two_more : (c.loop-at.end + 1 < length c.loop-at.out) × (length c.loop-at.out ≡ length c.args.out.now) = let f = c.loop-at.invariant.2 in
+    let two_more : (c.loop-at.end + 1 < length c.loop-at.out) × (length c.loop-at.out ≡ length c.args.out.now) = let f =
+    c.loop-at.invariant.2 in
     let p = c.requires.1 in
     (cell_room f c.loop-at-test.true c.if-left-eq0.false p c.if-kept-2.true, forward_length f p) in
     let h = two_more in search rules
 
 pub overflow_add-out : goal.overflow_add-out
 overflow_add-out c =
-    let two_more : (c.loop-at.end + 1 < length c.loop-at.out) × (length c.loop-at.out ≡ length c.args.out.now) = let f = c.loop-at.invariant.2 in
+    let two_more : (c.loop-at.end + 1 < length c.loop-at.out) × (length c.loop-at.out ≡ length c.args.out.now) = let f =
+    c.loop-at.invariant.2 in
     let p = c.requires.1 in
     (cell_room f c.loop-at-test.true c.if-left-eq0.false p c.if-kept-2.true, forward_length f p) in
     let h = two_more in search rules
 
 pub offset_bounds-out-end-then-kept-2-2 : goal.offset_bounds-out-end-then-kept-2-2
 offset_bounds-out-end-then-kept-2-2 c =
-    let two_more : (c.loop-at.end + 1 < length c.loop-at.out) × (length c.loop-at.out ≡ length c.args.out.now) = let f = c.loop-at.invariant.2 in
+    let two_more : (c.loop-at.end + 1 < length c.loop-at.out) × (length c.loop-at.out ≡ length c.args.out.now) = let f =
+    c.loop-at.invariant.2 in
     let p = c.requires.1 in
     (cell_room f c.loop-at-test.true c.if-left-eq0.false p c.if-kept-2.true, forward_length f p) in
     let h = two_more in search rules
 
 pub bounds-out-end-then-kept-2-2 : goal.bounds-out-end-then-kept-2-2
 bounds-out-end-then-kept-2-2 c =
-    let two_more : (c.loop-at.end + 1 < length c.loop-at.out) × (length c.loop-at.out ≡ length c.args.out.now) = let f = c.loop-at.invariant.2 in
+    let two_more : (c.loop-at.end + 1 < length c.loop-at.out) × (length c.loop-at.out ≡ length c.args.out.now) = let f =
+    c.loop-at.invariant.2 in
     let p = c.requires.1 in
     (cell_room f c.loop-at-test.true c.if-left-eq0.false p c.if-kept-2.true, forward_length f p) in
     let h = two_more in simp length-set (omega arith)
 
 pub overflow_add-end-then-kept-2 : goal.overflow_add-end-then-kept-2
 overflow_add-end-then-kept-2 c =
-    let two_more : (c.loop-at.end + 1 < length c.loop-at.out) × (length c.loop-at.out ≡ length c.args.out.now) = let f = c.loop-at.invariant.2 in
+    let two_more : (c.loop-at.end + 1 < length c.loop-at.out) × (length c.loop-at.out ≡ length c.args.out.now) = let f =
+    c.loop-at.invariant.2 in
     let p = c.requires.1 in
     (cell_room f c.loop-at-test.true c.if-left-eq0.false p c.if-kept-2.true, forward_length f p) in
     let h = two_more in search rules

@@ -178,7 +178,11 @@ overflow_add-end c =
       count = ap (λ (k : ℕ). 2 + k) c.forward_foreign-copied.ensures.words;
       words = ap (put_mid 2 (length o - 2) o) c.forward_foreign-copied.ensures.written;
     } in
-    let ended : 2 + c.forward_foreign-copied.result + c.run_waiting.result + 2 ≤ length c.args.out.now = omega (arith, copied_room copied, c.run_waiting.ensures.count) in
+    let ended : 2 + c.forward_foreign-copied.result + c.run_waiting.result + 2 ≤ length c.args.out.now = omega (
+      arith,
+      copied_room copied,
+      c.run_waiting.ensures.count,
+    ) in
     omega (arith, ended)
 
 pub bounds-plan-0 : goal.bounds-plan-0
@@ -227,7 +231,11 @@ seal-requires c =
       count = ap (λ (k : ℕ). 2 + k) c.forward_foreign-copied.ensures.words;
       words = ap (put_mid 2 (length o - 2) o) c.forward_foreign-copied.ensures.written;
     } in
-    let ended : 2 + c.forward_foreign-copied.result + c.run_waiting.result + 2 ≤ length c.args.out.now = omega (arith, copied_room copied, c.run_waiting.ensures.count) in
+    let ended : 2 + c.forward_foreign-copied.result + c.run_waiting.result + 2 ≤ length c.args.out.now = omega (
+      arith,
+      copied_room copied,
+      c.run_waiting.ensures.count,
+    ) in
     let joined : let a = c.args in
     let o = a.out.now in
     let o1 = put_mid 2 (length o - 2) o c.forward_foreign-copied.new.out in
@@ -272,7 +280,11 @@ overflow_add-result c =
       count = ap (λ (k : ℕ). 2 + k) c.forward_foreign-copied.ensures.words;
       words = ap (put_mid 2 (length o - 2) o) c.forward_foreign-copied.ensures.written;
     } in
-    let ended : 2 + c.forward_foreign-copied.result + c.run_waiting.result + 2 ≤ length c.args.out.now = omega (arith, copied_room copied, c.run_waiting.ensures.count) in
+    let ended : 2 + c.forward_foreign-copied.result + c.run_waiting.result + 2 ≤ length c.args.out.now = omega (
+      arith,
+      copied_room copied,
+      c.run_waiting.ensures.count,
+    ) in
     omega (arith, ended)
 
 pub returns : goal.returns

@@ -22,13 +22,23 @@ at_most false = omega arith
 pub slice_bounds-row-end : goal.slice_bounds-row-end
 slice_bounds-row-end c =
     let long : length c.args.row ≡ 192 = search rules in
-    let within : c.words_of-words.result ≤ length c.args.row = omega (arith, c.words_of-words.ensures, at_most (eqb c.args.size 32), long) in
+    let within : c.words_of-words.result ≤ length c.args.row = omega (
+      arith,
+      c.words_of-words.ensures,
+      at_most (eqb c.args.size 32),
+      long,
+    ) in
     within
 
 pub slice_bounds-visit_on_words-end : goal.slice_bounds-visit_on_words-end
 slice_bounds-visit_on_words-end c =
     let long : length c.args.row ≡ 192 = search rules in
-    let within : c.words_of-words.result ≤ length c.args.row = omega (arith, c.words_of-words.ensures, at_most (eqb c.args.size 32), long) in
+    let within : c.words_of-words.result ≤ length c.args.row = omega (
+      arith,
+      c.words_of-words.ensures,
+      at_most (eqb c.args.size 32),
+      long,
+    ) in
     sym (length-take-le _ _ within)
 
 pub returns : goal.returns

@@ -33,7 +33,8 @@ record_in-request-requires c = omega (arith, c.requires.0)
 pub overflow_cast-place : goal.overflow_cast-place
 overflow_cast-place c =
     let next : let a = c.args in
-    get_or (take a.waiting (records_in a.row.now)) c.loop-at.at no_request ≡ c.record_in-request.result = get_or-take _ _ _ _ c.loop-at-test.true
+    get_or (take a.waiting (records_in a.row.now)) c.loop-at.at no_request ≡ c.record_in-request.result =
+    get_or-take _ _ _ _ c.loop-at-test.true
     ∙ get_or_tabulate 32 (record_in c.args.row.now) _ no_request (omega (arith, c.requires.0)) ∙ sym c.record_in-request.ensures in
     let admitted : Admitted c.args.plan.now c.record_in-request.result = let v = c.loop-at.invariant in
     let plan = c.args.plan.now in
@@ -46,7 +47,8 @@ overflow_cast-place c =
 pub offset_bounds-places-request : goal.offset_bounds-places-request
 offset_bounds-places-request c =
     let next : let a = c.args in
-    get_or (take a.waiting (records_in a.row.now)) c.loop-at.at no_request ≡ c.record_in-request.result = get_or-take _ _ _ _ c.loop-at-test.true
+    get_or (take a.waiting (records_in a.row.now)) c.loop-at.at no_request ≡ c.record_in-request.result =
+    get_or-take _ _ _ _ c.loop-at-test.true
     ∙ get_or_tabulate 32 (record_in c.args.row.now) _ no_request (omega (arith, c.requires.0)) ∙ sym c.record_in-request.ensures in
     let admitted : Admitted c.args.plan.now c.record_in-request.result = let v = c.loop-at.invariant in
     let plan = c.args.plan.now in
@@ -59,7 +61,8 @@ offset_bounds-places-request c =
 pub bounds-places-request : goal.bounds-places-request
 bounds-places-request c =
     let next : let a = c.args in
-    get_or (take a.waiting (records_in a.row.now)) c.loop-at.at no_request ≡ c.record_in-request.result = get_or-take _ _ _ _ c.loop-at-test.true
+    get_or (take a.waiting (records_in a.row.now)) c.loop-at.at no_request ≡ c.record_in-request.result =
+    get_or-take _ _ _ _ c.loop-at-test.true
     ∙ get_or_tabulate 32 (record_in c.args.row.now) _ no_request (omega (arith, c.requires.0)) ∙ sym c.record_in-request.ensures in
     let admitted : Admitted c.args.plan.now c.record_in-request.result = let v = c.loop-at.invariant in
     let plan = c.args.plan.now in
@@ -75,7 +78,8 @@ overflow_mul-answered c = omega (arith, c.requires.0)
 pub offset_bounds-out-end : goal.offset_bounds-out-end
 offset_bounds-out-end c =
     let next : let a = c.args in
-    get_or (take a.waiting (records_in a.row.now)) c.loop-at.at no_request ≡ c.record_in-request.result = get_or-take _ _ _ _ c.loop-at-test.true
+    get_or (take a.waiting (records_in a.row.now)) c.loop-at.at no_request ≡ c.record_in-request.result =
+    get_or-take _ _ _ _ c.loop-at-test.true
     ∙ get_or_tabulate 32 (record_in c.args.row.now) _ no_request (omega (arith, c.requires.0)) ∙ sym c.record_in-request.ensures in
     let room : let l = c.loop-at in
     l.end + length (made_words (plan_of c.args.plan.now) c.args.desk c.record_in-request.result l.cells)
@@ -86,7 +90,8 @@ offset_bounds-out-end c =
 pub slice_bounds-run_one-count : goal.slice_bounds-run_one-count
 slice_bounds-run_one-count c =
     let next : let a = c.args in
-    get_or (take a.waiting (records_in a.row.now)) c.loop-at.at no_request ≡ c.record_in-request.result = get_or-take _ _ _ _ c.loop-at-test.true
+    get_or (take a.waiting (records_in a.row.now)) c.loop-at.at no_request ≡ c.record_in-request.result =
+    get_or-take _ _ _ _ c.loop-at-test.true
     ∙ get_or_tabulate 32 (record_in c.args.row.now) _ no_request (omega (arith, c.requires.0)) ∙ sym c.record_in-request.ensures in
     let room : let l = c.loop-at in
     l.end + length (made_words (plan_of c.args.plan.now) c.args.desk c.record_in-request.result l.cells)
@@ -96,7 +101,8 @@ slice_bounds-run_one-count c =
 pub slice_bounds-run_one-start : goal.slice_bounds-run_one-start
 slice_bounds-run_one-start c =
     let next : let a = c.args in
-    get_or (take a.waiting (records_in a.row.now)) c.loop-at.at no_request ≡ c.record_in-request.result = get_or-take _ _ _ _ c.loop-at-test.true
+    get_or (take a.waiting (records_in a.row.now)) c.loop-at.at no_request ≡ c.record_in-request.result =
+    get_or-take _ _ _ _ c.loop-at-test.true
     ∙ get_or_tabulate 32 (record_in c.args.row.now) _ no_request (omega (arith, c.requires.0)) ∙ sym c.record_in-request.ensures in
     let room : let l = c.loop-at in
     l.end + length (made_words (plan_of c.args.plan.now) c.args.desk c.record_in-request.result l.cells)
@@ -106,31 +112,38 @@ slice_bounds-run_one-start c =
 pub offset_bounds-replies-answered : goal.offset_bounds-replies-answered
 offset_bounds-replies-answered c =
     let next : let a = c.args in
-    get_or (take a.waiting (records_in a.row.now)) c.loop-at.at no_request ≡ c.record_in-request.result = get_or-take _ _ _ _ c.loop-at-test.true
+    get_or (take a.waiting (records_in a.row.now)) c.loop-at.at no_request ≡ c.record_in-request.result =
+    get_or-take _ _ _ _ c.loop-at-test.true
     ∙ get_or_tabulate 32 (record_in c.args.row.now) _ no_request (omega (arith, c.requires.0)) ∙ sym c.record_in-request.ensures in
-    let reply_room_lem : let l = c.loop-at in l.at * reply_size + reply_size ≤ length l.replies = let v = c.loop-at.invariant in reply_room_here _ _ _ _ _ _ _ _ _ _ _ v.4 (omega arith) _ next v.3.reply_room in
+    let reply_room_lem : let l = c.loop-at in l.at * reply_size + reply_size ≤ length l.replies = let v = c.loop-at.invariant in
+    reply_room_here _ _ _ _ _ _ _ _ _ _ _ v.4 (omega arith) _ next v.3.reply_room in
     omega (arith, reply_room_lem, c.requires.0)
 
 pub slice_bounds-run_one-count-in-loop-at : goal.slice_bounds-run_one-count-in-loop-at
 slice_bounds-run_one-count-in-loop-at c =
     let next : let a = c.args in
-    get_or (take a.waiting (records_in a.row.now)) c.loop-at.at no_request ≡ c.record_in-request.result = get_or-take _ _ _ _ c.loop-at-test.true
+    get_or (take a.waiting (records_in a.row.now)) c.loop-at.at no_request ≡ c.record_in-request.result =
+    get_or-take _ _ _ _ c.loop-at-test.true
     ∙ get_or_tabulate 32 (record_in c.args.row.now) _ no_request (omega (arith, c.requires.0)) ∙ sym c.record_in-request.ensures in
-    let reply_room_lem : let l = c.loop-at in l.at * reply_size + reply_size ≤ length l.replies = let v = c.loop-at.invariant in reply_room_here _ _ _ _ _ _ _ _ _ _ _ v.4 (omega arith) _ next v.3.reply_room in
+    let reply_room_lem : let l = c.loop-at in l.at * reply_size + reply_size ≤ length l.replies = let v = c.loop-at.invariant in
+    reply_room_here _ _ _ _ _ _ _ _ _ _ _ v.4 (omega arith) _ next v.3.reply_room in
     let h = reply_room_lem in omega arith
 
 pub slice_bounds-run_one-start-in-loop-at : goal.slice_bounds-run_one-start-in-loop-at
 slice_bounds-run_one-start-in-loop-at c =
     let next : let a = c.args in
-    get_or (take a.waiting (records_in a.row.now)) c.loop-at.at no_request ≡ c.record_in-request.result = get_or-take _ _ _ _ c.loop-at-test.true
+    get_or (take a.waiting (records_in a.row.now)) c.loop-at.at no_request ≡ c.record_in-request.result =
+    get_or-take _ _ _ _ c.loop-at-test.true
     ∙ get_or_tabulate 32 (record_in c.args.row.now) _ no_request (omega (arith, c.requires.0)) ∙ sym c.record_in-request.ensures in
-    let reply_room_lem : let l = c.loop-at in l.at * reply_size + reply_size ≤ length l.replies = let v = c.loop-at.invariant in reply_room_here _ _ _ _ _ _ _ _ _ _ _ v.4 (omega arith) _ next v.3.reply_room in
+    let reply_room_lem : let l = c.loop-at in l.at * reply_size + reply_size ≤ length l.replies = let v = c.loop-at.invariant in
+    reply_room_here _ _ _ _ _ _ _ _ _ _ _ v.4 (omega arith) _ next v.3.reply_room in
     let h = reply_room_lem in omega arith
 
 pub run_one-end-requires : goal.run_one-end-requires
 run_one-end-requires c =
     let next : let a = c.args in
-    get_or (take a.waiting (records_in a.row.now)) c.loop-at.at no_request ≡ c.record_in-request.result = get_or-take _ _ _ _ c.loop-at-test.true
+    get_or (take a.waiting (records_in a.row.now)) c.loop-at.at no_request ≡ c.record_in-request.result =
+    get_or-take _ _ _ _ c.loop-at-test.true
     ∙ get_or_tabulate 32 (record_in c.args.row.now) _ no_request (omega (arith, c.requires.0)) ∙ sym c.record_in-request.ensures in
     let admitted : Admitted c.args.plan.now c.record_in-request.result = let v = c.loop-at.invariant in
     let plan = c.args.plan.now in
@@ -139,7 +152,8 @@ run_one-end-requires c =
     let room : let l = c.loop-at in
     l.end + length (made_words (plan_of c.args.plan.now) c.args.desk c.record_in-request.result l.cells)
     ≤ length l.out = let v = c.loop-at.invariant in room_here _ _ _ _ _ _ _ _ _ _ _ v.4 (omega arith) _ next v.3.room in
-    let reply_room_lem : let l = c.loop-at in l.at * reply_size + reply_size ≤ length l.replies = let v = c.loop-at.invariant in reply_room_here _ _ _ _ _ _ _ _ _ _ _ v.4 (omega arith) _ next v.3.reply_room in
+    let reply_room_lem : let l = c.loop-at in l.at * reply_size + reply_size ≤ length l.replies = let v = c.loop-at.invariant in
+    reply_room_here _ _ _ _ _ _ _ _ _ _ _ v.4 (omega arith) _ next v.3.reply_room in
     let l = c.loop-at in
     let a = c.args in
     let r = c.record_in-request.result in
@@ -157,7 +171,8 @@ run_one-end-requires c =
 pub overflow_add-end : goal.overflow_add-end
 overflow_add-end c =
     let next : let a = c.args in
-    get_or (take a.waiting (records_in a.row.now)) c.loop-at.at no_request ≡ c.record_in-request.result = get_or-take _ _ _ _ c.loop-at-test.true
+    get_or (take a.waiting (records_in a.row.now)) c.loop-at.at no_request ≡ c.record_in-request.result =
+    get_or-take _ _ _ _ c.loop-at-test.true
     ∙ get_or_tabulate 32 (record_in c.args.row.now) _ no_request (omega (arith, c.requires.0)) ∙ sym c.record_in-request.ensures in
     let room : let l = c.loop-at in
     l.end + length (made_words (plan_of c.args.plan.now) c.args.desk c.record_in-request.result l.cells)
@@ -168,7 +183,8 @@ overflow_add-end c =
 pub loop-at-preserved : goal.loop-at-preserved
 loop-at-preserved c =
     let next : let a = c.args in
-    get_or (take a.waiting (records_in a.row.now)) c.loop-at.at no_request ≡ c.record_in-request.result = get_or-take _ _ _ _ c.loop-at-test.true
+    get_or (take a.waiting (records_in a.row.now)) c.loop-at.at no_request ≡ c.record_in-request.result =
+    get_or-take _ _ _ _ c.loop-at-test.true
     ∙ get_or_tabulate 32 (record_in c.args.row.now) _ no_request (omega (arith, c.requires.0)) ∙ sym c.record_in-request.ensures in
     let v = c.loop-at.invariant in
     let x = c.run_one-end in (

@@ -13,7 +13,8 @@ abbrev pub invariant-loop-at : goal.invariant-loop-at
 invariant-loop-at l =
     (l.at ≤ l.waiting) × (length (take l.waiting (records_in l.row)) ≡ l.waiting) × (length l.cells ≡ length l.initial.cells)
     × AllRun l.plan (take l.waiting (records_in l.row)) l.desk l.initial.cells l.initial.out l.initial.replies
-    × Running (plan_of l.plan) l.desk (take l.waiting (records_in l.row)) l.initial.cells l.initial.out l.initial.replies l.cells l.out l.replies l.end l.at
+    × Running (plan_of l.plan) l.desk (take l.waiting
+    (records_in l.row)) l.initial.cells l.initial.out l.initial.replies l.cells l.out l.replies l.end l.at
 
 abbrev pub decreases-loop-at : goal.decreases-loop-at
 decreases-loop-at l = l.waiting - l.at

@@ -12,11 +12,19 @@ returns-then-cells-ne-STORE_SIZE c = rw (ne_eqb _ _ c.if-cells-ne-STORE_SIZE.tru
 
 pub returns-then-row-ne-QUEUE_WORDS : goal.returns-then-row-ne-QUEUE_WORDS
 unfolding desk_buffers_fit
-returns-then-row-ne-QUEUE_WORDS c = rw (eq-eqb _ _ c.if-cells-ne-STORE_SIZE.false, queue_in_none _ (ne_eqb _ _ c.if-row-ne-QUEUE_WORDS.true))
+returns-then-row-ne-QUEUE_WORDS c = rw (
+  eq-eqb _ _ c.if-cells-ne-STORE_SIZE.false,
+  queue_in_none _
+      (ne_eqb _ _ c.if-row-ne-QUEUE_WORDS.true),
+)
 
 pub returns-then-snapshot-ne-STORE_SIZE : goal.returns-then-snapshot-ne-STORE_SIZE
 unfolding desk_buffers_fit visit_buffers_fit
-returns-then-snapshot-ne-STORE_SIZE c = rw (eq-eqb _ _ c.if-cells-ne-STORE_SIZE.false, length_queue_in _ c.if-row-ne-QUEUE_WORDS.false, ne_eqb _ _ c.if-snapshot-ne-STORE_SIZE.true)
+returns-then-snapshot-ne-STORE_SIZE c = rw (
+  eq-eqb _ _ c.if-cells-ne-STORE_SIZE.false,
+  length_queue_in _ c.if-row-ne-QUEUE_WORDS.false,
+  ne_eqb _ _ c.if-snapshot-ne-STORE_SIZE.true,
+)
 
 pub returns-then-out-lt-LONGEST_FRAME : goal.returns-then-out-lt-LONGEST_FRAME
 unfolding desk_buffers_fit visit_buffers_fit

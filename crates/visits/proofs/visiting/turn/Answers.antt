@@ -18,7 +18,11 @@ returns-then-visit-state c = rw (eq-eqb _ _ c.if-addressed-state.false, ne_eqb _
 
 pub returns-then-visit-lt4294967295 : goal.returns-then-visit-lt4294967295
 unfolding turn_verdict
-returns-then-visit-lt4294967295 c = rw (eq-eqb _ _ c.if-addressed-state.false, eq-eqb _ _ c.if-visit-state.false, lt-ltb _ _ c.if-visit-lt4294967295.true)
+returns-then-visit-lt4294967295 c = rw (
+  eq-eqb _ _ c.if-addressed-state.false,
+  eq-eqb _ _ c.if-visit-state.false,
+  lt-ltb _ _ c.if-visit-lt4294967295.true,
+)
 
 pub returns : goal.returns
 unfolding turn_verdict
