@@ -1,6 +1,8 @@
 // Runs a script of calls: what a plan writer or a desk engineer tries a plan with. docs/SCRIPT.md is the language.
 #![tactic(auto)]
 
-fn main() {
-    script::run();
+use std::io;
+
+fn main(rt: HostRuntime) -> io::Result<()> {
+    script::run(rt.stdin(), rt.stdout())
 }

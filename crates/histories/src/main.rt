@@ -1,6 +1,8 @@
 // Runs the scripts of random histories. docs/TESTING.md says what they cover.
 #![tactic(auto)]
 
-fn main() {
-    script::run();
+use std::io;
+
+fn main(rt: HostRuntime) -> io::Result<()> {
+    script::run(rt.stdin(), rt.stdout())
 }

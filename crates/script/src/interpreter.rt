@@ -15,6 +15,8 @@ use crate::scanner::number_to;
 use crate::{
     desks, events, forms, frames, loans, memory, operations, output, plans, scanner, texts,
 };
+use std::io;
+use std::io::{Read, Stdin, Stdout};
 
 // The names of the commands, the bytes of each as one number.
 const PLAN_NAME: u64 = 0x706c_616e;
@@ -224,22 +226,26 @@ fn finish(m: &mut Memory) -> &mut Memory {
 }
 
 // Reads the next bytes of the script, runs the lines that they end and writes what is said to them; whether there were any.
-fn run_block(m: &mut Memory) -> bool {
+fn run_block(m: &mut Memory, stdin: &mut Stdin) -> io::Result<bool> {
     let mut block = [0u8; 65536];
-    let got = libc::read(0, &mut block);
-    let length = io::count(got, &block);
-    output::flush(take_block(m, &block[..length]));
-    0 < length
+    let length = stdin.read(&mut block)?;
+    let m = output::flush(take_block(m, &block[..length]));
+    m.written?;
+    Ok(0 < length)
 }
 
-// Reads a script from standard input, and writes what is said to it.
-pub fn run() {
-    let mut m = [0u32; 548864];
+// Reads a script from standard input, and writes what is said to it to standard output. It ends where a read or a write fails.
+pub fn run(mut stdin: Stdin, stdout: Stdout) -> io::Result<()> {
+    let mut m = Memory {
+        words: [0; 548864],
+        stdout,
+        written: Ok(()),
+    };
     begin_line(reset(install_marks(texts::install(&mut m))));
     for _turn in 0..0xffff_ffff_ffffusize {
-        if !run_block(&mut m) {
+        if !run_block(&mut m, &mut stdin)? {
             break;
         }
     }
-    output::flush(finish(&mut m));
+    output::flush(finish(&mut m)).written
 }

@@ -1,7 +1,15 @@
 // The interpreter's memory: one array of words, lent to every function. Places past its end read as 0 and are not written. The words
 // at places 33 to 126 are registers: a text names one by the byte of its number. A function that writes hands the memory on.
+use std::io;
+use std::io::Stdout;
 
-pub type Memory = [u32; 548864];
+// The words, and beside them where text is written, and the write that failed, if one did.
+#[derive(Drop)]
+pub struct Memory {
+    pub words: [u32; 548864],
+    pub stdout: Stdout,
+    pub written: io::Result<()>,
+}
 
 // Text that is still to be written, one byte a word, and how many bytes; it is written where there are more than the most.
 pub const OUTPUT: usize = 4096;
@@ -77,7 +85,7 @@ pub const FREE: usize = 86272;
 
 // The word at a place.
 pub fn get(m: &Memory, place: usize) -> u32 {
-    if place < 548864 { m[place] } else { 0 }
+    if place < 548864 { m.words[place] } else { 0 }
 }
 
 // The word at a place, as a size.
@@ -88,7 +96,7 @@ pub fn size(m: &Memory, place: usize) -> usize {
 // Stores a word.
 pub fn put(m: &mut Memory, place: usize, word: u32) -> &mut Memory {
     if place < 548864 {
-        m[place] = word;
+        m.words[place] = word;
     }
     m
 }
@@ -180,5 +188,5 @@ fn part(m: &[u32], from: usize, to: usize) -> &[u32] {
 
 // The words from a place on, as many as another place says.
 pub fn counted(m: &Memory, number: usize, place: usize) -> &[u32] {
-    part(m, place, on(place, size(m, number)))
+    part(&m.words, place, on(place, size(m, number)))
 }

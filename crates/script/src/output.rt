@@ -21,15 +21,19 @@ use crate::memory::{
     INDEX, ITEM, ITEMS_END, Memory, OUTPUT, OUTPUT_LENGTH, OUTPUT_MOST, QUIET, TEXT_PLACES, TEXTS,
     TEXTS_BEGUN, WRITTEN, get, narrow, on, put, size,
 };
+use itoa::Buffer;
+use std::io::Write;
 
-// Writes the text that is kept; none is kept then.
+// Writes the text that is kept; none is kept then. Behind a write that failed nothing is written.
 pub fn flush(m: &mut Memory) -> &mut Memory {
     let mut block = [0u8; 16384];
     for i in 0..16384usize {
         block[i] = (get(m, on(OUTPUT, i)) % 256) as u8;
     }
     let length = (get(m, OUTPUT_LENGTH) % 16385) as usize;
-    io::write_all(1, &block[..length]);
+    if m.written.is_ok() {
+        m.written = m.stdout.write_all(&block[..length]);
+    }
     put(m, OUTPUT_LENGTH, 0)
 }
 
@@ -42,10 +46,9 @@ pub fn byte(m: &mut Memory, byte: u8) -> &mut Memory {
 
 // A number in decimal.
 fn decimal(m: &mut Memory, n: u64) -> &mut Memory {
-    let mut digits = [0u8; 20];
-    let length = io::decimal(n, &mut digits) % 21;
-    for i in 0..length {
-        byte(m, digits[i]);
+    let mut buffer = Buffer::new();
+    for digit in buffer.format(n).as_bytes() {
+        byte(m, *digit);
     }
     memory::put_wide(m, WRITTEN, n)
 }
