@@ -19,6 +19,7 @@ pub mod Notes
 pub mod Given
 pub mod Claim
 pub mod WaitingOrder
+pub mod WaitingThroughout
 pub mod Snapshots
 pub mod OrderRule
 pub mod Start

@@ -1,9 +1,7 @@
 -- Those that wait at a desk are its line in the serial run, and the line is what arrived, the urgent ones first.
 --     line_in_order         each call leaves a line in order of arrival, the urgent ones first
 --     waiting_is_line       those that wait at a desk are its line
---     beginning_proper      the premise of a history holds of each of its beginnings
---     waiting_in_order      the statement at the end of a history
---     waiting_in_order_throughout   the statement at every moment
+--     waiting_in_order      the statement
 -- Assumes nothing.
 use Prim.Native.Nat.{ℕ}
 use mathlib.Core.Path.{◌≡◌, refl, sym, ◌∙◌, ap}
@@ -28,10 +26,9 @@ use Rattle.serial.specs.SerialRun as run
 use Rattle.serial.specs.System.{System}
 use Rattle.serial.proofs.Bridge.{machine_desks}
 use Rattle.serial.proofs.Histories.{history_good}
-use Rattle.frame.specs.Frame.{starting_frame}
-use Rattle.history.specs.History.{Call, request, visit, Kept, holdings_after, start, Proper, ProperFromStart}
+use Rattle.history.specs.History.{Call, request, visit, Kept, holdings_after, start, ProperFromStart}
 use Rattle.history.specs.SerialRun.{Classifies, Serial, new_serial, note_request, note, note_all, serial}
-use Rattle.history.specs.WaitingOrder.{arrived_by, arrived_from, WaitingInOrder, WaitingInOrderThroughout}
+use Rattle.history.specs.WaitingOrder.{arrived_by, arrived_from, WaitingInOrder}
 use Rattle.history.proofs.Protocol.{Sizes, system}
 use Rattle.history.proofs.ProtocolLaws.{laws}
 use Rattle.history.proofs.Seen.{request_seen}
@@ -127,12 +124,3 @@ pub waiting_in_order : WaitingInOrder
 waiting_in_order plan accept class right cells rows snapshots cs pr q =
     waiting_is_line plan accept class right cells rows snapshots cs pr q
     ∙ line_in_order (plan_of plan) class q cs (refusals plan accept class right cells rows snapshots cs pr) new_serial [] refl
-
-beginning_proper : (ws : List ℕ) (cs rest : List Call) (w : ℕ → Kept) (fs : List (List ℕ)) → Proper ws w fs (cs ++ rest) → Proper ws w fs cs
-beginning_proper ws [] rest w fs pr = tt
-beginning_proper ws (c ∷ cs) rest w fs pr = (pr.0, pr.1, pr.2, beginning_proper ws cs rest _ _ pr.3)
-
-pub waiting_in_order_throughout : WaitingInOrderThroughout
-waiting_in_order_throughout plan accept class right cells rows snapshots cs rest pr q =
-    waiting_in_order plan accept class right cells rows snapshots cs
-    (beginning_proper plan cs rest (start cells rows snapshots) (starting_frame ∷ []) pr) q

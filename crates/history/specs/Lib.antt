@@ -4,6 +4,7 @@ pub mod SerialRun
 pub mod Claim
 pub mod Answering
 pub mod WaitingOrder
+pub mod WaitingThroughout
 pub mod AcceptedVisit
 pub mod OrderRule
 pub mod VisitNumbers

@@ -1,7 +1,6 @@
 -- 02, A.6: "The waiting row holds urgent requests before the others, each sort by arrival".
 --     joins_at, arrived_by, arrivals      the requests that arrived at a desk to wait and are not answered yet, in order of arrival
 --     WaitingInOrder                    those that wait at a desk are these, the urgent ones first
---     WaitingInOrderThroughout          the same at every moment: behind each beginning of a history
 -- The arrivals are reckoned as the serial run is: from the plan, the list and, of the answers, only from whether each was a refusal.
 use Rattle.std.specs.Prelude.{ℕ, ◌≡◌, Bool, true, false, ◌&&◌, cond, List, [], ◌∷◌, ◌++◌, map, eqb}
 use Rattle.verdict.specs.Verdict.{accepted}
@@ -46,17 +45,6 @@ WaitingInOrder =
     (plan : List ℕ) → plan_verdict plan ≡ accepted → (class : Operation → Class) → Classifies (plan_of plan) class
     → (cells : List ℕ) (rows : ℕ → List Request) (snapshots : ℕ → List ℕ) (cs : List Call) → ProperFromStart plan cells rows snapshots cs
     → (q : ℕ)
-    → let w = start cells rows snapshots in
-    waiting_at (holdings_after plan w cs q).holding
-    ≡ urgent_first (is_urgent (plan_of plan)) (arrivals (plan_of plan) class q cs (map is_refused (outcomes plan w cs)))
-
--- ---- the same at every moment of a history: behind its calls `cs`, whatever calls `rest` come then
-
-abbrev pub WaitingInOrderThroughout : Type 0
-WaitingInOrderThroughout =
-    (plan : List ℕ) → plan_verdict plan ≡ accepted → (class : Operation → Class) → Classifies (plan_of plan) class
-    → (cells : List ℕ) (rows : ℕ → List Request) (snapshots : ℕ → List ℕ) (cs rest : List Call)
-    → ProperFromStart plan cells rows snapshots (cs ++ rest) → (q : ℕ)
     → let w = start cells rows snapshots in
     waiting_at (holdings_after plan w cs q).holding
     ≡ urgent_first (is_urgent (plan_of plan)) (arrivals (plan_of plan) class q cs (map is_refused (outcomes plan w cs)))
