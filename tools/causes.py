@@ -21,8 +21,9 @@ def written_cells(t, params):
 
 
 def is_right(plan, transaction, params, answer):
-    """Whether an answer that is no refusal is right: of a global operation the named touch is real and each lower one is absent, and of any
-    other no touch by another desk of what it may write is there at all; it is free if it writes nothing and nothing writes what it reads."""
+    """Whether an answer that is no refusal is right: of a global operation the named touch is real and each lower one is absent, and of
+    any other no touch by another desk of what it may write is there at all; it is free if it writes nothing and nothing writes what it
+    reads."""
     t, (masks, touched, written) = plan.transactions[transaction], masks_of(tuple(plan.words))
     desk = desk_of(t, params, plan.desks)
     others = [d for d in range(plan.desks) if d != desk]

@@ -1,8 +1,8 @@
 """Draws new histories and compares the built program with the model: python3 tools/draw.py N [SEED] [PROGRAM]
 
 N histories are drawn in batches of 50, for as long as one likes if N is 0. The first batch has the seed that is given, or one from the
-clock, every other the seed before it plus 1. The program, target/bin/histories if none is given, runs on each batch, and what it writes
-is compared with the answers of script.py. At the first difference the script is left in target/.
+clock, every other the seed before it plus 1. The program, crates/histories/out/histories if none is given, runs on each batch, and what
+it writes is compared with the answers of script.py. At the first difference the script is left in target/.
 """
 
 import io
@@ -59,7 +59,7 @@ def main():
         sys.exit(__doc__)
     wanted = int(sys.argv[1])
     seed = int(sys.argv[2]) % WORD if len(sys.argv) > 2 else int(time.time()) % WORD
-    program = sys.argv[3] if len(sys.argv) > 3 else str(ROOT / "target/bin/histories")
+    program = sys.argv[3] if len(sys.argv) > 3 else str(ROOT / "crates/histories/out/histories")
     print("seeds from %d" % seed, flush=True)
     drawn = calls = 0
     try:
