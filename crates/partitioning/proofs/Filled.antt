@@ -48,7 +48,7 @@ other_bits_kept ws fs e g = (filled_length fs ws, kept_at ws fs (filling_fits ws
 abbrev pub filled_transaction : List ℕ → ℕ → List ℕ → Transaction
 filled_transaction fs w ws = repartitioned (part_by (partitioning_field (put_field (get_or fs 0 0) w))) (transaction_of w ws)
 
--- the first transaction of a well_formed_lem list, and the fields from its own on
+-- the first transaction of a well-formed list, and the fields from its own on
 module _ (n w : ℕ) (ws fs : List ℕ) (e : well_formed (suc n) (w ∷ ws) ≡ true) (c : Candidates (w ∷ ws) fs) where
   here : is_open w ≡ true → Candidate (parameter_count w) (get_or fs 0 0)
   here = candidate_here w ws fs c

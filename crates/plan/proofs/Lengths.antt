@@ -1,4 +1,4 @@
--- A well_formed_lem plan is no longer than question 1 allows.
+-- A well-formed plan is no longer than question 1 allows.
 -- Assumes nothing.
 use mathlib.Core.Path.{◌≡◌}
 use mathlib.Core.Bool.{true, false≢true}

@@ -1,4 +1,4 @@
--- What the questions say of a well_formed_lem word, a step's or a transaction's, by its fields.
+-- What the questions say of a well-formed word, a step's or a transaction's, by its fields.
 -- Assumes nothing.
 use mathlib.Core.Path.{◌≡◌, refl}
 use mathlib.Core.Bool.{Bool, true, false, ◌&&◌, ◌||◌, cond, or-false}

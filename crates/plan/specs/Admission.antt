@@ -57,7 +57,7 @@ abbrev pub step_fits : ℕ → ℕ → Bool
 step_fits before w = step_formed w && leb (before + one_if_tells (step_of w)) most_tells
 
 -- 3: "Does each further word have its place, kind, ranges and zero bits, and does the last step end the plan?"
--- The words are n well_formed_lem transactions, each with all its steps, at most four of which tell, and nothing more
+-- The words are n well-formed transactions, each with all its steps, at most four of which tell, and nothing more
 unfoldable pub well_formed : ℕ → List ℕ → Bool
 well_formed zero [] = true
 well_formed zero (w ∷ ws) = false

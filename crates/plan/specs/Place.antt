@@ -26,7 +26,7 @@ steps_at ws at = step_count (get_or ws at 0)
 abbrev pub step_word : List ℕ → ℕ → ℕ → ℕ
 step_word ws at s = get_or ws (at + 1 + s) 0
 
--- a well_formed_lem transaction stands at `at`, whole
+-- a well-formed transaction stands at `at`, whole
 pub record StandsAt (ws : List ℕ) (at : ℕ) : Type 0 where
   pub room : at + 1 + steps_at ws at ≤ length ws
   pub form : transaction_formed (get_or ws at 0) ≡ true

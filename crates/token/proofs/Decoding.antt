@@ -1,4 +1,4 @@
--- Well-formed words are the writing of the updates that they decode to, and the writing of well_formed_lem updates is well formed and
+-- Well-formed words are the writing of the updates that they decode to, and the writing of well-formed updates is well formed and
 -- decodes to them.
 -- Assumes nothing.
 use mathlib.Core.Path.{◌≡◌, refl, ◌∙◌, sym, ap, ap₂}
