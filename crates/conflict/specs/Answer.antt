@@ -1,7 +1,7 @@
 -- What the classifier answers, in the paper's classes, desks, causes and numbers.
---     Classified, classified_of    the answer, and what each case of the code's enum stands for
---     classify_result              the answer to any words, transaction and parameters
---     AnswersGlobal               it answers with this desk and this cause exactly if the operation is global and they are its own
+--     Classified, classified_of     the answer, and what each case of the code's enum stands for
+--     classify_result               the answer to any words, transaction and parameters
+--     AnswersGlobal                 it answers with this desk and this cause exactly if the operation is global and they are its own
 use Rattle.std.specs.Prelude.{ℕ, ◌^◌, ◌<◌, ◌≡◌, List, ◌↔◌, length, get_or}
 use Rattle.verdict.specs.Verdict.{accepted, ◌then◌, if_accepted}
 use Rattle.plan.specs.Plan.{Transaction, Plan}

@@ -1,12 +1,12 @@
 -- The cause of a wait (02, A.7): "give for a global operation the lowest cell it may write that another desk may touch, then the lowest
 -- such desk, then the lowest transaction of that desk with such an operation. Free and local operations carry none."
---     cause                   its three numbers, as the code's struct `Cause` holds them
---     TouchedBy, IsCause      these are the cause, over all operations: "each named touch real and each lower one absent"
---     cause_of                 the cause, computed
---     CauseMeans              an operation is global with this computed cause exactly if this is its cause
---     GlobalHasCause          an operation is global exactly if it has a cause
---     FreeOrLocalHasNone      a free or local one has none
---     CauseUnique             no operation has two
+--     cause                  its three numbers, as the code's struct `Cause` holds them
+--     TouchedBy, IsCause     these are the cause, over all operations: "each named touch real and each lower one absent"
+--     cause_of               the cause, computed
+--     CauseMeans             an operation is global with this computed cause exactly if this is its cause
+--     GlobalHasCause         an operation is global exactly if it has a cause
+--     FreeOrLocalHasNone     a free or local one has none
+--     CauseUnique            no operation has two
 use Rattle.std.specs.Prelude.{ℕ, ◌<◌, ◌≡◌, Bool, not, ◌&&◌, List, ◌↔◌, ◌⊎◌, ltb, eqb, length}
 use Rattle.verdict.specs.Verdict.{accepted}
 use Rattle.lists.specs.Lists.{some, lowest_below}

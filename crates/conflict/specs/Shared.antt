@@ -1,7 +1,7 @@
 -- Cells that two or more desks may touch: over all operations, and computed.
 --     Shared, is_shared     the notion, and the test by the count of ones in the mask
---     SharedMeans          the test says yes exactly if two or more desks may touch the cell
---     OneDeskNoneShared    with one desk there is no such cell
+--     SharedMeans           the test says yes exactly if two or more desks may touch the cell
+--     OneDeskNoneShared     with one desk there is no such cell
 use Rattle.std.specs.Prelude.{◌≡◌, Bool, true, List, ◌↔◌, ℕ, leb}
 use Rattle.std.specs.Int.Count.{ones}
 use Rattle.verdict.specs.Verdict.{accepted}

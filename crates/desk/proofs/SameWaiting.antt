@@ -1,8 +1,8 @@
 -- Two queues that questions 5 and 6 do not tell apart: both have 32 records or neither has, and the waiting records are the same.
---     SameWaiting      that they are such
---     same_buffers, same_fits      question 5 has the same answer, and question 6 of 32 records
---     lent_same        a queue that is handed over as words with its length, and the queue that is lent of them
---     copied_same      and any queue of that length with these records in front
+--     SameWaiting                 that they are such
+--     same_buffers, same_fits     question 5 has the same answer, and question 6 of 32 records
+--     lent_same                   a queue that is handed over as words with its length, and the queue that is lent of them
+--     copied_same                 and any queue of that length with these records in front
 -- Assumes nothing.
 use mathlib.Core.Path.{◌≡◌, refl, ◌∙◌, sym, ap}
 use mathlib.Core.Bool.{Bool, true, false, ◌&&◌}

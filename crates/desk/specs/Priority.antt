@@ -1,6 +1,6 @@
 -- The order of those that wait: what question 6 asks of it, and where a request joins.
---     urgent_lead, UrgentLeadMeans      no urgent one follows one that is not: computed, and over all places
---     join_place, JoinsAtPlace          the place at which a request joins those in order, before the others behind it
+--     urgent_lead, UrgentLeadMeans     no urgent one follows one that is not: computed, and over all places
+--     join_place, JoinsAtPlace         the place at which a request joins those in order, before the others behind it
 --     JoinKeepsOrder                   those that wait are in order then too
 --     UrgentJoins, OtherJoins          behind the urgent ones, or behind all
 use Rattle.std.specs.Prelude.{ℕ, ◌<◌, ◌≡◌, ◌↔◌, Bool, true, false, not, cond, List, [], ◌∷◌, ◌++◌, length, get_or}

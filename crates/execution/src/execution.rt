@@ -5,7 +5,7 @@ ghost use Rattle.plan.specs.Place.{StandsAt, transaction_from};
 ghost use Rattle.operation.specs.Operation.{value_of};
 ghost use Rattle.operation.specs.Admission.{parameters_pass};
 ghost use Rattle.operation.specs.Store.{apply_update};
-ghost use Rattle.execution.specs.Run.{act as actOn, reply_with, declined as declinedAt, finished as finishedWith, run_transaction};
+ghost use Rattle.execution.specs.Run.{act as act_on, reply_with, declined as declined_at, finished as finished_with, run_transaction};
 ghost use Rattle.execution.specs.Answer.{next_of, told_of, ZerosBehind, pairs, update_of, outcome_of};
 
 use crate::told;
@@ -46,7 +46,7 @@ enum Next {
 
 // Set, add, need and take: kinds 5 to 8. An add past the largest word and a take below zero decline, as a need does that is not met.
 fn act(kind: u32, number: u32, operand: u32) -> Next
-    ensures { next_of result ≡ actOn (action_by kind) number operand }
+    ensures { next_of result ≡ act_on (action_by kind) number operand }
 {
     if kind == 5 {
         return Next::Continue(operand);
@@ -175,7 +175,7 @@ fn reply_with(done: bool, number: u32, told: Told) -> Reply
 // The outcome of a run that is done.
 fn finished(number: u32, told: Told, count: usize, cells: [u32; 12], values: [u32; 12]) -> Outcome
     requires { ZerosBehind told }
-    ensures outcome { outcome_of result ≡ finishedWith number (told_of told) (pairs count cells values) }
+    ensures outcome { outcome_of result ≡ finished_with number (told_of told) (pairs count cells values) }
     ensures count { result.update.count ≡ count }
 {
     let reply = reply_with(true, number, told);
@@ -193,7 +193,7 @@ fn finished(number: u32, told: Told, count: usize, cells: [u32; 12], values: [u3
 // The outcome of a declined run, which writes nothing. What it told before the stop stays.
 fn declined(number: u32, told: Told) -> Outcome
     requires { ZerosBehind told }
-    ensures outcome { outcome_of result ≡ declinedAt number (told_of told) }
+    ensures outcome { outcome_of result ≡ declined_at number (told_of told) }
     ensures count { result.update.count ≡ 0 }
 {
     let none: [u32; 12] = [0; 12];

@@ -20,7 +20,7 @@ use Rattle.frame.specs.Frame.{starting_frame}
 use Rattle.queue.specs.declared.record.Request.{Request}
 use Rattle.serial.specs.System.{System}
 use Rattle.serial.specs.SerialRun as run
-use Rattle.serial.specs.Order as protocolOrder
+use Rattle.serial.specs.Order as protocol_order
 use Rattle.serial.specs.Claim as protocol
 use Rattle.serial.specs.AtEnd.{ProperFrom, answers_of}
 use Rattle.serial.specs.Desk as desk
@@ -116,13 +116,13 @@ module _ (ws : List ℕ) (accept : plan_verdict ws ≡ accepted) (class : Operat
 
   store_is : run.store_after S (run.order S (serial_seen s)) cells ≡ store_after p ordered cells
   store_is =
-      ap (λ (es : List (protocolOrder.Finished Operation)). run.store_after S es cells) order_is
+      ap (λ (es : List (protocol_order.Finished Operation)). run.store_after S es cells) order_is
       ∙ store_seen ws class sizes ordered cells runs
 
   due_is : (i : ℕ) → run.due S i (run.order S (serial_seen s)) cells
       ≡ map answered_seen (due p i ordered cells)
   due_is i =
-      ap (λ (es : List (protocolOrder.Finished Operation)). run.due S i es cells) order_is ∙ due_seen ws class sizes i ordered cells runs
+      ap (λ (es : List (protocol_order.Finished Operation)). run.due S i es cells) order_is ∙ due_seen ws class sizes i ordered cells runs
 
   -- ---- the desks at the end, and just one desk
 
@@ -149,12 +149,12 @@ module _ (ws : List ℕ) (accept : plan_verdict ws ≡ accepted) (class : Operat
   -- ---- the claim
 
   given_is : Match ws accept class right sizes (λ i. due p i ordered cells) 0 cs w
-  given_is j = whole.all_replies_lem j ∙ due_is j ∙ ap (λ (k : ℕ). map answered_seen (due p k ordered cells)) (sym (zero-add j))
+  given_is j = whole.all_replies j ∙ due_is j ∙ ap (λ (k : ℕ). map answered_seen (due p k ordered cells)) (sym (zero-add j))
 
   claim : Serializable p cells cs (outcomes ws w cs) (holdings_after ws w cs) s
   claim =
       record {
-        all_replies_lem = each_gives ws accept class right sizes (λ i. due p i ordered cells) cs w 0 given_is;
+        all_replies = each_gives ws accept class right sizes (λ i. due p i ordered cells) cs w 0 given_is;
         none_further = λ i l. none_past ws accept class right sizes (λ i. due p i ordered cells) cs w 0 given_is i (omega arith);
         one_desk = λ c d j. value_is d c _
             (whole.one_desk d c (desk_of_one c d j) (one_of c d j) ∙ ap (λ (b : Store). get_or b c 0) store_is);

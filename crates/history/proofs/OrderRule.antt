@@ -21,8 +21,8 @@ use Rattle.history.proofs.SerialSeen.{slot_seen, finished_seen}
 use Rattle.history.proofs.Places.{of_means}
 use Rattle.history.proofs.Claim.{refusals, ordered, proper_seen, order_seen}
 use Rattle.serial.specs.Desk as desk
-use Rattle.serial.specs.Order as protocolOrder
-use Rattle.serial.proofs.SerialOrder as protocolRule
+use Rattle.serial.specs.Order as protocol_order
+use Rattle.serial.proofs.SerialOrder as protocol_rule
 
 -- ---- a permutation
 
@@ -52,18 +52,18 @@ slot_once (global_run k) (immediate_run g p) e = cc
 slot_once (immediate_run g p) (global_run k) e = cc
 slot_once (immediate_run g p) (immediate_run h q) e = cc
 
-precedes_of : (e f : Finished) → protocolOrder.Precedes (finished_seen e) (finished_seen f) → Precedes e f
+precedes_of : (e f : Finished) → protocol_order.Precedes (finished_seen e) (finished_seen f) → Precedes e f
 precedes_of e f (inl h) = inl (of_means e.slot f.slot h)
 precedes_of e f (inr h) = inr (slot_once e.slot f.slot h.0, h.1)
 
-in_order : (es : List Finished) → Pairs protocolOrder.Precedes (map finished_seen es) → InOrder es
+in_order : (es : List Finished) → Pairs protocol_order.Precedes (map finished_seen es) → InOrder es
 in_order es h none i j l k =
     precedes_of (get_or es i none) (get_or es j none)
     (rw (get_or-map finished_seen es i none, get_or-map finished_seen es j none) at
-    (Pairs_get_or protocolOrder.Precedes (map finished_seen es) (finished_seen none) h i j l (rw (length-map es finished_seen) k)))
+    (Pairs_get_or protocol_order.Precedes (map finished_seen es) (finished_seen none) h i j l (rw (length-map es finished_seen) k)))
 
 at_desks : (S : System) (cs : List (desk.Call S.Op S.Extra)) (w : ℕ → desk.Desk S.Op) (fs : List Frame) → Proper S w fs cs →
-    All (protocolRule.AtDesk S) cs
+    All (protocol_rule.AtDesk S) cs
 at_desks S [] w fs pr = tt
 at_desks S (c ∷ cs) w fs pr = (pr.0, at_desks S cs (step_at S w c) (fs ++ desk.sent (answer_at S w c)) pr.2)
 
@@ -71,7 +71,7 @@ pub order_follows_rule : OrderFollowsRule
 order_follows_rule plan accept class right cells rows snapshots cs pr =
     let S : System = system plan class (record { records = λ q. length (rows q); words = λ q. length (snapshots q) }) in
     in_order (ordered plan accept class right cells rows snapshots cs pr)
-    (subst (Pairs protocolOrder.Precedes) (order_seen plan accept class right cells rows snapshots cs pr)
-    (protocolRule.order_follows_rule S (map call_seen cs) (refusals plan accept class right cells rows snapshots cs pr)
+    (subst (Pairs protocol_order.Precedes) (order_seen plan accept class right cells rows snapshots cs pr)
+    (protocol_rule.order_follows_rule S (map call_seen cs) (refusals plan accept class right cells rows snapshots cs pr)
     (at_desks S (map call_seen cs) (new_desks S cells) (start_frame ∷ [])
     (proper_seen plan accept class right cells rows snapshots cs pr))))

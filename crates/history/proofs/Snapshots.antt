@@ -19,7 +19,7 @@ use Rattle.conflict.specs.Shared.{Shared}
 use Rattle.queue.specs.declared.record.Request.{Request}
 use Rattle.serial.specs.System.{System, Touches}
 use Rattle.serial.specs.SerialRun as run
-use Rattle.serial.specs.Order as protocolOrder
+use Rattle.serial.specs.Order as protocol_order
 use Rattle.serial.specs.Snapshot.{Snapshots, new_snapshots, snapshots_of, Unowned, through}
 use Rattle.serial.specs.Snapshot as protocol
 use Rattle.serial.specs.AtEnd.{serial_of}
@@ -46,14 +46,14 @@ use Rattle.history.proofs.Claim.{refusals, all_sound, proper, proper_seen, refus
 -- ---- the serial order, cut
 
 module _ (p : Plan) (m : ℕ) where
-  cut_at : (b : Bool) (e : Finished) (es : List Finished) (ts : List (protocolOrder.Finished Operation)) →
+  cut_at : (b : Bool) (e : Finished) (es : List Finished) (ts : List (protocol_order.Finished Operation)) →
       map finished_seen (through_global m es) ≡ ts →
       map finished_seen (cond b [] (e ∷ through_global m es)) ≡ cond b [] (finished_seen e ∷ ts)
   cut_at true e es ts h = refl
-  cut_at false e es ts h = ap (λ (l : List (protocolOrder.Finished Operation)). finished_seen e ∷ l) h
+  cut_at false e es ts h = ap (λ (l : List (protocol_order.Finished Operation)). finished_seen e ∷ l) h
 
   cut_seen : (es : List Finished) → RunsAll p es → map finished_seen (through_global m es)
-      ≡ protocolOrder.upto (protocolOrder.place p.desks) (protocolOrder.place_at p.desks m 0) (map finished_seen es)
+      ≡ protocol_order.upto (protocol_order.place p.desks) (protocol_order.place_at p.desks m 0) (map finished_seen es)
   cut_seen [] h = refl
   cut_seen (e ∷ es) h =
       rw (before_is p.desks (global_run m) e.slot tt h.0.1) (cut_at (before (global_run m) e.slot) e es _ (cut_seen es h.1))
@@ -104,9 +104,9 @@ module _ (ws : List ℕ) (accept : plan_verdict ws ≡ accepted) (class : Operat
     store_is : (m : ℕ) → run.store_after S (through S m (run.order S (serial_seen s))) cells ≡ store_through p cells s m
     store_is m =
         let h : RunsAll p (order s) = runs ws accept class right cells rows snapshots cs pr in
-        ap (λ (es : List (protocolOrder.Finished Operation)). run.store_after S (through S m es) cells)
+        ap (λ (es : List (protocol_order.Finished Operation)). run.store_after S (through S m es) cells)
         (ap (run.order S) (notes_seen ws class sizes cs rs new_serial) ∙ order_seen ws accept class right cells rows snapshots cs pr)
-        ∙ ap (λ (es : List (protocolOrder.Finished Operation)). run.store_after S es cells) (sym (cut_seen p m (order s) h))
+        ∙ ap (λ (es : List (protocol_order.Finished Operation)). run.store_after S es cells) (sym (cut_seen p m (order s) h))
         ∙ store_seen ws class sizes (through_global m (order s)) cells (cut_runs p m (order s) h)
 
     -- no local operation may write a shared cell: every desk hears of it, also another than the operation's

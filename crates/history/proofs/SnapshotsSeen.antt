@@ -1,7 +1,7 @@
 -- What the protocol notes of the snapshots in a history of the engine: the globals behind each accepted visit, the visits that each desk's
 -- snapshot shows, and its shared cells, all by the engine's own calls.
---     logged, log_seen                           the protocol's notes, call by call
---     logged_counts, logged_shown, logged_taken    what they are at the end
+--     logged, log_seen                              the protocol's notes, call by call
+--     logged_counts, logged_shown, logged_taken     what they are at the end
 -- Assumes nothing.
 use Prim.Native.Nat.{ℕ}
 use mathlib.Core.Path.{◌≡◌, refl, sym, ◌∙◌, ap, subst}

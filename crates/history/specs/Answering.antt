@@ -1,13 +1,13 @@
 -- Demand 2: each waiting request is answered at its desk's next accepted visit. A waiting request is known by its place in the queue, so
 -- that two equal requests are two. None of this asks how the desks came to hold what they hold.
---     WaitsAt, reply_part, store_before           record k waits; the words of its reply; and the store on which it runs
---     AnswersWaiting, VisitAnswersWaiting       an accepted visit answers all that wait, and no other
---     place_at, RequestWaits                     a request that is told to wait is the record at its place
---     moved_by, place_after, places_after          where a waiting record stands after a request at its desk, a call and calls
---     PlaceItsOwn                               none is moved to the place of the request
---     NoVisit, NoVisits, WaitingMoves           there it stands until its desk's next accepted visit
---     PlacesKeepOrder                           none overtakes another, and two stay two
---     AnsweredAtNextVisit                       and there it is answered
+--     WaitsAt, reply_part, store_before       record k waits; the words of its reply; and the store on which it runs
+--     AnswersWaiting, VisitAnswersWaiting     an accepted visit answers all that wait, and no other
+--     place_at, RequestWaits                  a request that is told to wait is the record at its place
+--     moved_by, place_after, places_after     where a waiting record stands after a request at its desk, a call and calls
+--     PlaceItsOwn                             none is moved to the place of the request
+--     NoVisit, NoVisits, WaitingMoves         there it stands until its desk's next accepted visit
+--     PlacesKeepOrder                         none overtakes another, and two stay two
+--     AnsweredAtNextVisit                     and there it is answered
 use Rattle.std.specs.Prelude.{ℕ, suc, ◌*◌, ◌<◌, ◌≡◌, true, ◌&&◌, cond, List, [], ◌∷◌, leb, eqb, get_or, take, drop}
 use Rattle.plan.specs.Decode.{plan_of}
 use Rattle.operation.specs.Store.{Store}

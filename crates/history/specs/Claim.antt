@@ -48,7 +48,7 @@ EachGives replies i (c ∷ cs) (o ∷ os) = Gives c o (replies i) × EachGives r
 
 -- b the starting cells, os the outcomes of the calls cs, w the holdings at the end, s the serial run at the end
 pub record Serializable (p : Plan) (b : Store) (cs : List Call) (os : List Outcome) (w : ℕ → Kept) (s : Serial) : Type 0 where
-  pub all_replies_lem : EachGives (λ i. due p i (order s) b) 0 cs os
+  pub all_replies : EachGives (λ i. due p i (order s) b) 0 cs os
   -- "A request finished at once is answered with its reply. A visit puts out the replies of what it finished": the calls give all
   -- that is due, and past the last of them nothing is
   pub none_further : (i : ℕ) → length cs ≤ i → due p i (order s) b ≡ []

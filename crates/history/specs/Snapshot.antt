@@ -1,13 +1,13 @@
 -- 02, A.4: "Prove, for histories like the one in the third demand, that each such cell shows no global at all, or the globals up to a visit
 -- whose globals every desk has already applied or run." The cells are those that two or more desks may touch. Bulletin: here snapshot.
---     through_global, store_through                   the serial order cut behind a global, and the store that it leaves
+--     through_global, store_through                    the serial order cut behind a global, and the store that it leaves
 --     behind_call, globals_behind, globals_of          how many globals the first accepted visits finished
---     visits_shown                                   how many accepted visits a desk's snapshot shows
---     Shows                                         that it shows them, and that every desk has applied or run their globals
+--     visits_shown                                     how many accepted visits a desk's snapshot shows
+--     Shows                                            that it shows them, and that every desk has applied or run their globals
 --     refusals_in, serial_in, ShowsIn, opened_with     the same of a history at its end, and how it begins
---     SnapshotShows, SnapshotShowsLatest            the theorem, and its sharp form, which names the visits
---     StoreThroughHeard                             each desk's own store shows just the globals that it has heard
---     VisitsCounted                                 the two lists of accepted visits have one length
+--     SnapshotShows, SnapshotShowsLatest               the theorem, and its sharp form, which names the visits
+--     StoreThroughHeard                                each desk's own store shows just the globals that it has heard
+--     VisitsCounted                                    the two lists of accepted visits have one length
 -- What one visit does to a snapshot is beside it, in SnapshotTaking.
 use Rattle.std.specs.Prelude.{ℕ, suc, ◌-◌, ◌≤◌, ◌<◌, ◌≡◌, Bool, true, false, cond, List, [], ◌∷◌, ◌++◌, map, eqb, length, get_or}
 use Rattle.verdict.specs.Verdict.{accepted}

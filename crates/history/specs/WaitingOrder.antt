@@ -1,6 +1,6 @@
 -- 02, A.6: "The waiting row holds urgent requests before the others, each sort by arrival".
---     joins_at, arrived_by, arrivals      the requests that arrived at a desk to wait and are not answered yet, in order of arrival
---     WaitingInOrder                    those that wait at a desk are these, the urgent ones first
+--     joins_at, arrived_by, arrivals     the requests that arrived at a desk to wait and are not answered yet, in order of arrival
+--     WaitingInOrder                     those that wait at a desk are these, the urgent ones first
 -- The arrivals are reckoned as the serial run is: from the plan, the list and, of the answers, only from whether each was a refusal.
 use Rattle.std.specs.Prelude.{ℕ, ◌≡◌, Bool, true, false, ◌&&◌, cond, List, [], ◌∷◌, ◌++◌, map, eqb}
 use Rattle.verdict.specs.Verdict.{accepted}

@@ -1,8 +1,8 @@
 -- "The cost is the sum of weights of transactions that have some global operation."
---     HasGlobal    over all operations
---     Costs        the cost by it
---     cost_of       the cost, computed by the masks
---     HasGlobalMeans, CostMeans    that the computed test and cost are those over all operations
+--     HasGlobal                     over all operations
+--     Costs                         the cost by it
+--     cost_of                       the cost, computed by the masks
+--     HasGlobalMeans, CostMeans     that the computed test and cost are those over all operations
 use Rattle.std.specs.Prelude.{ℕ, suc, ◌+◌, ◌<◌, ◌≡◌, Bool, true, ◌&&◌, cond, List, [], ◌∷◌, ◌↔◌, length}
 use Rattle.verdict.specs.Verdict.{accepted}
 use Rattle.lists.specs.Lists.{some, some_below}

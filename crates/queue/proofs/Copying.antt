@@ -1,9 +1,9 @@
 -- The first records of a queue, stored one by one among words that are zero.
---     stored_first_length       there are 192 words
---     stored_first_start, stored_first_next      no record, and one record more
---     stored_first_bounded      no record past the 32nd is stored
---     records_in_stored_in       a record that is stored among the words of a queue is stored among its records
---     waiting_records          the records that wait in a queue of 32 are read from its words as from the queue
+--     stored_first_length                       there are 192 words
+--     stored_first_start, stored_first_next     no record, and one record more
+--     stored_first_bounded                      no record past the 32nd is stored
+--     records_in_stored_in                      a record that is stored among the words of a queue is stored among its records
+--     waiting_records                           the records that wait in a queue of 32 are read from its words as from the queue
 -- Assumes nothing.
 use mathlib.Core.Path.{◌≡◌, refl, sym, ◌∙◌, ap}
 use Prim.Native.Nat.{ℕ, zero, suc, ◌+◌, ◌-◌, ◌<◌, ◌≤◌, min}

@@ -1,7 +1,7 @@
 -- A record put in before others of a row, which move up one by one, the last first.
---     Moving                   the records from a place on have moved up, up to place w, and the one at that place stands there still
+--     Moving                       the records from a place on have moved up, up to place w, and the one at that place stands there still
 --     moving_none, moving_more     none has, and one more has
---     moving_done              the new record is stored at the place that is free
+--     moving_done                  the new record is stored at the place that is free
 -- Assumes nothing.
 use mathlib.Core.Path.{◌≡◌, sym, ◌∙◌, ap, ap₂, subst}
 use Prim.Native.Nat.{ℕ, suc, ◌-◌, ◌<◌, ◌≤◌}

@@ -1,10 +1,10 @@
 -- Laws of a queue as plain words.
---     queue_in_row, queue_in_none            192 words are a row of 32 records; others are none
---     length_queue_in, queue_in_short        so a row has 32 records, and no words have more
---     queue_of_row, queue_of_blank, length_queue_of    the queue of words handed over with its length, which is its length
---     words_of_short, lent_row, lent_none   at most 192 of the words are its own; these stand for the same queue, or for none
---     queue_in_stored_in                     a record stored among the words is stored in the queue
---     stored_in_length                      no word is added or lost
+--     queue_in_row, queue_in_none                       192 words are a row of 32 records; others are none
+--     length_queue_in, queue_in_short                   so a row has 32 records, and no words have more
+--     queue_of_row, queue_of_blank, length_queue_of     the queue of words handed over with its length, which is its length
+--     words_of_short, lent_row, lent_none               at most 192 of the words are its own; these stand for the same queue, or for none
+--     queue_in_stored_in                                a record stored among the words is stored in the queue
+--     stored_in_length                                  no word is added or lost
 -- Assumes nothing.
 use mathlib.Core.Path.{◌≡◌, refl, sym, ◌∙◌, ap}
 use mathlib.Core.Logic.{◌≢◌, ◌⊎◌, inl, inr}

@@ -1,9 +1,9 @@
 -- The words of a row are those of its records, so a row can be told by the queue that it is left as.
 --     records_in_injective      two rows with the same records are the same
---     records_in_stored_all      the words of 32 records have these records
+--     records_in_stored_all     the words of 32 records have these records
 --     row_left_none             words that are no row stay as they are
---     row_left_queue_in          so words that are left as the queue which they stand for stay as they are
---     row_left_of_lem               words that are changed only where they are a row are left as the queue that they then stand for
+--     row_left_queue_in         so words that are left as the queue which they stand for stay as they are
+--     row_left_of_lem           words that are changed only where they are a row are left as the queue that they then stand for
 -- Assumes nothing.
 use mathlib.Core.Path.{◌≡◌, refl, sym, ◌∙◌, ap}
 use Prim.Native.Nat.{ℕ, ◌+◌, ◌*◌, ◌/◌, ◌%◌, ◌<◌, zero, suc}

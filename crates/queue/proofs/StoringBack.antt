@@ -1,10 +1,10 @@
 -- Records of words stored back at some places of a queue, one by one.
---     length_stored_back        no record is added or lost
---     get_or_stored_back          the record at a place
---     get_or_stored_back_within, get_or_stored_back_outside      the same, where the place is one of those, and where it is not
---     stored_back_empty         of no places
---     stored_back_next          of one place more
---     stored_back_bounded       no record past the 32nd is stored
+--     length_stored_back                                        no record is added or lost
+--     get_or_stored_back                                        the record at a place
+--     get_or_stored_back_within, get_or_stored_back_outside     the same, where the place is one of those, and where it is not
+--     stored_back_empty                                         of no places
+--     stored_back_next                                          of one place more
+--     stored_back_bounded                                       no record past the 32nd is stored
 -- Assumes nothing.
 use mathlib.Core.Path.{◌≡◌, sym, ◌∙◌, ap}
 use mathlib.Core.Logic.{◌≢◌, ◌⊎◌, inl, inr, ⊎_elim}

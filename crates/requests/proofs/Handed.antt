@@ -1,7 +1,7 @@
 -- Questions 1 to 8 of a queue of words, as the core of a request puts them.
---     plan_refused, store_unfit, queue_unfit, buffers_fit_lem      the answers to questions 1 to 4, 17 and 5
---     plan_passes, row_long        what they show where all are yes
---     opening_refused_lem, desk_unfit, by_operation        the verdict of all, by the first question whose answer is no
+--     plan_refused, store_unfit, queue_unfit, buffers_fit_lem     the answers to questions 1 to 4, 17 and 5
+--     plan_passes, row_long                                       what they show where all are yes
+--     opening_refused_lem, desk_unfit, by_operation               the verdict of all, by the first question whose answer is no
 -- Assumes nothing.
 use mathlib.Core.Path.{◌≡◌, ◌∙◌, sym, ap}
 use mathlib.Core.Bool.{true, false, false≢true}

@@ -57,4 +57,4 @@ pub serializable : (S : System) → Laws S → Claim S
 unfolding Claim
 serializable S L b cs pr =
     let r = history_good S L b cs pr in
-    record { all_replies_lem = r.inv.giving; one_desk = one_cell S L r; any_other = other_cell S L r }
+    record { all_replies = r.inv.giving; one_desk = one_cell S L r; any_other = other_cell S L r }

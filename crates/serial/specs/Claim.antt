@@ -17,7 +17,7 @@ module _ (S : System) where
   pub record Serializable (b : Store) (ans : List (Answer Reply)) (w : ℕ → Desk Op) (s : Serial Op) : Type 0 where
     -- "A request finished at once is answered with its reply. A visit puts out the replies of what it finished, in that order and
     -- with their clients' words": call i gives the replies due to it, and where none is due it gives none
-    pub all_replies_lem : (i : ℕ) → get_or (map given ans) i [] ≡ due S i (order S s) b
+    pub all_replies : (i : ℕ) → get_or (map given ans) i [] ≡ due S i (order S s) b
     -- "A cell that just one desk may touch has its serial value in that desk's book"
     pub one_desk : (p c : ℕ) → p < n → JustOne p c → get_or (w p).store c 0 ≡ get_or (store_after S (order S s) b) c 0
     -- "any other, at the desk of the latest accepted visit (desk 0 before any)"

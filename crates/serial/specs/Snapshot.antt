@@ -1,7 +1,7 @@
 -- What 02, A.4 asks of a history: of each desk its store before its latest accepted visit (02: bulletin), and the globals that it shows.
---     Snapshots, new_snapshots, globals_of            what is noted beside the serial run
---     note_taken, snapshots_at, snapshots_after        by one accepted call, by one call, by all
---     snapshots_of                                   from the start
+--     Snapshots, new_snapshots, globals_of          what is noted beside the serial run
+--     note_taken, snapshots_at, snapshots_after     by one accepted call, by one call, by all
+--     snapshots_of                                  from the start
 --     Unowned, through                              the cells of which it is claimed; the serial order cut behind a global
 --     Shows, SnapshotsShow, StoreThrough            what is claimed of a snapshot, and of a desk's own store
 use Rattle.std.specs.Prelude.{ℕ, suc, ◌-◌, ◌≤◌, ◌<◌, cond, List, [], ◌∷◌, ◌++◌, length, get_or}

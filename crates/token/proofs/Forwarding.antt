@@ -1,10 +1,10 @@
 -- The others' updates in a body of words, applied and copied word by word: what is done so far joined with what is still to come.
---     Forwarded        the store and the outgoing words at a word of the body
---     forward_start, forward_end       at the first word, behind the last
---     forward_head, forward_cell       past the word of another desk's update, past a cell of it and its value
---     forward_own, forward_past        the same of an update of the desk's own
---     forward_more     a cell's value stands behind its word
---     head_room, cell_room             there is room for the word of another desk's update, and for a cell of it and its value
+--     Forwarded                      the store and the outgoing words at a word of the body
+--     forward_start, forward_end     at the first word, behind the last
+--     forward_head, forward_cell     past the word of another desk's update, past a cell of it and its value
+--     forward_own, forward_past      the same of an update of the desk's own
+--     forward_more                   a cell's value stands behind its word
+--     head_room, cell_room           there is room for the word of another desk's update, and for a cell of it and its value
 -- Assumes nothing.
 use mathlib.Core.Path.{◌≡◌, refl, ◌∙◌, sym, ap, subst}
 use mathlib.Core.Bool.{Bool, true, false, not, cond}

@@ -1,8 +1,8 @@
 -- The verdict of the questions at the door: 'A "no" gives its number'.
---     verdict_of     what each case of the code's verdict says in the paper's numbers
---     ask           one question, by its number and its answer
---     ◌then◌        "All of one question is put before the next": the next is put only behind a yes
---     if_accepted    by cases: a value where accepted, and what a refusal's number gives
+--     verdict_of      what each case of the code's verdict says in the paper's numbers
+--     ask             one question, by its number and its answer
+--     ◌then◌          "All of one question is put before the next": the next is put only behind a yes
+--     if_accepted     by cases: a value where accepted, and what a refusal's number gives
 use Rattle.std.specs.Prelude.{ℕ, Bool, true, false, cond}
 use Rattle.verdict.specs.declared.Verdict as code
 use Rattle.verdict.specs.declared.Verdict.TheVariants.{Accepted, Refused}

@@ -1,7 +1,7 @@
 -- The questions of a visit as the code puts them, to a queue on plain words: they are the visit's questions, and decide what it leaves.
---     plan_refused, by_buffers, plan_passes, row_whole     questions 1 to 4, 17 and 5, and what they show
---     desk_unfit, frame_refused, by_turn                   questions 6 and 10 to 15
---     opening_refused_lem, token_refused, all_pass, accepted_leaves    all of them, and the visit
+--     plan_refused, by_buffers, plan_passes, row_whole                  questions 1 to 4, 17 and 5, and what they show
+--     desk_unfit, frame_refused, by_turn                                questions 6 and 10 to 15
+--     opening_refused_lem, token_refused, all_pass, accepted_leaves     all of them, and the visit
 -- Assumes nothing.
 use mathlib.Core.Path.{◌≡◌, ◌∙◌, sym, ap}
 use mathlib.Core.Bool.{Bool, true, false, ◌&&◌}

@@ -1,6 +1,6 @@
 -- The questions of a visit as the code puts them, to a queue that is lent as plain words.
 --     opening_verdict, token_verdict     questions 1 to 4, 17 and 5; questions 6 and 10 to 15
---     Passable                         what they give once all are answered with yes, but for the snapshot
+--     Passable                           what they give once all are answered with yes, but for the snapshot
 use Rattle.std.specs.Prelude.{ℕ, ◌≤◌, ◌<◌, ◌≡◌, true, ◌&&◌, List, length}
 use Rattle.verdict.specs.Verdict.{Verdict, accepted, ask, ◌then◌}
 use Rattle.lists.specs.Lists.{every}
