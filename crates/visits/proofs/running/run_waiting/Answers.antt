@@ -1,13 +1,19 @@
 -- The waiting requests one after another, each read from the row: what has run joined with what is still to run.
 -- Assumes nothing.
 use mathlib.Core.Path.{◌≡◌, refl, ◌∙◌, sym, ap}
-use Prim.Native.Nat.{◌+◌, ◌*◌, ◌≤◌, ◌<◌}
+use mathlib.Core.Bool.{true}
+use mathlib.Core.List.{List}
+use Prim.Native.Nat.{ℕ, ◌+◌, ◌*◌, ◌≤◌, ◌<◌}
 use native.Mathlib.Omega.{arith}
 use lib.ListN.{length, take, length-drop, get_or}
 use lib.Seq.{length-take-le, get_or-take}
 use Rattle.lists.proofs.Laws.{every_index, fill_length, length_tabulate, get_or_tabulate, take_remainder}
+use Rattle.verdict.specs.Verdict.{accepted}
+use Rattle.lists.specs.Lists.{every}
 use Rattle.plan.specs.Decode.{plan_of}
+use Rattle.plan.specs.Admission.{plan_verdict}
 use Rattle.plan.proofs.Placing.{places_long}
+use Rattle.queue.specs.declared.record.Request.{Request}
 use Rattle.queue.specs.Queue.{no_request}
 use Rattle.queue.specs.Words.{record_in, records_in}
 use Rattle.desk.specs.Admission.{Admitted}
@@ -17,6 +23,21 @@ use Rattle.visits.proofs.WaitingRuns.{running_start, running_next, running_done,
 use Rattle.visits.proofs.WaitingRuns.{replies_length}
 use Rattle.visits.specs.Waiting.{reply_size}
 use Rattle.visits.proofs.running.run_waiting.Goals as goal
+
+-- the record that is read is the next of those that wait
+next : (row : List ℕ) (waiting at : ℕ) (r : Request) → waiting ≤ 32 → at < waiting → r ≡ record_in row at
+    → get_or (take waiting (records_in row)) at no_request ≡ r
+next row waiting at r few here read =
+    get_or-take _ _ _ _ here ∙ get_or_tabulate 32 (record_in row) _ no_request (omega arith) ∙ sym read
+
+-- and an operation, whose transaction has its place in the table
+admitted : (ws : List ℕ) (rs : List Request) (at : ℕ) (r : Request) → plan_verdict ws ≡ accepted
+    → every (is_operation (plan_of ws)) rs ≡ true → at < length rs → get_or rs at no_request ≡ r → Admitted ws r
+admitted ws rs at r plan operations here e =
+    operation_admitted ws _ plan (ap (is_operation (plan_of ws)) (sym e) ∙ every_index _ _ _ no_request operations here)
+
+low : (ws : List ℕ) (r : Request) → Admitted ws r → r.transaction < 32
+low ws r a = below_32 ws r a.planned (admitted_exists ws r a)
 
 pub loop-at-init : goal.loop-at-init
 loop-at-init c = (
@@ -32,167 +53,101 @@ record_in-request-requires c = omega (arith, c.requires.0)
 
 pub overflow_cast-place : goal.overflow_cast-place
 overflow_cast-place c =
-    let next : let a = c.args in
-    get_or (take a.waiting (records_in a.row.now)) c.loop-at.at no_request ≡ c.record_in-request.result =
-    get_or-take _ _ _ _ c.loop-at-test.true
-    ∙ get_or_tabulate 32 (record_in c.args.row.now) _ no_request (omega (arith, c.requires.0)) ∙ sym c.record_in-request.ensures in
-    let admitted : Admitted c.args.plan.now c.record_in-request.result = let v = c.loop-at.invariant in
-    let plan = c.args.plan.now in
-    operation_admitted plan _ v.3.plan
-    (ap (is_operation (plan_of plan)) (sym next) ∙ every_index _ _ _ no_request v.3.operations (omega arith)) in
-    let low : c.record_in-request.result.transaction < 32 = let plan = c.args.plan.now in
-    below_32 plan c.record_in-request.result admitted.planned (admitted_exists plan c.record_in-request.result admitted) in
-    omega (arith, low)
+    let v = c.loop-at.invariant in
+    let e = next c.args.row.now c.args.waiting c.loop-at.at _ c.requires.0 c.loop-at-test.true c.record_in-request.ensures in
+    let a = admitted c.args.plan.now _ c.loop-at.at _ v.3.plan v.3.operations (omega arith) e in
+    omega (arith, low _ _ a)
 
 pub offset_bounds-places-request : goal.offset_bounds-places-request
 offset_bounds-places-request c =
-    let next : let a = c.args in
-    get_or (take a.waiting (records_in a.row.now)) c.loop-at.at no_request ≡ c.record_in-request.result =
-    get_or-take _ _ _ _ c.loop-at-test.true
-    ∙ get_or_tabulate 32 (record_in c.args.row.now) _ no_request (omega (arith, c.requires.0)) ∙ sym c.record_in-request.ensures in
-    let admitted : Admitted c.args.plan.now c.record_in-request.result = let v = c.loop-at.invariant in
-    let plan = c.args.plan.now in
-    operation_admitted plan _ v.3.plan
-    (ap (is_operation (plan_of plan)) (sym next) ∙ every_index _ _ _ no_request v.3.operations (omega arith)) in
-    let low : c.record_in-request.result.transaction < 32 = let plan = c.args.plan.now in
-    below_32 plan c.record_in-request.result admitted.planned (admitted_exists plan c.record_in-request.result admitted) in
-    omega (arith, low)
+    let v = c.loop-at.invariant in
+    let e = next c.args.row.now c.args.waiting c.loop-at.at _ c.requires.0 c.loop-at-test.true c.record_in-request.ensures in
+    let a = admitted c.args.plan.now _ c.loop-at.at _ v.3.plan v.3.operations (omega arith) e in
+    omega (arith, low _ _ a)
 
 pub bounds-places-request : goal.bounds-places-request
 bounds-places-request c =
-    let next : let a = c.args in
-    get_or (take a.waiting (records_in a.row.now)) c.loop-at.at no_request ≡ c.record_in-request.result =
-    get_or-take _ _ _ _ c.loop-at-test.true
-    ∙ get_or_tabulate 32 (record_in c.args.row.now) _ no_request (omega (arith, c.requires.0)) ∙ sym c.record_in-request.ensures in
-    let admitted : Admitted c.args.plan.now c.record_in-request.result = let v = c.loop-at.invariant in
-    let plan = c.args.plan.now in
-    operation_admitted plan _ v.3.plan
-    (ap (is_operation (plan_of plan)) (sym next) ∙ every_index _ _ _ no_request v.3.operations (omega arith)) in
-    let low : c.record_in-request.result.transaction < 32 = let plan = c.args.plan.now in
-    below_32 plan c.record_in-request.result admitted.planned (admitted_exists plan c.record_in-request.result admitted) in
-    omega (arith, low, places_long c.args.plan.now c.args.places.now c.requires.1)
+    let v = c.loop-at.invariant in
+    let e = next c.args.row.now c.args.waiting c.loop-at.at _ c.requires.0 c.loop-at-test.true c.record_in-request.ensures in
+    let a = admitted c.args.plan.now _ c.loop-at.at _ v.3.plan v.3.operations (omega arith) e in
+    omega (arith, low _ _ a, places_long c.args.plan.now c.args.places.now c.requires.1)
 
 pub overflow_mul-answered : goal.overflow_mul-answered
 overflow_mul-answered c = omega (arith, c.requires.0)
 
 pub offset_bounds-out-end : goal.offset_bounds-out-end
 offset_bounds-out-end c =
-    let next : let a = c.args in
-    get_or (take a.waiting (records_in a.row.now)) c.loop-at.at no_request ≡ c.record_in-request.result =
-    get_or-take _ _ _ _ c.loop-at-test.true
-    ∙ get_or_tabulate 32 (record_in c.args.row.now) _ no_request (omega (arith, c.requires.0)) ∙ sym c.record_in-request.ensures in
-    let room : let l = c.loop-at in
-    l.end + length (made_words (plan_of c.args.plan.now) c.args.desk c.record_in-request.result l.cells)
-    ≤ length l.out = let v = c.loop-at.invariant in room_here _ _ _ _ _ _ _ _ _ _ _ v.4 (omega arith) _ next v.3.room in
     let v = c.loop-at.invariant in
+    let e = next c.args.row.now c.args.waiting c.loop-at.at _ c.requires.0 c.loop-at-test.true c.record_in-request.ensures in
+    let room = room_here _ _ _ _ _ _ _ _ _ _ _ v.4 (omega arith) _ e v.3.room in
     omega (arith, room, fill_length v.4.words v.3.room)
 
 pub slice_bounds-run_one-count : goal.slice_bounds-run_one-count
 slice_bounds-run_one-count c =
-    let next : let a = c.args in
-    get_or (take a.waiting (records_in a.row.now)) c.loop-at.at no_request ≡ c.record_in-request.result =
-    get_or-take _ _ _ _ c.loop-at-test.true
-    ∙ get_or_tabulate 32 (record_in c.args.row.now) _ no_request (omega (arith, c.requires.0)) ∙ sym c.record_in-request.ensures in
-    let room : let l = c.loop-at in
-    l.end + length (made_words (plan_of c.args.plan.now) c.args.desk c.record_in-request.result l.cells)
-    ≤ length l.out = let v = c.loop-at.invariant in room_here _ _ _ _ _ _ _ _ _ _ _ v.4 (omega arith) _ next v.3.room in
-    let h = room in omega arith
+    let v = c.loop-at.invariant in
+    let e = next c.args.row.now c.args.waiting c.loop-at.at _ c.requires.0 c.loop-at-test.true c.record_in-request.ensures in
+    omega (arith, room_here _ _ _ _ _ _ _ _ _ _ _ v.4 (omega arith) _ e v.3.room)
 
 pub slice_bounds-run_one-start : goal.slice_bounds-run_one-start
 slice_bounds-run_one-start c =
-    let next : let a = c.args in
-    get_or (take a.waiting (records_in a.row.now)) c.loop-at.at no_request ≡ c.record_in-request.result =
-    get_or-take _ _ _ _ c.loop-at-test.true
-    ∙ get_or_tabulate 32 (record_in c.args.row.now) _ no_request (omega (arith, c.requires.0)) ∙ sym c.record_in-request.ensures in
-    let room : let l = c.loop-at in
-    l.end + length (made_words (plan_of c.args.plan.now) c.args.desk c.record_in-request.result l.cells)
-    ≤ length l.out = let v = c.loop-at.invariant in room_here _ _ _ _ _ _ _ _ _ _ _ v.4 (omega arith) _ next v.3.room in
-    let h = room in omega arith
+    let v = c.loop-at.invariant in
+    let e = next c.args.row.now c.args.waiting c.loop-at.at _ c.requires.0 c.loop-at-test.true c.record_in-request.ensures in
+    omega (arith, room_here _ _ _ _ _ _ _ _ _ _ _ v.4 (omega arith) _ e v.3.room)
 
 pub offset_bounds-replies-answered : goal.offset_bounds-replies-answered
 offset_bounds-replies-answered c =
-    let next : let a = c.args in
-    get_or (take a.waiting (records_in a.row.now)) c.loop-at.at no_request ≡ c.record_in-request.result =
-    get_or-take _ _ _ _ c.loop-at-test.true
-    ∙ get_or_tabulate 32 (record_in c.args.row.now) _ no_request (omega (arith, c.requires.0)) ∙ sym c.record_in-request.ensures in
-    let reply_room_lem : let l = c.loop-at in l.at * reply_size + reply_size ≤ length l.replies = let v = c.loop-at.invariant in
-    reply_room_here _ _ _ _ _ _ _ _ _ _ _ v.4 (omega arith) _ next v.3.reply_room in
-    omega (arith, reply_room_lem, c.requires.0)
+    let v = c.loop-at.invariant in
+    let e = next c.args.row.now c.args.waiting c.loop-at.at _ c.requires.0 c.loop-at-test.true c.record_in-request.ensures in
+    omega (arith, reply_room_here _ _ _ _ _ _ _ _ _ _ _ v.4 (omega arith) _ e v.3.reply_room, c.requires.0)
 
 pub slice_bounds-run_one-count-in-loop-at : goal.slice_bounds-run_one-count-in-loop-at
 slice_bounds-run_one-count-in-loop-at c =
-    let next : let a = c.args in
-    get_or (take a.waiting (records_in a.row.now)) c.loop-at.at no_request ≡ c.record_in-request.result =
-    get_or-take _ _ _ _ c.loop-at-test.true
-    ∙ get_or_tabulate 32 (record_in c.args.row.now) _ no_request (omega (arith, c.requires.0)) ∙ sym c.record_in-request.ensures in
-    let reply_room_lem : let l = c.loop-at in l.at * reply_size + reply_size ≤ length l.replies = let v = c.loop-at.invariant in
-    reply_room_here _ _ _ _ _ _ _ _ _ _ _ v.4 (omega arith) _ next v.3.reply_room in
-    let h = reply_room_lem in omega arith
+    let v = c.loop-at.invariant in
+    let e = next c.args.row.now c.args.waiting c.loop-at.at _ c.requires.0 c.loop-at-test.true c.record_in-request.ensures in
+    omega (arith, reply_room_here _ _ _ _ _ _ _ _ _ _ _ v.4 (omega arith) _ e v.3.reply_room)
 
 pub slice_bounds-run_one-start-in-loop-at : goal.slice_bounds-run_one-start-in-loop-at
 slice_bounds-run_one-start-in-loop-at c =
-    let next : let a = c.args in
-    get_or (take a.waiting (records_in a.row.now)) c.loop-at.at no_request ≡ c.record_in-request.result =
-    get_or-take _ _ _ _ c.loop-at-test.true
-    ∙ get_or_tabulate 32 (record_in c.args.row.now) _ no_request (omega (arith, c.requires.0)) ∙ sym c.record_in-request.ensures in
-    let reply_room_lem : let l = c.loop-at in l.at * reply_size + reply_size ≤ length l.replies = let v = c.loop-at.invariant in
-    reply_room_here _ _ _ _ _ _ _ _ _ _ _ v.4 (omega arith) _ next v.3.reply_room in
-    let h = reply_room_lem in omega arith
+    let v = c.loop-at.invariant in
+    let e = next c.args.row.now c.args.waiting c.loop-at.at _ c.requires.0 c.loop-at-test.true c.record_in-request.ensures in
+    omega (arith, reply_room_here _ _ _ _ _ _ _ _ _ _ _ v.4 (omega arith) _ e v.3.reply_room)
 
 pub run_one-end-requires : goal.run_one-end-requires
 run_one-end-requires c =
-    let next : let a = c.args in
-    get_or (take a.waiting (records_in a.row.now)) c.loop-at.at no_request ≡ c.record_in-request.result =
-    get_or-take _ _ _ _ c.loop-at-test.true
-    ∙ get_or_tabulate 32 (record_in c.args.row.now) _ no_request (omega (arith, c.requires.0)) ∙ sym c.record_in-request.ensures in
-    let admitted : Admitted c.args.plan.now c.record_in-request.result = let v = c.loop-at.invariant in
-    let plan = c.args.plan.now in
-    operation_admitted plan _ v.3.plan
-    (ap (is_operation (plan_of plan)) (sym next) ∙ every_index _ _ _ no_request v.3.operations (omega arith)) in
-    let room : let l = c.loop-at in
-    l.end + length (made_words (plan_of c.args.plan.now) c.args.desk c.record_in-request.result l.cells)
-    ≤ length l.out = let v = c.loop-at.invariant in room_here _ _ _ _ _ _ _ _ _ _ _ v.4 (omega arith) _ next v.3.room in
-    let reply_room_lem : let l = c.loop-at in l.at * reply_size + reply_size ≤ length l.replies = let v = c.loop-at.invariant in
-    reply_room_here _ _ _ _ _ _ _ _ _ _ _ v.4 (omega arith) _ next v.3.reply_room in
-    let l = c.loop-at in
-    let a = c.args in
+    let v = c.loop-at.invariant in
+    let e = next c.args.row.now c.args.waiting c.loop-at.at _ c.requires.0 c.loop-at-test.true c.record_in-request.ensures in
+    let a = admitted c.args.plan.now _ c.loop-at.at _ v.3.plan v.3.operations (omega arith) e in
+    let p = c.args.plan.now in
     let r = c.record_in-request.result in
-    let e = admitted in
+    let l = c.loop-at in
+    let i = l.at * reply_size in
+    let room = room_here _ _ _ _ _ _ _ _ _ _ _ v.4 (omega arith) _ e v.3.room in
+    let reply_room = reply_room_here _ _ _ _ _ _ _ _ _ _ _ v.4 (omega arith) _ e v.3.reply_room in
     record {
       placed = record {
-        admitted = e;
-        place = place_looked_up a.plan.now r e.planned (admitted_exists a.plan.now r e) a.places.now c.requires.1;
+        admitted = a;
+        place = place_looked_up p r a.planned (admitted_exists p r a) c.args.places.now c.requires.1;
       };
       room = omega (arith, room, ap length (take_remainder l.out l.end), length-drop l.end l.out);
-      reply_room =
-          let i = l.at * reply_size in omega (arith, reply_room_lem, ap length (take_remainder l.replies i), length-drop i l.replies);
+      reply_room = omega (arith, reply_room, ap length (take_remainder l.replies i), length-drop i l.replies);
     }
 
 pub overflow_add-end : goal.overflow_add-end
 overflow_add-end c =
-    let next : let a = c.args in
-    get_or (take a.waiting (records_in a.row.now)) c.loop-at.at no_request ≡ c.record_in-request.result =
-    get_or-take _ _ _ _ c.loop-at-test.true
-    ∙ get_or_tabulate 32 (record_in c.args.row.now) _ no_request (omega (arith, c.requires.0)) ∙ sym c.record_in-request.ensures in
-    let room : let l = c.loop-at in
-    l.end + length (made_words (plan_of c.args.plan.now) c.args.desk c.record_in-request.result l.cells)
-    ≤ length l.out = let v = c.loop-at.invariant in room_here _ _ _ _ _ _ _ _ _ _ _ v.4 (omega arith) _ next v.3.room in
     let v = c.loop-at.invariant in
+    let e = next c.args.row.now c.args.waiting c.loop-at.at _ c.requires.0 c.loop-at-test.true c.record_in-request.ensures in
+    let room = room_here _ _ _ _ _ _ _ _ _ _ _ v.4 (omega arith) _ e v.3.room in
     omega (arith, room, c.run_one-end.ensures.count, fill_length v.4.words v.3.room)
 
 pub loop-at-preserved : goal.loop-at-preserved
 loop-at-preserved c =
-    let next : let a = c.args in
-    get_or (take a.waiting (records_in a.row.now)) c.loop-at.at no_request ≡ c.record_in-request.result =
-    get_or-take _ _ _ _ c.loop-at-test.true
-    ∙ get_or_tabulate 32 (record_in c.args.row.now) _ no_request (omega (arith, c.requires.0)) ∙ sym c.record_in-request.ensures in
     let v = c.loop-at.invariant in
-    let x = c.run_one-end in (
+    let e = next c.args.row.now c.args.waiting c.loop-at.at _ c.requires.0 c.loop-at-test.true c.record_in-request.ensures in (
       omega arith,
       v.1,
       omega arith,
       v.3,
-      running_next _ _ _ _ _ _ _ _ _ _ _ v.4 (omega arith) _ next _ _ _ _ x.ensures,
+      running_next _ _ _ _ _ _ _ _ _ _ _ v.4 (omega arith) _ e _ _ _ _ c.run_one-end.ensures,
     )
 
 pub shape_of-out : goal.shape_of-out
