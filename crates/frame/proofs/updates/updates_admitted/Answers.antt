@@ -1,11 +1,15 @@
 -- Question 12 over the words: at each place of the walk, what is still to come gives the whole answer.
 -- Assumes nothing.
-use Rattle.std.proofs.Common.{◌≡◌, ◌<◌, true, get_or, sym, ◌∙◌, arith, length-set, rules}
+use Rattle.std.proofs.Common.{◌≡◌, ℕ, ◌<◌, ◌≤◌, true, get_or, sym, ◌∙◌, arith, length-set, rules}
 use Rattle.word.specs.Field.{update_desk}
 use Rattle.frame.specs.Admission.{update_formed}
 use Rattle.frame.proofs.Walking.{formed_desk, at_update_fault, at_update_many, at_update, at_cell_fault}
 use Rattle.frame.proofs.Walking.{at_cell_last, at_cell, at_end, walk_start}
 use Rattle.frame.proofs.updates.updates_admitted.Goals as goal
+
+-- the desk of a well-formed update is one of at most 8
+desk_below : (desks w : ℕ) → desks ≤ 8 → update_formed desks w ≡ true → update_desk w < 8
+desk_below desks w few formed = omega (arith, formed_desk _ _ formed)
 
 pub loop-at-init : goal.loop-at-init
 loop-at-init c = (c.requires, search rules, search rules, walk_start _ _ c.requires)
@@ -18,29 +22,19 @@ returns-then-not-update_formed c =
 
 pub offset_bounds-sent-desk : goal.offset_bounds-sent-desk
 offset_bounds-sent-desk c =
-    let formed : update_formed c.args.desks
-    (get_or c.args.body.now
-    c.loop-at.at 0) ≡ true = sym c.update_formed.ensures ∙ c.if-not-update_formed.false in
-    let desk_below : update_desk
-    (get_or c.args.body.now
-    c.loop-at.at 0) < 8 = omega (arith, formed_desk _ _ formed, c.loop-at.invariant.0) in
-    let h = desk_below in search rules
+    let w = get_or c.args.body.now c.loop-at.at 0 in
+    let h = desk_below c.args.desks w c.loop-at.invariant.0 (sym c.update_formed.ensures ∙ c.if-not-update_formed.false) in
+    search rules
 
 pub bounds-sent-desk : goal.bounds-sent-desk
 bounds-sent-desk c =
-    let formed : update_formed c.args.desks
-    (get_or c.args.body.now
-    c.loop-at.at 0) ≡ true = sym c.update_formed.ensures ∙ c.if-not-update_formed.false in
-    let desk_below : update_desk
-    (get_or c.args.body.now
-    c.loop-at.at 0) < 8 = omega (arith, formed_desk _ _ formed, c.loop-at.invariant.0) in
-    let h = desk_below in search rules
+    let w = get_or c.args.body.now c.loop-at.at 0 in
+    let h = desk_below c.args.desks w c.loop-at.invariant.0 (sym c.update_formed.ensures ∙ c.if-not-update_formed.false) in
+    search rules
 
 pub returns-then-before-ge32 : goal.returns-then-before-ge32
 returns-then-before-ge32 c =
-    let formed : update_formed c.args.desks
-    (get_or c.args.body.now
-    c.loop-at.at 0) ≡ true = sym c.update_formed.ensures ∙ c.if-not-update_formed.false in
+    let formed = sym c.update_formed.ensures ∙ c.if-not-update_formed.false in
     sym (at_update_many _ _ _ _ _ c.loop-at-test.true c.if-left-eq0.true formed
     c.if-before-ge32.true) ∙ c.loop-at.invariant.3
 
@@ -49,29 +43,19 @@ overflow_add-sent c = omega arith
 
 pub offset_bounds-sent-desk-then-left-eq0 : goal.offset_bounds-sent-desk-then-left-eq0
 offset_bounds-sent-desk-then-left-eq0 c =
-    let formed : update_formed c.args.desks
-    (get_or c.args.body.now
-    c.loop-at.at 0) ≡ true = sym c.update_formed.ensures ∙ c.if-not-update_formed.false in
-    let desk_below : update_desk
-    (get_or c.args.body.now
-    c.loop-at.at 0) < 8 = omega (arith, formed_desk _ _ formed, c.loop-at.invariant.0) in
-    let h = desk_below in search rules
+    let w = get_or c.args.body.now c.loop-at.at 0 in
+    let h = desk_below c.args.desks w c.loop-at.invariant.0 (sym c.update_formed.ensures ∙ c.if-not-update_formed.false) in
+    search rules
 
 pub bounds-sent-desk-then-left-eq0 : goal.bounds-sent-desk-then-left-eq0
 bounds-sent-desk-then-left-eq0 c =
-    let formed : update_formed c.args.desks
-    (get_or c.args.body.now
-    c.loop-at.at 0) ≡ true = sym c.update_formed.ensures ∙ c.if-not-update_formed.false in
-    let desk_below : update_desk
-    (get_or c.args.body.now
-    c.loop-at.at 0) < 8 = omega (arith, formed_desk _ _ formed, c.loop-at.invariant.0) in
-    let h = desk_below in search rules
+    let w = get_or c.args.body.now c.loop-at.at 0 in
+    let h = desk_below c.args.desks w c.loop-at.invariant.0 (sym c.update_formed.ensures ∙ c.if-not-update_formed.false) in
+    search rules
 
 pub loop-at-preserved-then-left-eq0 : goal.loop-at-preserved-then-left-eq0
 loop-at-preserved-then-left-eq0 c =
-    let formed : update_formed c.args.desks
-    (get_or c.args.body.now
-    c.loop-at.at 0) ≡ true = sym c.update_formed.ensures ∙ c.if-not-update_formed.false in
+    let formed = sym c.update_formed.ensures ∙ c.if-not-update_formed.false in
     let v = c.loop-at.invariant in (
       v.0,
       simp length-set v.1,

@@ -1,9 +1,8 @@
 -- The store with the others' writes still to come, and the outgoing words with their words still to come, are what is to be left.
 -- Assumes nothing.
-use mathlib.Core.Path.{◌≡◌, refl, ◌∙◌, ap}
+use mathlib.Core.Path.{refl, ◌∙◌, ap}
 use mathlib.Core.Bool.{not}
 use borrow.Author.Tests.{eq-eqb, ne_eqb}
-use Prim.Native.Nat.{◌+◌, ◌<◌}
 use native.Mathlib.Omega.{arith}
 use lib.ListN.{length, length-set}
 use Rattle.token.proofs.Forwarding.{forward_start, forward_end, forward_own, forward_head, forward_more}
@@ -16,27 +15,19 @@ loop-at-init c = (omega arith, refl, forward_start _ _ _ _ c.requires.0)
 
 pub offset_bounds-out-end : goal.offset_bounds-out-end
 offset_bounds-out-end c =
-    let one_more : (c.loop-at.end < length c.loop-at.out) × (length c.loop-at.out ≡ length c.args.out.now) = let f =
-    c.loop-at.invariant.2 in
-    let p = c.requires.1 in
-    (head_room f c.loop-at-test.true p c.if-left-eq0.true (ap not (ne_eqb _ _ c.if-kept.true)), forward_length f p) in
-    let h = one_more in search rules
+    let f = c.loop-at.invariant.2 in
+    let room = head_room f c.loop-at-test.true c.requires.1 c.if-left-eq0.true (ap not (ne_eqb _ _ c.if-kept.true)) in
+    let same = forward_length f c.requires.1 in search rules
 
 pub bounds-out-end : goal.bounds-out-end
 bounds-out-end c =
-    let one_more : (c.loop-at.end < length c.loop-at.out) × (length c.loop-at.out ≡ length c.args.out.now) = let f =
-    c.loop-at.invariant.2 in
-    let p = c.requires.1 in
-    (head_room f c.loop-at-test.true p c.if-left-eq0.true (ap not (ne_eqb _ _ c.if-kept.true)), forward_length f p) in
-    one_more.0
+    let f = c.loop-at.invariant.2 in head_room f c.loop-at-test.true c.requires.1 c.if-left-eq0.true (ap not (ne_eqb _ _ c.if-kept.true))
 
 pub overflow_add-end : goal.overflow_add-end
 overflow_add-end c =
-    let one_more : (c.loop-at.end < length c.loop-at.out) × (length c.loop-at.out ≡ length c.args.out.now) = let f =
-    c.loop-at.invariant.2 in
-    let p = c.requires.1 in
-    (head_room f c.loop-at-test.true p c.if-left-eq0.true (ap not (ne_eqb _ _ c.if-kept.true)), forward_length f p) in
-    let h = one_more in search rules
+    let f = c.loop-at.invariant.2 in
+    let room = head_room f c.loop-at-test.true c.requires.1 c.if-left-eq0.true (ap not (ne_eqb _ _ c.if-kept.true)) in
+    let same = forward_length f c.requires.1 in search rules
 
 pub loop-at-preserved-then-kept : goal.loop-at-preserved-then-kept
 loop-at-preserved-then-kept c =
@@ -50,63 +41,48 @@ loop-at-preserved-else-kept c =
     (omega arith, v.1, forward_own v.2 c.loop-at-test.true c.if-left-eq0.true (ap not (eq-eqb _ _ c.if-kept.false)))
 
 pub bounds-body-at-else-left-eq0 : goal.bounds-body-at-else-left-eq0
-bounds-body-at-else-left-eq0 c =
-    let more : c.loop-at.at + 1 < length c.args.body.now = forward_more c.loop-at.invariant.2 c.loop-at-test.true c.if-left-eq0.false in
-    more
+bounds-body-at-else-left-eq0 c = forward_more c.loop-at.invariant.2 c.loop-at-test.true c.if-left-eq0.false
 
 pub offset_bounds-out-end-then-kept-2 : goal.offset_bounds-out-end-then-kept-2
 offset_bounds-out-end-then-kept-2 c =
-    let two_more : (c.loop-at.end + 1 < length c.loop-at.out) × (length c.loop-at.out ≡ length c.args.out.now) = let f =
-    c.loop-at.invariant.2 in
-    let p = c.requires.1 in
-    (cell_room f c.loop-at-test.true c.if-left-eq0.false p c.if-kept-2.true, forward_length f p) in
-    let h = two_more in search rules
+    let f = c.loop-at.invariant.2 in
+    let room = cell_room f c.loop-at-test.true c.if-left-eq0.false c.requires.1 c.if-kept-2.true in
+    let same = forward_length f c.requires.1 in search rules
 
 pub bounds-out-end-then-kept-2 : goal.bounds-out-end-then-kept-2
 bounds-out-end-then-kept-2 c =
-    let two_more : (c.loop-at.end + 1 < length c.loop-at.out) × (length c.loop-at.out ≡ length c.args.out.now) = let f =
-    c.loop-at.invariant.2 in
-    let p = c.requires.1 in
-    (cell_room f c.loop-at-test.true c.if-left-eq0.false p c.if-kept-2.true, forward_length f p) in
-    let h = two_more in search rules
+    let f = c.loop-at.invariant.2 in
+    let room = cell_room f c.loop-at-test.true c.if-left-eq0.false c.requires.1 c.if-kept-2.true in
+    let same = forward_length f c.requires.1 in search rules
 
 pub overflow_add-out : goal.overflow_add-out
 overflow_add-out c =
-    let two_more : (c.loop-at.end + 1 < length c.loop-at.out) × (length c.loop-at.out ≡ length c.args.out.now) = let f =
-    c.loop-at.invariant.2 in
-    let p = c.requires.1 in
-    (cell_room f c.loop-at-test.true c.if-left-eq0.false p c.if-kept-2.true, forward_length f p) in
-    let h = two_more in search rules
+    let f = c.loop-at.invariant.2 in
+    let room = cell_room f c.loop-at-test.true c.if-left-eq0.false c.requires.1 c.if-kept-2.true in
+    let same = forward_length f c.requires.1 in search rules
 
 pub offset_bounds-out-end-then-kept-2-2 : goal.offset_bounds-out-end-then-kept-2-2
 offset_bounds-out-end-then-kept-2-2 c =
-    let two_more : (c.loop-at.end + 1 < length c.loop-at.out) × (length c.loop-at.out ≡ length c.args.out.now) = let f =
-    c.loop-at.invariant.2 in
-    let p = c.requires.1 in
-    (cell_room f c.loop-at-test.true c.if-left-eq0.false p c.if-kept-2.true, forward_length f p) in
-    let h = two_more in search rules
+    let f = c.loop-at.invariant.2 in
+    let room = cell_room f c.loop-at-test.true c.if-left-eq0.false c.requires.1 c.if-kept-2.true in
+    let same = forward_length f c.requires.1 in search rules
 
 pub bounds-out-end-then-kept-2-2 : goal.bounds-out-end-then-kept-2-2
 bounds-out-end-then-kept-2-2 c =
-    let two_more : (c.loop-at.end + 1 < length c.loop-at.out) × (length c.loop-at.out ≡ length c.args.out.now) = let f =
-    c.loop-at.invariant.2 in
-    let p = c.requires.1 in
-    (cell_room f c.loop-at-test.true c.if-left-eq0.false p c.if-kept-2.true, forward_length f p) in
-    let h = two_more in simp length-set (omega arith)
+    let f = c.loop-at.invariant.2 in
+    let room = cell_room f c.loop-at-test.true c.if-left-eq0.false c.requires.1 c.if-kept-2.true in
+    let same = forward_length f c.requires.1 in simp length-set (omega arith)
 
 pub overflow_add-end-then-kept-2 : goal.overflow_add-end-then-kept-2
 overflow_add-end-then-kept-2 c =
-    let two_more : (c.loop-at.end + 1 < length c.loop-at.out) × (length c.loop-at.out ≡ length c.args.out.now) = let f =
-    c.loop-at.invariant.2 in
-    let p = c.requires.1 in
-    (cell_room f c.loop-at-test.true c.if-left-eq0.false p c.if-kept-2.true, forward_length f p) in
-    let h = two_more in search rules
+    let f = c.loop-at.invariant.2 in
+    let room = cell_room f c.loop-at-test.true c.if-left-eq0.false c.requires.1 c.if-kept-2.true in
+    let same = forward_length f c.requires.1 in search rules
 
 pub loop-at-preserved-then-kept-2 : goal.loop-at-preserved-then-kept-2
 loop-at-preserved-then-kept-2 c =
-    let more : c.loop-at.at + 1 < length c.args.body.now = forward_more c.loop-at.invariant.2 c.loop-at-test.true c.if-left-eq0.false in
     let v = c.loop-at.invariant in (
-      omega (arith, more),
+      omega (arith, forward_more v.2 c.loop-at-test.true c.if-left-eq0.false),
       ap length c.put_value.ensures ∙ length-set c.loop-at.cells _ _ ∙ v.1,
       rw c.put_value.ensures
           (forward_cell v.2 c.loop-at-test.true c.if-left-eq0.false c.requires.1 c.if-kept-2.true),
@@ -114,9 +90,8 @@ loop-at-preserved-then-kept-2 c =
 
 pub loop-at-preserved : goal.loop-at-preserved
 loop-at-preserved c =
-    let more : c.loop-at.at + 1 < length c.args.body.now = forward_more c.loop-at.invariant.2 c.loop-at-test.true c.if-left-eq0.false in
     let v = c.loop-at.invariant in
-    (omega (arith, more), v.1, forward_past v.2 c.loop-at-test.true c.if-left-eq0.false c.if-kept-2.false)
+    (omega (arith, forward_more v.2 c.loop-at-test.true c.if-left-eq0.false), v.1, forward_past v.2 c.loop-at-test.true c.if-left-eq0.false c.if-kept-2.false)
 
 pub shape_of-out : goal.shape_of-out
 shape_of-out c = forward_length c.loop-at.invariant.2 c.requires.1

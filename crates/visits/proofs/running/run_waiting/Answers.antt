@@ -3,7 +3,7 @@
 use mathlib.Core.Path.{◌≡◌, refl, ◌∙◌, sym, ap}
 use mathlib.Core.Bool.{true}
 use mathlib.Core.List.{List}
-use Prim.Native.Nat.{ℕ, ◌+◌, ◌*◌, ◌≤◌, ◌<◌}
+use Prim.Native.Nat.{ℕ, ◌*◌, ◌≤◌, ◌<◌}
 use native.Mathlib.Omega.{arith}
 use lib.ListN.{length, take, length-drop, get_or}
 use lib.Seq.{length-take-le, get_or-take}
@@ -18,7 +18,7 @@ use Rattle.queue.specs.Queue.{no_request}
 use Rattle.queue.specs.Words.{record_in, records_in}
 use Rattle.desk.specs.Admission.{Admitted}
 use Rattle.desk.proofs.Asked.{below_32, admitted_exists, place_looked_up, operation_admitted}
-use Rattle.visits.specs.Running.{is_operation, made_words}
+use Rattle.visits.specs.Running.{is_operation}
 use Rattle.visits.proofs.WaitingRuns.{running_start, running_next, running_done, room_here, reply_room_here}
 use Rattle.visits.proofs.WaitingRuns.{replies_length}
 use Rattle.visits.specs.Waiting.{reply_size}
