@@ -91,7 +91,8 @@ loop-at-preserved-then-kept-2 c =
 pub loop-at-preserved : goal.loop-at-preserved
 loop-at-preserved c =
     let v = c.loop-at.invariant in
-    (omega (arith, forward_more v.2 c.loop-at-test.true c.if-left-eq0.false), v.1, forward_past v.2 c.loop-at-test.true c.if-left-eq0.false c.if-kept-2.false)
+    let more = forward_more v.2 c.loop-at-test.true c.if-left-eq0.false in
+    (omega arith, v.1, forward_past v.2 c.loop-at-test.true c.if-left-eq0.false c.if-kept-2.false)
 
 pub shape_of-out : goal.shape_of-out
 shape_of-out c = forward_length c.loop-at.invariant.2 c.requires.1
