@@ -6,7 +6,7 @@ use mathlib.Core.List.{List, Memᴰ}
 use Prim.Native.Nat.{ℕ, ◌<◌}
 use native.Mathlib.Omega.{arith}
 use Rattle.verdict.specs.Verdict.{accepted}
-use Rattle.lists.specs.Lists.{some}
+use Rattle.std.specs.List.{list_any}
 use Rattle.lists.proofs.Laws.{and_snd, by_less}
 use Rattle.plan.specs.Plan.{reads, writes}
 use Rattle.plan.specs.Decode.{plan_of}
@@ -39,8 +39,8 @@ module _ (ws : List ℕ) (at : ℕ) (ps : List ℕ) where
 
   -- writing nothing
   pub answered_reading : (d : ℕ) → d ≡ desk_by (plan_of ws).desks (transaction_from ws at).part ps
-      → some is_write (transaction_from ws at).steps ≡ false
-      → (b : Bool) → b ≡ some (written (plan_of ws)) (cells_named reads ps (transaction_from ws at).steps)
+      → list_any is_write (transaction_from ws at).steps ≡ false
+      → (b : Bool) → b ≡ list_any (written (plan_of ws)) (cells_named reads ps (transaction_from ws at).steps)
       → cond b (classed_local d) classed_free ≡ classified_by (plan_of ws) (transaction_from ws at) ps
   unfolding class_by
   answered_reading d q w b h = rw (w, q, ← h) (either b (desk_by (plan_of ws).desks (transaction_from ws at).part ps) _)

@@ -11,7 +11,7 @@ use lib.Dec.{eqb}
 use borrow.Author.Tests.{eq-eqb, eqb-true}
 use Rattle.verdict.specs.Verdict.{accepted}
 use Rattle.lists.proofs.Laws.{every_member, member_every, member_some, some_member, by_same}
-use Rattle.lists.specs.Lists.{some}
+use Rattle.std.specs.List.{list_any}
 use Rattle.plan.specs.Plan.{Source, reads, writes, Step, cell, operand, tells, Plan}
 use Rattle.plan.specs.Decode.{plan_of}
 use Rattle.plan.specs.Admission.{plan_verdict}
@@ -35,7 +35,7 @@ write_shape (operand f v) e = absurd (false≢true e)
 write_shape tells e = absurd (false≢true e)
 
 module _ (p : Plan) (o : Operation) where
-  writes_some : some is_write (transaction_of p o).steps ≡ true → (c : ℕ) × MayWrite p o c
+  writes_some : list_any is_write (transaction_of p o).steps ≡ true → (c : ℕ) × MayWrite p o c
   writes_some e =
       let m = some_member is_write (transaction_of p o).steps e in
       let w = write_shape m.0 m.2 in (
@@ -44,7 +44,7 @@ module _ (p : Plan) (o : Operation) where
             (subst (λ (s : Step). Memᴰ s (transaction_of p o).steps) w.3 m.1),
       )
 
-  writes_none : some is_write (transaction_of p o).steps ≡ false → (c : ℕ) → MayWrite p o c → ⊥
+  writes_none : list_any is_write (transaction_of p o).steps ≡ false → (c : ℕ) → MayWrite p o c → ⊥
   writes_none e c m =
       let n = names_of writes o.params (transaction_of p o).steps c m in
       false≢true (sym e ∙ member_some is_write _ (transaction_of p o).steps n.step refl)
@@ -62,11 +62,11 @@ module _ (ws : List ℕ) (e : plan_verdict ws ≡ accepted) (o : Operation) (i :
 
   -- ---- the two computed tests
 
-  unwritten : some (written (plan_of ws)) (read_set (plan_of ws) o) ≡ false → Unwritten
+  unwritten : list_any (written (plan_of ws)) (read_set (plan_of ws) o) ≡ false → Unwritten
   unwritten h c m o' i' w =
       false≢true (sym h ∙ member_some (written (plan_of ws)) c (read_set (plan_of ws) o) m (gives_written ws e c (o', i', w)))
 
-  of_unwritten : Unwritten → some (written (plan_of ws)) (read_set (plan_of ws) o) ≡ true → ⊥
+  of_unwritten : Unwritten → list_any (written (plan_of ws)) (read_set (plan_of ws) o) ≡ true → ⊥
   of_unwritten h r =
       let m = some_member (written (plan_of ws)) (read_set (plan_of ws) o) r in
       let w = written_gives ws e m.0 m.2 in h m.0 m.1 w.0 w.1 w.2
@@ -95,12 +95,12 @@ module _ (ws : List ℕ) (e : plan_verdict ws ≡ accepted) (o : Operation) (i :
   pub class_means : Means (class_of (plan_of ws) o)
   unfolding class_by
   class_means =
-      go (some is_write (transaction_of (plan_of ws) o).steps) (one_desk_each (desk_mask (plan_of ws)) (write_set (plan_of ws) o))
-      (some (written (plan_of ws)) (read_set (plan_of ws) o)) refl refl refl
+      go (list_any is_write (transaction_of (plan_of ws) o).steps) (one_desk_each (desk_mask (plan_of ws)) (write_set (plan_of ws) o))
+      (list_any (written (plan_of ws)) (read_set (plan_of ws) o)) refl refl refl
     where
-      go : (w a q : Bool) → some is_write (transaction_of (plan_of ws) o).steps ≡ w
+      go : (w a q : Bool) → list_any is_write (transaction_of (plan_of ws) o).steps ≡ w
           → one_desk_each (desk_mask (plan_of ws)) (write_set (plan_of ws) o) ≡ a
-          → some (written (plan_of ws)) (read_set (plan_of ws) o) ≡ q → Means (cond w (cond a local global) (cond q local free))
+          → list_any (written (plan_of ws)) (read_set (plan_of ws) o) ≡ q → Means (cond w (cond a local global) (cond q local free))
       go true true q ew ea eq = (λ f. f.0 (writes_some (plan_of ws) o ew).0 (writes_some (plan_of ws) o ew).1, one_desk_no_other ea)
       go true false q ew ea eq = (
         λ f. f.0 (writes_some (plan_of ws) o ew).0 (writes_some (plan_of ws) o ew).1,

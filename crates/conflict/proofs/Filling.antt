@@ -6,7 +6,7 @@ use mathlib.Core.List.{List, [], ◌∷◌}
 use Prim.Native.Nat.{ℕ, ◌<◌}
 use lib.Bits.{bit_or, or_zero_r, or_zero_l}
 use lib.ListN.{length, get_or, replicate, length-replicate, get_or-replicate}
-use Rattle.lists.specs.Lists.{some}
+use Rattle.std.specs.List.{list_any}
 use Rattle.lists.proofs.Laws.{whole_table}
 use Rattle.word.specs.Field.{head_desks}
 use Rattle.plan.specs.Plan.{Partitioning, Step, Transaction}
@@ -35,23 +35,19 @@ start plan = record {
 
 module _ (plan : List ℕ) (n : ℕ) (l : List ℕ) where
   pub done : Filling plan n [] l → l ≡ mask_table (plan_of plan)
-  unfolding some
   done f =
       whole_table 1024 (desk_mask (plan_of plan)) l 0 f.long
       (λ c h. sym (ap (bit_or (get_or l c 0)) (mask_none n) ∙ or_zero_r (get_or l c 0)) ∙ f.cells c h)
 
   pub enter : (t : Transaction) (ts : List Transaction) → Filling plan n (t ∷ ts) l → FillingIn plan n t.part t.steps ts l
-  unfolding some
   enter t ts f = record { long = f.long; cells = f.cells }
 
   module _ (q : Partitioning) (ts : List Transaction) where
     pub leave : FillingIn plan n q [] ts l → Filling plan n ts l
-    unfolding some
     leave f = record { long = f.long; cells = f.cells }
 
     pub step_on : (s : Step) (ss : List Step) → FillingIn plan n q (s ∷ ss) ts l → (l' : List ℕ)
         → Joined l l' (λ c. mask_of n (step_touches n q s c)) → FillingIn plan n q ss ts l'
-    unfolding some
     step_on s ss f l' j = record {
       long = j.long;
       cells = λ c h.

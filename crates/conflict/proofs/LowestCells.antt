@@ -9,7 +9,8 @@ use native.Mathlib.Omega.{arith}
 use lib.Dec.{ltb, eqb}
 use lib.ListN.{get_or}
 use borrow.Author.Tests.{eq-eqb, eqb-true, ltb-true, ltb-false}
-use Rattle.lists.specs.Lists.{some, lowest_below}
+use Rattle.std.specs.List.{list_any}
+use Rattle.lists.specs.Lists.{lowest_below}
 use Rattle.lists.proofs.Laws.{and_fst, and_snd, and_true, some_member, member_some, get_or_tabulate}
 use Rattle.lists.proofs.Laws.{lowest_below_is, lowest_below_past, lowest_below_same}
 use Rattle.plan.specs.Plan.{Plan}
@@ -78,7 +79,7 @@ module _ (f : ℕ → Bool) where
   -- the walk from n on finds the lowest below n
   module _ (n : ℕ) (cs : List ℕ) where
     abbrev passes : ℕ → Bool
-    passes c = some (eqb c) cs && f c
+    passes c = list_any (eqb c) cs && f c
 
     fails_below : (i : ℕ) → i < lowest_from f n cs → passes i ≡ false
     fails_below i l = go (passes i) refl
@@ -86,9 +87,9 @@ module _ (f : ℕ → Bool) where
         go : (b : Bool) → passes i ≡ b → b ≡ false
         go false e = refl
         go true e =
-            let m = some_member (eqb i) cs (and_fst (some (eqb i) cs) (f i) e) in
+            let m = some_member (eqb i) cs (and_fst (list_any (eqb i) cs) (f i) e) in
             let q = eqb-true i m.0 m.2 in
-            let h = from_least n cs m.0 m.1 (ap f (sym q) ∙ and_snd (some (eqb i) cs) (f i) e) in
+            let h = from_least n cs m.0 m.1 (ap f (sym q) ∙ and_snd (list_any (eqb i) cs) (f i) e) in
             absurd (omega arith)
 
     lowest_from_below : lowest_below n passes ≡ lowest_from f n cs
@@ -112,6 +113,6 @@ pub cause_cell_walked : (p : Plan) (d : ℕ) (cs masks : List ℕ) → masks ≡
 unfolding cause_cell
 cause_cell_walked p d cs masks e =
     lowest_below_same 1024 _ _
-    (λ c l. ap (λ (x : ℕ). some (eqb c) cs && has_other x d)
+    (λ c l. ap (λ (x : ℕ). list_any (eqb c) cs && has_other x d)
     (sym (ap (λ (m : List ℕ). get_or m c 0) e ∙ get_or_tabulate 1024 (desk_mask p) c 0 l)))
     ∙ lowest_from_below (tabled_other masks d) 1024 cs

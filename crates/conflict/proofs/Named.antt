@@ -8,7 +8,7 @@ use native.Mathlib.Omega.{arith}
 use lib.Count.{ones}
 use lib.Dec.{ltb, leb, eqb}
 use borrow.Author.Tests.{eqb-true, eqb-false, leb-true, leb-false, eq-eqb, ne_eqb, le-leb}
-use Rattle.lists.specs.Lists.{every, some}
+use Rattle.std.specs.List.{list_all, list_any}
 use Rattle.lists.proofs.Laws.{and_snd}
 use Rattle.word.specs.Field.{kind_of, table_field, column_field}
 use Rattle.plan.specs.Plan.{reads, writes, Step, Partitioning}
@@ -75,39 +75,35 @@ write_kind w f = go (leb (kind_of w) 4) (eqb (kind_of w) 3) refl refl
 module _ (ws : List ℕ) (at : ℕ) (p : StandsAt ws at) where
   -- when no step is left
   module _ (s : ℕ) (h : steps_at ws at ≤ s) where
-    pub writing_none : some is_write (steps_from ws at s) ≡ false
-    unfolding some
-    writing_none = ap (some is_write) (steps_none ws at s h)
+    pub writing_none : list_any is_write (steps_from ws at s) ≡ false
+    writing_none = ap (list_any is_write) (steps_none ws at s h)
 
     pub touching_none : (n : ℕ) (q : Partitioning) (c d : ℕ) → steps_touch n q (steps_from ws at s) c d ≡ false
-    unfolding some
     touching_none n q c d = ap (λ (ss : List Step). steps_touch n q ss c d) (steps_none ws at s h)
 
     pub one_done : (ps : List ℕ) (mask : ℕ → ℕ) → one_desk_each mask (cells_named writes ps (steps_from ws at s)) ≡ true
-    unfolding every cells_named
+    unfolding cells_named
     one_done ps mask = ap (λ (ss : List Step). one_desk_each mask (cells_named writes ps ss)) (steps_none ws at s h)
 
     pub lowest_done : (ps : List ℕ) (f : ℕ → Bool) (m : ℕ) → lowest_from f m (cells_named writes ps (steps_from ws at s)) ≡ m
     unfolding lowest_from cells_named
     lowest_done ps f m = ap (λ (ss : List Step). lowest_from f m (cells_named writes ps ss)) (steps_none ws at s h)
 
-    pub read_done : (ps : List ℕ) (f : ℕ → Bool) → some f (cells_named reads ps (steps_from ws at s)) ≡ false
-    unfolding some cells_named
-    read_done ps f = ap (λ (ss : List Step). some f (cells_named reads ps ss)) (steps_none ws at s h)
+    pub read_done : (ps : List ℕ) (f : ℕ → Bool) → list_any f (cells_named reads ps (steps_from ws at s)) ≡ false
+    unfolding cells_named
+    read_done ps f = ap (λ (ss : List Step). list_any f (cells_named reads ps ss)) (steps_none ws at s h)
 
   -- at step s, whose word is w
   module _ (s : ℕ) (h : s < steps_at ws at) (w : ℕ) (i : w ≡ step_word ws at s) where
     -- what the steps from s on say of a write
-    pub writing_here : some is_write (steps_from ws at s) ≡ (eqb (kind_of w) 4 || some is_write (steps_from ws at (s + 1)))
-    unfolding some
+    pub writing_here : list_any is_write (steps_from ws at s) ≡ (eqb (kind_of w) 4 || list_any is_write (steps_from ws at (s + 1)))
     writing_here =
-        ap (some is_write) (steps_cons ws at s p h w i)
-        ∙ ap (λ (b : Bool). b || some is_write (steps_from ws at (s + 1))) (write_kind w (step_formed_lem ws at s p h w i))
+        ap (list_any is_write) (steps_cons ws at s p h w i)
+        ∙ ap (λ (b : Bool). b || list_any is_write (steps_from ws at (s + 1))) (write_kind w (step_formed_lem ws at s p h w i))
 
     -- whether the steps from s on touch a cell at a desk
     pub touching_here : (n : ℕ) (q : Partitioning) (c d : ℕ) → steps_touch n q (steps_from ws at s) c d
         ≡ (step_touches n q (step_of w) c d || steps_touch n q (steps_from ws at (s + 1)) c d)
-    unfolding some
     touching_here n q c d = ap (λ (ss : List Step). steps_touch n q ss c d) (steps_cons ws at s p h w i)
 
     module _ (ps : List ℕ) where
@@ -137,7 +133,7 @@ module _ (ws : List ℕ) (at : ℕ) (p : StandsAt ws at) where
         pub one_here : kind_of w ≡ 4 → (c x : ℕ) → c ≡ cell_of ps w → x ≡ ones (mask c)
             → one_desk_each mask (cells_named writes ps (steps_from ws at s))
             ≡ (eqb x 1 && one_desk_each mask (cells_named writes ps (steps_from ws at (s + 1))))
-        unfolding every access_by
+        unfolding access_by
         one_here e c x j q = ap (one_desk_each mask) (cells_here 4 (omega arith) (omega arith) e) ∙ rw (← j, ← q)
 
         pub one_other : (kind_of w ≡ 4 → ⊥)
@@ -168,11 +164,11 @@ module _ (ws : List ℕ) (at : ℕ) (p : StandsAt ws at) where
       module _ (f : ℕ → Bool) where
         -- by what was found of its cell c
         pub read_found : kind_of w ≡ 3 → (c : ℕ) (b : Bool) → c ≡ cell_of ps w → b ≡ f c
-            → some f (cells_named reads ps (steps_from ws at s)) ≡ (b || some f (cells_named reads ps (steps_from ws at (s + 1))))
-        unfolding some access_by
-        read_found e c b j q = ap (some f) (cells_here 3 (omega arith) (omega arith) e) ∙ rw (← j, ← q)
+            → list_any f (cells_named reads ps (steps_from ws at s)) ≡ (b || list_any f (cells_named reads ps (steps_from ws at (s + 1))))
+        unfolding access_by
+        read_found e c b j q = ap (list_any f) (cells_here 3 (omega arith) (omega arith) e) ∙ rw (← j, ← q)
 
         pub read_other : (kind_of w ≡ 3 → ⊥)
-            → some f (cells_named reads ps (steps_from ws at s)) ≡ some f (cells_named reads ps (steps_from ws at (s + 1)))
+            → list_any f (cells_named reads ps (steps_from ws at s)) ≡ list_any f (cells_named reads ps (steps_from ws at (s + 1)))
         unfolding access_by
-        read_other e = ap (some f) (cells_other 3 (omega arith) (omega arith) e)
+        read_other e = ap (list_any f) (cells_other 3 (omega arith) (omega arith) e)

@@ -12,7 +12,7 @@ use native.Mathlib.Omega.{arith}
 use lib.Count.{ones}
 use lib.Dec.{eqb}
 use borrow.Author.Tests.{eq-eqb, ne_eqb, lt-ltb, eqb-true, eqb-false, ltb-true, not-true}
-use Rattle.lists.specs.Lists.{some}
+use Rattle.std.specs.List.{list_any}
 use Rattle.lists.proofs.Laws.{and_fst, and_snd, and_true, by_same, by_less, eqb_self, member_every}
 use Rattle.lists.proofs.Laws.{member_some, some_member, lowest_below_le, lowest_below_passes, lowest_below_least}
 use Rattle.plan.specs.Plan.{Access, Transaction, Plan}
@@ -107,19 +107,19 @@ module _ (p : Plan) (d : ℕ) (cs : List ℕ) where
   unfolding cause_cell
   cause_cell_found h =
       let c = cause_cell p d cs in
-      let found = lowest_below_passes store_size (λ c. some (eqb c) cs && has_other (desk_mask p c) d) h in
+      let found = lowest_below_passes store_size (λ c. list_any (eqb c) cs && has_other (desk_mask p c) d) h in
       let m = some_member (eqb c) cs (and_fst _ _ found) in
-      (subst (λ (x : ℕ). Memᴰ x cs) (sym (eqb-true c m.0 m.2)) m.1, and_snd (some (eqb c) cs) _ found)
+      (subst (λ (x : ℕ). Memᴰ x cs) (sym (eqb-true c m.0 m.2)) m.1, and_snd (list_any (eqb c) cs) _ found)
 
   pub cause_cell_least : (c : ℕ) → Memᴰ c cs → has_other (desk_mask p c) d ≡ true → cause_cell p d cs ≤ c
   unfolding cause_cell
   cause_cell_least c m h =
-      lowest_below_least store_size (λ c. some (eqb c) cs && has_other (desk_mask p c) d) c
+      lowest_below_least store_size (λ c. list_any (eqb c) cs && has_other (desk_mask p c) d) c
       (and_true _ _ (member_some (eqb c) c cs m (eqb_self c)) h)
 
   pub cause_cell_high : cause_cell p d cs ≤ store_size
   unfolding cause_cell
-  cause_cell_high = lowest_below_le store_size (λ c. some (eqb c) cs && has_other (desk_mask p c) d)
+  cause_cell_high = lowest_below_le store_size (λ c. list_any (eqb c) cs && has_other (desk_mask p c) d)
 
   -- the cause by its cell c, its desk o and its transaction k
   pub found_desk_low : cause_cell p d cs < store_size → (c : ℕ) → c ≡ cause_cell p d cs → (o : ℕ) → o ≡ cause_desk (desk_mask p c) d

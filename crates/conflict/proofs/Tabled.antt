@@ -7,7 +7,7 @@ use Prim.Native.Nat.{ℕ}
 use lib.Count.{ones}
 use lib.Dec.{eqb}
 use lib.ListN.{get_or}
-use Rattle.lists.specs.Lists.{every, some}
+use Rattle.std.specs.List.{list_all, list_any}
 use Rattle.lists.proofs.Laws.{and_snd, every_same, get_or_tabulate}
 use Rattle.plan.specs.Plan.{reads, writes, Step, cell, operand, tells, Plan}
 use Rattle.plan.specs.Place.{transaction_from}
@@ -29,8 +29,8 @@ one_tabled p ws at ps e =
     (cells_low writes ps (transaction_from ws at).steps (transaction_fits ws at)
     (and_snd (unused_zero (transaction_from ws at).params ps) _ e) c m)))
 
-no_cells : (ps : List ℕ) (ss : List Step) → some is_write ss ≡ false → cells_named writes ps ss ≡ []
-unfolding some cells_named
+no_cells : (ps : List ℕ) (ss : List Step) → list_any is_write ss ≡ false → cells_named writes ps ss ≡ []
+unfolding cells_named
 no_cells ps [] e = refl
 no_cells ps (cell reads t k r ∷ ss) e = no_cells ps ss e
 no_cells ps (cell writes t k r ∷ ss) e = absurd (false≢true (sym e))
@@ -48,21 +48,21 @@ module _ (ws : List ℕ) (at : ℕ) (ps : List ℕ) (e : parameters_pass (transa
       h ∙ ap (λ (m : List ℕ). one_desk_each (λ c. get_or m c 0) (cells_named writes ps (transaction_from ws at).steps)) t
       ∙ one_tabled p ws at ps e
 
-  pub class_writing : (b : Bool) (l : List ℕ) → l ≡ mask_table p → some is_write (transaction_from ws at).steps ≡ true
+  pub class_writing : (b : Bool) (l : List ℕ) → l ≡ mask_table p → list_any is_write (transaction_from ws at).steps ≡ true
       → b ≡ one_desk_each (λ c. get_or l c 0) (cells_named writes ps (transaction_from ws at).steps)
       → cond b local global ≡ class_by p (transaction_from ws at) ps
   unfolding class_by
   class_writing b l t w h = rw w (ap (λ (x : Bool). cond x local global) (one_desk_by_masks b l t h))
 
-  pub class_reading : (b : Bool) → some is_write (transaction_from ws at).steps ≡ false
-      → b ≡ some (written p) (cells_named reads ps (transaction_from ws at).steps)
+  pub class_reading : (b : Bool) → list_any is_write (transaction_from ws at).steps ≡ false
+      → b ≡ list_any (written p) (cells_named reads ps (transaction_from ws at).steps)
       → cond b local free ≡ class_by p (transaction_from ws at) ps
   unfolding class_by
   class_reading b w h = rw w (ap (λ (x : Bool). cond x local free) h)
 
   -- ---- free and global, by one test each
 
-  pub writing_not_free : some is_write (transaction_from ws at).steps ≡ true → is_free (class_by p (transaction_from ws at) ps) ≡ false
+  pub writing_not_free : list_any is_write (transaction_from ws at).steps ≡ true → is_free (class_by p (transaction_from ws at) ps) ≡ false
   unfolding class_by
   writing_not_free w = rw w (neither (one_desk_each (desk_mask p) (cells_named writes ps (transaction_from ws at).steps)))
     where
@@ -70,8 +70,8 @@ module _ (ws : List ℕ) (at : ℕ) (ps : List ℕ) (e : parameters_pass (transa
       neither true = refl
       neither false = refl
 
-  pub reading_free : (b : Bool) → some is_write (transaction_from ws at).steps ≡ false
-      → b ≡ some (written p) (cells_named reads ps (transaction_from ws at).steps)
+  pub reading_free : (b : Bool) → list_any is_write (transaction_from ws at).steps ≡ false
+      → b ≡ list_any (written p) (cells_named reads ps (transaction_from ws at).steps)
       → not b ≡ is_free (class_by p (transaction_from ws at) ps)
   reading_free b w h = other b ∙ ap is_free (class_reading b w h)
     where
@@ -79,23 +79,22 @@ module _ (ws : List ℕ) (at : ℕ) (ps : List ℕ) (e : parameters_pass (transa
       other true = refl
       other false = refl
 
-  pub reading_not_global : some is_write (transaction_from ws at).steps ≡ false → is_global (class_by p (transaction_from ws at) ps) ≡ false
+  pub reading_not_global : list_any is_write (transaction_from ws at).steps ≡ false → is_global (class_by p (transaction_from ws at) ps) ≡ false
   unfolding class_by
-  reading_not_global w = rw w (neither (some (written p) (cells_named reads ps (transaction_from ws at).steps)))
+  reading_not_global w = rw w (neither (list_any (written p) (cells_named reads ps (transaction_from ws at).steps)))
     where
       neither : (b : Bool) → is_global (cond b local free) ≡ false
       neither true = refl
       neither false = refl
 
   -- an operation that writes nothing has no cell to be tested
-  reading_global : (b : Bool) (l : List ℕ) → some is_write (transaction_from ws at).steps ≡ false
+  reading_global : (b : Bool) (l : List ℕ) → list_any is_write (transaction_from ws at).steps ≡ false
       → b ≡ one_desk_each (λ c. get_or l c 0) (cells_named writes ps (transaction_from ws at).steps)
       → not b ≡ is_global (class_by p (transaction_from ws at) ps)
-  unfolding every
   reading_global b l w h =
       ap not (h ∙ ap (one_desk_each (λ c. get_or l c 0)) (no_cells ps (transaction_from ws at).steps w)) ∙ sym (reading_not_global w)
 
-  writing_global : (b : Bool) (l : List ℕ) → l ≡ mask_table p → some is_write (transaction_from ws at).steps ≡ true
+  writing_global : (b : Bool) (l : List ℕ) → l ≡ mask_table p → list_any is_write (transaction_from ws at).steps ≡ true
       → b ≡ one_desk_each (λ c. get_or l c 0) (cells_named writes ps (transaction_from ws at).steps)
       → not b ≡ is_global (class_by p (transaction_from ws at) ps)
   writing_global b l t w h = other b ∙ ap is_global (class_writing b l t w h)
@@ -107,8 +106,8 @@ module _ (ws : List ℕ) (at : ℕ) (ps : List ℕ) (e : parameters_pass (transa
   pub global_tabled : (b : Bool) (l : List ℕ) → l ≡ mask_table p
       → b ≡ one_desk_each (λ c. get_or l c 0) (cells_named writes ps (transaction_from ws at).steps)
       → not b ≡ is_global (class_by p (transaction_from ws at) ps)
-  global_tabled b l t h = go (some is_write (transaction_from ws at).steps) refl
+  global_tabled b l t h = go (list_any is_write (transaction_from ws at).steps) refl
     where
-      go : (w : Bool) → some is_write (transaction_from ws at).steps ≡ w → not b ≡ is_global (class_by p (transaction_from ws at) ps)
+      go : (w : Bool) → list_any is_write (transaction_from ws at).steps ≡ w → not b ≡ is_global (class_by p (transaction_from ws at) ps)
       go true w = writing_global b l t w h
       go false w = reading_global b l w h

@@ -11,7 +11,7 @@ use lib.Dec.{ltb, eqb}
 use lib.ListN.{length, get_or, drop, get_or-eq_default}
 use lib.Seq.{get_or-drop}
 use borrow.Author.Tests.{eq-eqb, ne_eqb, eqb-true, ltb-true, le-leb}
-use Rattle.lists.specs.Lists.{every}
+use Rattle.std.specs.List.{list_all}
 use Rattle.lists.proofs.Laws.{and_fst, and_snd, and_true, member_every, lt_or_ge, by_same}
 use Rattle.plan.specs.Plan.{Source, param, fixed, Step, cell, operand, tells}
 use Rattle.plan.specs.Plan.{Partitioning, by_param, unpartitioned, undecided, Transaction}
@@ -82,8 +82,7 @@ part_unused p (by_param i) j e h = ne_eqb j i (λ s. omega (arith, ltb-true i p 
 part_unused p unpartitioned j e h = refl
 part_unused p undecided j e h = refl
 
-all_zero : (ps : List ℕ) → ((i : ℕ) → get_or ps i 0 ≡ 0) → every (λ w. eqb w 0) ps ≡ true
-unfolding every
+all_zero : (ps : List ℕ) → ((i : ℕ) → get_or ps i 0 ≡ 0) → list_all (λ w. eqb w 0) ps ≡ true
 all_zero [] h = refl
 all_zero (w ∷ ps) h = and_true (eqb w 0) _ (eq-eqb w 0 (h 0)) (all_zero ps (λ i. h (suc i)))
 

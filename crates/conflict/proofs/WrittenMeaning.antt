@@ -8,7 +8,7 @@ use lib.Dec.{ltb, eqb}
 use borrow.Author.Tests.{eq-eqb, lt-ltb, eqb-true}
 use Rattle.verdict.specs.Verdict.{accepted}
 use Rattle.lists.proofs.Laws.{and_fst, and_snd, and_true, every_member, member_some, some_member, index_some, some_index}
-use Rattle.lists.specs.Lists.{some}
+use Rattle.std.specs.List.{list_any}
 use Rattle.plan.specs.Plan.{Source, param, fixed, reads, writes, Step, cell, operand, tells}
 use Rattle.plan.specs.Plan.{Partitioning, by_param, unpartitioned, undecided, Transaction, no_transaction, transaction_at}
 use Rattle.plan.specs.Decode.{plan_of}
@@ -80,7 +80,7 @@ module _ (ws : List ℕ) (e : plan_verdict ws ≡ accepted) (c : ℕ) where
   pub written_gives : written (plan_of ws) c ≡ true → Writer (plan_of ws) c
   unfolding written
   written_gives h =
-      let i = some_index (λ t. some (λ s. step_writes s c) t.steps) (plan_of ws).transactions no_transaction h in
+      let i = some_index (λ t. list_any (λ s. step_writes s c) t.steps) (plan_of ws).transactions no_transaction h in
       let t = transaction_at (plan_of ws) i.0 in
       let j = some_member (λ s. step_writes s c) t.steps i.2 in
       let m = step_of (plan_of ws).desks t c j.0 (some_desk ws e) j.1 j.2 in
@@ -97,7 +97,7 @@ module _ (ws : List ℕ) (e : plan_verdict ws ≡ accepted) (c : ℕ) where
       let n = names_of writes o.params t.steps c w.2 in
       let v = value_low o.params writes n.table n.column n.row ((sound_at ws e o.transaction l).fits _ n.step)
       (every_member (row_in_range o.params) t.steps _ (rows_passed p o w.1) n.step) in
-      index_some (λ t. some (λ s. step_writes s c) t.steps) p.transactions o.transaction no_transaction l
+      index_some (λ t. list_any (λ s. step_writes s c) t.steps) p.transactions o.transaction no_transaction l
       (member_some (λ s. step_writes s c) (cell writes n.table n.column n.row) t.steps n.step
       (cell_found n.table n.column n.row o.params c v n.is))
 

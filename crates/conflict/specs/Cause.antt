@@ -9,7 +9,8 @@
 --     CauseUnique            no operation has two
 use Rattle.std.specs.Prelude.{ℕ, ◌<◌, ◌≡◌, Bool, not, ◌&&◌, List, ◌↔◌, ◌⊎◌, ltb, eqb, length}
 use Rattle.verdict.specs.Verdict.{accepted}
-use Rattle.lists.specs.Lists.{some, lowest_below}
+use Rattle.std.specs.List.{list_any}
+use Rattle.lists.specs.Lists.{lowest_below}
 use Rattle.plan.specs.Plan.{writes, Transaction, Plan, transaction_at}
 use Rattle.plan.specs.Decode.{plan_of}
 use Rattle.plan.specs.Admission.{plan_verdict}
@@ -57,7 +58,7 @@ has_other mask d = ltb (cause_desk mask d) 8
 
 -- the lowest of these cells that a desk other than d may touch; 1,024 if there is none
 unfoldable pub cause_cell : Plan → ℕ → List ℕ → ℕ
-cause_cell p d cs = lowest_below store_size (λ c. some (eqb c) cs && has_other (desk_mask p c) d)
+cause_cell p d cs = lowest_below store_size (λ c. list_any (eqb c) cs && has_other (desk_mask p c) d)
 
 -- the lowest transaction with an operation of desk d that may touch the cell; the number of transactions if there is none
 unfoldable pub cause_transaction : Plan → ℕ → ℕ → ℕ

@@ -2,7 +2,7 @@
 -- Free is narrower than the commutative class of 002: an operation that writes is never free here.
 use Rattle.std.specs.Prelude.{ℕ, ◌≡◌, Bool, true, false, cond, List, eqb}
 use Rattle.std.specs.Int.Count.{ones}
-use Rattle.lists.specs.Lists.{every, some}
+use Rattle.std.specs.List.{list_all, list_any}
 use Rattle.plan.specs.Plan.{reads, writes, Step, cell, operand, tells, Transaction, Plan}
 use Rattle.operation.specs.Operation.{Operation, transaction_of, desk_of, cells_named, MayRead, MayWrite, MayTouch}
 use Rattle.operation.specs.Admission.{IsOperation}
@@ -70,14 +70,14 @@ is_write tells = false
 
 -- "the number of desks is the count of ones in it": each of the cells has one desk in its mask
 abbrev pub one_desk_each : (ℕ → ℕ) → List ℕ → Bool
-one_desk_each mask cs = every (λ c. eqb (ones (mask c)) 1) cs
+one_desk_each mask cs = list_all (λ c. eqb (ones (mask c)) 1) cs
 
 -- writing: local if just one desk may touch each cell that it writes. Writing nothing: free unless some operation may write what it reads
 unfoldable pub class_by : Plan → Transaction → List ℕ → Class
 class_by p t ps =
-    cond (some is_write t.steps)
+    cond (list_any is_write t.steps)
     (cond (one_desk_each (desk_mask p) (cells_named writes ps t.steps)) local global)
-    (cond (some (written p) (cells_named reads ps t.steps)) local free)
+    (cond (list_any (written p) (cells_named reads ps t.steps)) local free)
 
 abbrev pub class_of : Plan → Operation → Class
 class_of p o = class_by p (transaction_of p o) o.params

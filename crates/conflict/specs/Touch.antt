@@ -1,7 +1,8 @@
 -- The mask of a cell, computed: "The desks whose operations may touch a cell form a mask".
 use Rattle.std.specs.Prelude.{ℕ, ◌/◌, ◌%◌, ◌<◌, ◌≡◌, Bool, false, ◌&&◌, cond, List, length, get_or, ltb, eqb}
 use Rattle.std.specs.Int.Bits.{bit_or}
-use Rattle.lists.specs.Lists.{tabulate, some}
+use Rattle.std.specs.List.{list_any}
+use Rattle.lists.specs.Lists.{tabulate}
 use Rattle.plan.specs.Plan.{Source, param, fixed, Step, cell, operand, tells}
 use Rattle.plan.specs.Plan.{Partitioning, by_param, unpartitioned, undecided, Transaction, Plan}
 use Rattle.conflict.specs.Mask.{mask_of}
@@ -29,10 +30,10 @@ step_touches n part (operand f v) c d = false
 step_touches n part tells c d = false
 
 abbrev pub steps_touch : ℕ → Partitioning → List Step → ℕ → ℕ → Bool
-steps_touch n part ss c d = some (λ s. step_touches n part s c d) ss
+steps_touch n part ss c d = list_any (λ s. step_touches n part s c d) ss
 
 abbrev pub transactions_touch : ℕ → List Transaction → ℕ → ℕ → Bool
-transactions_touch n ts c d = some (λ t. steps_touch n t.part t.steps c d) ts
+transactions_touch n ts c d = list_any (λ t. steps_touch n t.part t.steps c d) ts
 
 -- the mask of the desks with an operation that may touch the cell
 unfoldable pub desk_mask : Plan → ℕ → ℕ

@@ -1,6 +1,6 @@
 -- Whether some operation of the plan may write a cell, computed.
 use Rattle.std.specs.Prelude.{ℕ, ◌/◌, ◌%◌, Bool, true, false, ◌&&◌, eqb}
-use Rattle.lists.specs.Lists.{some}
+use Rattle.std.specs.List.{list_any}
 use Rattle.plan.specs.Plan.{Source, param, fixed, reads, writes, Step, cell, operand, tells, Plan}
 
 -- some operation gives this row to the source: to a parameter any
@@ -20,4 +20,4 @@ step_writes tells c = false
 
 -- some operation of the plan may write the cell
 unfoldable pub written : Plan → ℕ → Bool
-written p c = some (λ t. some (λ s. step_writes s c) t.steps) p.transactions
+written p c = list_any (λ t. list_any (λ s. step_writes s c) t.steps) p.transactions

@@ -3,7 +3,7 @@ ghost use Rattle.std.specs.Prelude.{◌≡◌, true, length, get_or};
 ghost use mathlib.Core.List.{Memᴰ};
 ghost use Rattle.std.specs.Int.Count.{ones};
 ghost use Rattle.verdict.specs.Verdict.{accepted};
-ghost use Rattle.lists.specs.Lists.{some};
+ghost use Rattle.std.specs.List.{list_any};
 ghost use Rattle.plan.specs.Plan.{writes};
 ghost use Rattle.plan.specs.Decode.{plan_of};
 ghost use Rattle.plan.specs.Admission.{plan_verdict};
@@ -34,7 +34,7 @@ pub enum ClassAnswer {
 // Whether the transaction at this place has a write step.
 pub fn has_write(plan: &[u32], at: usize) -> bool
     requires { StandsAt plan.now at }
-    ensures { result ≡ some is_write (transaction_from plan.now at).steps }
+    ensures { result ≡ list_any is_write (transaction_from plan.now at).steps }
 {
     let steps = plan::step_count(plan, at);
     let mut s: usize = 0;
@@ -81,7 +81,7 @@ fn writer_answer(plan: &[u32], at: usize, params: [u32; 4], desk: u32) -> ClassA
     requires { (plan_verdict plan.now ≡ accepted) × StandsAt plan.now at
         × (parameters_pass (transaction_from plan.now at) params ≡ true)
         × Memᴰ (transaction_from plan.now at) (plan_of plan.now).transactions
-        × (some is_write (transaction_from plan.now at).steps ≡ true)
+        × (list_any is_write (transaction_from plan.now at).steps ≡ true)
         × (desk ≡ desk_by (plan_of plan.now).desks (transaction_from plan.now at).part params) }
     ensures { classified_of result ≡ classified_by (plan_of plan.now) (transaction_from plan.now at) params }
 {

@@ -1,7 +1,7 @@
 // Whether some operation of the plan may write a cell that one operation may read.
 ghost use Rattle.std.specs.Prelude.{◌≡◌, true};
 ghost use Rattle.verdict.specs.Verdict.{accepted};
-ghost use Rattle.lists.specs.Lists.{some};
+ghost use Rattle.std.specs.List.{list_any};
 ghost use Rattle.word.specs.Field.{kind_of, table_field, column_field};
 ghost use Rattle.plan.specs.Plan.{reads};
 ghost use Rattle.plan.specs.Decode.{plan_of, step_of, row_of};
@@ -32,7 +32,7 @@ pub(crate) fn cell_given(word: u32, cell: u32) -> bool
 // Whether the write step in this word may write a cell that an operation of the transaction at this place may read.
 fn writes_read(word: u32, plan: &[u32], at: usize, params: [u32; 4]) -> bool
     requires { (kind_of word ≡ 4) × StandsAt plan.now at × (parameters_pass (transaction_from plan.now at) params ≡ true) }
-    ensures { result ≡ some (step_writes (step_of word)) (cells_named reads params (transaction_from plan.now at).steps) }
+    ensures { result ≡ list_any (step_writes (step_of word)) (cells_named reads params (transaction_from plan.now at).steps) }
 {
     let steps = plan::step_count(plan, at);
     let mut s: usize = 0;
@@ -52,7 +52,7 @@ fn writes_read(word: u32, plan: &[u32], at: usize, params: [u32; 4]) -> bool
 pub(crate) fn reads_written(plan: &[u32], at: usize, params: [u32; 4]) -> bool
     requires { (plan_verdict plan.now ≡ accepted) × StandsAt plan.now at
         × (parameters_pass (transaction_from plan.now at) params ≡ true) }
-    ensures { result ≡ some (written (plan_of plan.now))
+    ensures { result ≡ list_any (written (plan_of plan.now))
         (cells_named reads params (transaction_from plan.now at).steps) }
 {
     let mut i: usize = 1;

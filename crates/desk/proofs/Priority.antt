@@ -18,7 +18,8 @@ use native.Mathlib.Omega.{arith}
 use lib.ListN.{length, get_or, length-append}
 use lib.Seq.{append_snoc, take-length, drop-length, take-append_seam, drop-append_seam}
 use borrow.Author.Tests.{not-true}
-use Rattle.lists.specs.Lists.{every, some, select, inserted}
+use Rattle.std.specs.List.{list_all, list_any, filter}
+use Rattle.lists.specs.Lists.{inserted}
 use Rattle.lists.proofs.Laws.{and_fst, and_snd, index_some, some_index, cons_in_snoc, snoc_in_cons}
 use Rattle.lists.proofs.Laws.{select_append, select_yes, select_no, select_short, every_select, select_none, select_all, select_member}
 use Rattle.lists.proofs.Laws.{select_map, some_fails, select_fails, fails_select, select_lengths, member_either}
@@ -32,63 +33,62 @@ module _ {A : Type 0} (urgent : A → Bool) where
   -- ---- in order
 
   -- behind one that is not urgent none is
-  none_behind : (b : Bool) (rs : List A) → b ≡ false → cond b (urgent_lead urgent rs) (not (some urgent rs)) ≡ true → some urgent rs ≡ false
+  none_behind : (b : Bool) (rs : List A) → b ≡ false → cond b (urgent_lead urgent rs) (not (list_any urgent rs)) ≡ true → list_any urgent rs ≡ false
   none_behind true rs p e = absurd (false≢true (sym p))
-  none_behind false rs p e = not-true (some urgent rs) e
+  none_behind false rs p e = not-true (list_any urgent rs) e
 
   pub lead_parts : (rs : List A) → urgent_lead urgent rs ≡ true → urgent_first urgent rs ≡ rs
   unfolding urgent_lead
   lead_parts [] e = refl
   lead_parts (r ∷ rs) e = go (urgent r) e (lead_parts rs)
     where
-      go : (b : Bool) → cond b (urgent_lead urgent rs) (not (some urgent rs)) ≡ true
+      go : (b : Bool) → cond b (urgent_lead urgent rs) (not (list_any urgent rs)) ≡ true
           → (urgent_lead urgent rs ≡ true → urgent_first urgent rs ≡ rs)
-          → cond b (r ∷ select urgent rs) (select urgent rs) ++ cond (not b) (r ∷ select other rs) (select other rs) ≡ r ∷ rs
+          → cond b (r ∷ filter urgent rs) (filter urgent rs) ++ cond (not b) (r ∷ filter other rs) (filter other rs) ≡ r ∷ rs
       go true p q = ap (◌∷◌ r) (q p)
       go false p q =
-          ap₂ (λ (xs ys : List A). xs ++ (r ∷ ys)) (select_none urgent rs (not-true (some urgent rs) p))
-          (select_fails urgent rs (not-true (some urgent rs) p))
+          ap₂ (λ (xs ys : List A). xs ++ (r ∷ ys)) (select_none urgent rs (not-true (list_any urgent rs) p))
+          (select_fails urgent rs (not-true (list_any urgent rs) p))
 
-  lead_none : (rs : List A) → some urgent rs ≡ false → urgent_lead urgent rs ≡ true
-  unfolding urgent_lead some
+  lead_none : (rs : List A) → list_any urgent rs ≡ false → urgent_lead urgent rs ≡ true
+  unfolding urgent_lead
   lead_none [] e = refl
   lead_none (r ∷ rs) e = go (urgent r) e
     where
-      go : (b : Bool) → (b || some urgent rs) ≡ false → cond b (urgent_lead urgent rs) (not (some urgent rs)) ≡ true
+      go : (b : Bool) → (b || list_any urgent rs) ≡ false → cond b (urgent_lead urgent rs) (not (list_any urgent rs)) ≡ true
       go true p = absurd (false≢true (sym p))
       go false p = ap not p
 
-  lead_append : (xs ys : List A) → every urgent xs ≡ true → urgent_lead urgent ys ≡ true → urgent_lead urgent (xs ++ ys) ≡ true
-  unfolding urgent_lead every
+  lead_append : (xs ys : List A) → list_all urgent xs ≡ true → urgent_lead urgent ys ≡ true → urgent_lead urgent (xs ++ ys) ≡ true
+  unfolding urgent_lead
   lead_append [] ys e l = l
   lead_append (x ∷ xs) ys e l =
-      ap (λ (b : Bool). cond b (urgent_lead urgent (xs ++ ys)) (not (some urgent (xs ++ ys)))) (and_fst (urgent x) (every urgent xs) e)
-      ∙ lead_append xs ys (and_snd (urgent x) (every urgent xs) e) l
+      ap (λ (b : Bool). cond b (urgent_lead urgent (xs ++ ys)) (not (list_any urgent (xs ++ ys)))) (and_fst (urgent x) (list_all urgent xs) e)
+      ∙ lead_append xs ys (and_snd (urgent x) (list_all urgent xs) e) l
 
   pub lead_first : (rs : List A) → urgent_lead urgent (urgent_first urgent rs) ≡ true
-  lead_first rs = lead_append (select urgent rs) (select other rs) (every_select urgent rs) (lead_none _ (some_fails urgent rs))
+  lead_first rs = lead_append (filter urgent rs) (filter other rs) (every_select urgent rs) (lead_none _ (some_fails urgent rs))
 
   -- ---- the test from a place on: `before` says whether the one before is urgent, or that there is none
 
   abbrev pub lead_behind : Bool → List A → Bool
-  lead_behind before rs = cond before (urgent_lead urgent rs) (not (some urgent rs))
+  lead_behind before rs = cond before (urgent_lead urgent rs) (not (list_any urgent rs))
 
   pub lead_behind_lem : (before : Bool) (r : A) (rs : List A) → (urgent r ≡ true → before ≡ true)
       → lead_behind before (r ∷ rs) ≡ lead_behind (urgent r) rs
-  unfolding urgent_lead some
+  unfolding urgent_lead
   lead_behind_lem true r rs h = refl
   lead_behind_lem false r rs h = go (urgent r) h
     where
-      go : (b : Bool) → (b ≡ true → false ≡ true) → not (b || some urgent rs) ≡ lead_behind b rs
+      go : (b : Bool) → (b ≡ true → false ≡ true) → not (b || list_any urgent rs) ≡ lead_behind b rs
       go true f = absurd (false≢true (f refl))
       go false f = refl
 
   pub lead_broken : (r : A) (rs : List A) → urgent r ≡ true → lead_behind false (r ∷ rs) ≡ false
-  unfolding some
-  lead_broken r rs e = ap (λ (b : Bool). not (b || some urgent rs)) e
+  lead_broken r rs e = ap (λ (b : Bool). not (b || list_any urgent rs)) e
 
   pub lead_behind_none : (before : Bool) → lead_behind before [] ≡ true
-  unfolding urgent_lead some
+  unfolding urgent_lead
   lead_behind_none true = refl
   lead_behind_none false = refl
 
@@ -107,17 +107,17 @@ module _ {A : Type 0} (urgent : A → Bool) where
   lead_places d (r ∷ rs) e (suc i) (suc j) l h p q =
       go (urgent r) e (λ f. lead_places d rs f i j (le_of_suc-le-suc l) (le_of_suc-le-suc h) p q)
     where
-      go : (b : Bool) → cond b (urgent_lead urgent rs) (not (some urgent rs)) ≡ true → (urgent_lead urgent rs ≡ true → ⊥) → ⊥
+      go : (b : Bool) → cond b (urgent_lead urgent rs) (not (list_any urgent rs)) ≡ true → (urgent_lead urgent rs ≡ true → ⊥) → ⊥
       go true f k = k f
-      go false f k = k (lead_none rs (not-true (some urgent rs) f))
+      go false f k = k (lead_none rs (not-true (list_any urgent rs) f))
 
   places_lead : (d : A) (rs : List A) → InOrder d rs → urgent_lead urgent rs ≡ true
   unfolding urgent_lead
   places_lead d [] h = refl
   places_lead d (r ∷ rs) h =
-      go (urgent r) refl (some urgent rs) refl (places_lead d rs (λ i j l k p q. h (suc i) (suc j) (suc-le-suc l) (suc-le-suc k) p q))
+      go (urgent r) refl (list_any urgent rs) refl (places_lead d rs (λ i j l k p q. h (suc i) (suc j) (suc-le-suc l) (suc-le-suc k) p q))
     where
-      go : (b : Bool) → urgent r ≡ b → (c : Bool) → some urgent rs ≡ c → urgent_lead urgent rs ≡ true
+      go : (b : Bool) → urgent r ≡ b → (c : Bool) → list_any urgent rs ≡ c → urgent_lead urgent rs ≡ true
           → cond b (urgent_lead urgent rs) (not c) ≡ true
       go true p c q e = e
       go false p false q e = refl
@@ -132,64 +132,64 @@ urgent_lead_means A urgent d rs = (lead_places urgent d rs, places_lead urgent d
 
 module _ {A : Type 0} (urgent : A → Bool) (waiting : List A) (r : A) where
   abbrev others : List A → List A
-  others rs = select (λ t. not (urgent t)) rs
+  others rs = filter (λ t. not (urgent t)) rs
 
   apart : join_queue urgent waiting r
-      ≡ (select urgent waiting ++ select urgent (r ∷ [])) ++ (others waiting ++ others (r ∷ []))
+      ≡ (filter urgent waiting ++ filter urgent (r ∷ [])) ++ (others waiting ++ others (r ∷ []))
   apart = ap₂ ◌++◌ (select_append urgent waiting (r ∷ [])) (select_append (λ t. not (urgent t)) waiting (r ∷ []))
 
-  join_urgent : urgent r ≡ true → join_queue urgent waiting r ≡ select urgent waiting ++ (r ∷ others waiting)
+  join_urgent : urgent r ≡ true → join_queue urgent waiting r ≡ filter urgent waiting ++ (r ∷ others waiting)
   join_urgent e =
       apart
-      ∙ ap₂ (λ (xs ys : List A). (select urgent waiting ++ xs) ++ (others waiting ++ ys)) (select_yes urgent r [] e)
+      ∙ ap₂ (λ (xs ys : List A). (filter urgent waiting ++ xs) ++ (others waiting ++ ys)) (select_yes urgent r [] e)
       (select_no (λ t. not (urgent t)) r [] (ap not e))
-      ∙ ap (λ (ys : List A). select urgent waiting ++ (r ∷ []) ++ ys) (append-nil (others waiting))
-      ∙ append_snoc (select urgent waiting) r (others waiting)
+      ∙ ap (λ (ys : List A). filter urgent waiting ++ (r ∷ []) ++ ys) (append-nil (others waiting))
+      ∙ append_snoc (filter urgent waiting) r (others waiting)
 
   join_other : urgent_lead urgent waiting ≡ true → urgent r ≡ false → join_queue urgent waiting r ≡ waiting ++ (r ∷ [])
   join_other l e =
       apart
-      ∙ ap₂ (λ (xs ys : List A). (select urgent waiting ++ xs) ++ (others waiting ++ ys)) (select_no urgent r [] e)
+      ∙ ap₂ (λ (xs ys : List A). (filter urgent waiting ++ xs) ++ (others waiting ++ ys)) (select_no urgent r [] e)
       (select_yes (λ t. not (urgent t)) r [] (ap not e))
-      ∙ ap (λ (xs : List A). xs ++ (others waiting ++ (r ∷ []))) (append-nil (select urgent waiting))
-      ∙ sym (append_assoc (select urgent waiting) (others waiting) (r ∷ []))
+      ∙ ap (λ (xs : List A). xs ++ (others waiting ++ (r ∷ []))) (append-nil (filter urgent waiting))
+      ∙ sym (append_assoc (filter urgent waiting) (others waiting) (r ∷ []))
       ∙ ap (λ (xs : List A). xs ++ (r ∷ [])) (lead_parts urgent waiting l)
 
   join_place_lem : urgent_lead urgent waiting ≡ true → join_queue urgent waiting r ≡ inserted (join_place urgent waiting r) r waiting
   join_place_lem l = go (urgent r) refl
     where
       go : (b : Bool) → urgent r ≡ b → join_queue urgent waiting r
-          ≡ inserted (cond b (length (select urgent waiting)) (length waiting)) r waiting
+          ≡ inserted (cond b (length (filter urgent waiting)) (length waiting)) r waiting
       go true e =
           join_urgent e
-          ∙ ap₂ (λ (xs ys : List A). xs ++ (r ∷ ys)) (sym (take-append_seam (select urgent waiting) (others waiting)))
-          (sym (drop-append_seam (select urgent waiting) (others waiting)))
-          ∙ ap (inserted (length (select urgent waiting)) r) (lead_parts urgent waiting l)
+          ∙ ap₂ (λ (xs ys : List A). xs ++ (r ∷ ys)) (sym (take-append_seam (filter urgent waiting) (others waiting)))
+          (sym (drop-append_seam (filter urgent waiting) (others waiting)))
+          ∙ ap (inserted (length (filter urgent waiting)) r) (lead_parts urgent waiting l)
       go false e =
           join_other l e ∙ ap₂ (λ (xs ys : List A). xs ++ (r ∷ ys)) (sym (take-length waiting)) (sym (drop-length waiting))
 
   pub join_place_fits : join_place urgent waiting r ≤ length waiting
   join_place_fits = go (urgent r)
     where
-      go : (b : Bool) → cond b (length (select urgent waiting)) (length waiting) ≤ length waiting
+      go : (b : Bool) → cond b (length (filter urgent waiting)) (length waiting) ≤ length waiting
       go true = select_short urgent waiting
       go false = omega arith
 
   pub join_length : length (join_queue urgent waiting r) ≡ length waiting + 1
   join_length =
-      length-append (select urgent (waiting ++ (r ∷ []))) _ ∙ select_lengths urgent (waiting ++ (r ∷ [])) ∙ length-append waiting (r ∷ [])
+      length-append (filter urgent (waiting ++ (r ∷ []))) _ ∙ select_lengths urgent (waiting ++ (r ∷ [])) ∙ length-append waiting (r ∷ [])
 
   -- it holds what waited and the request, and nothing else
   pub join_member : (t : A) → Memᴰ t (join_queue urgent waiting r) → Memᴰ t (r ∷ waiting)
   join_member t m =
       snoc_in_cons waiting r t
       (⊎_elim (select_member urgent t (waiting ++ (r ∷ []))) (select_member (λ s. not (urgent s)) t (waiting ++ (r ∷ [])))
-      (Memᴰ.append_cases (select urgent (waiting ++ (r ∷ []))) m))
+      (Memᴰ.append_cases (filter urgent (waiting ++ (r ∷ []))) m))
 
   pub member_join : (t : A) → Memᴰ t (r ∷ waiting) → Memᴰ t (join_queue urgent waiting r)
   member_join t m =
-      ⊎_elim (λ (k : Memᴰ t (select urgent (waiting ++ (r ∷ [])))). Memᴰ.append_left (others (waiting ++ (r ∷ []))) k)
-      (λ (k : Memᴰ t (others (waiting ++ (r ∷ [])))). Memᴰ.append_right (select urgent (waiting ++ (r ∷ []))) k)
+      ⊎_elim (λ (k : Memᴰ t (filter urgent (waiting ++ (r ∷ [])))). Memᴰ.append_left (others (waiting ++ (r ∷ []))) k)
+      (λ (k : Memᴰ t (others (waiting ++ (r ∷ [])))). Memᴰ.append_right (filter urgent (waiting ++ (r ∷ []))) k)
       (member_either urgent t (waiting ++ (r ∷ [])) (cons_in_snoc waiting r t m))
 
 -- the statements
@@ -210,7 +210,7 @@ join_keeps_order A urgent waiting r = lead_first urgent (waiting ++ (r ∷ []))
 pub join_map : {A B : Type 0} (g : A → B) (urgent : B → Bool) (waiting : List A) (r : A)
     → map g (join_queue (λ t. urgent (g t)) waiting r) ≡ join_queue urgent (map g waiting) (g r)
 join_map g urgent waiting r =
-    map-append g (select (λ t. urgent (g t)) (waiting ++ (r ∷ []))) (select (λ t. not (urgent (g t))) (waiting ++ (r ∷ [])))
+    map-append g (filter (λ t. urgent (g t)) (waiting ++ (r ∷ []))) (filter (λ t. not (urgent (g t))) (waiting ++ (r ∷ [])))
     ∙ ap₂ ◌++◌ (select_map g urgent (waiting ++ (r ∷ []))) (select_map g (λ t. not (urgent t)) (waiting ++ (r ∷ [])))
     ∙ ap (urgent_first urgent) (map-append g waiting (r ∷ []))
 
@@ -218,21 +218,21 @@ pub first_joins : {A : Type 0} (urgent : A → Bool) (arrived : List A) (r : A)
     → join_queue urgent (urgent_first urgent arrived) r ≡ urgent_first urgent (arrived ++ (r ∷ []))
 first_joins {A} urgent arrived r = ap₂ ◌++◌ urgents rests
   where
-    urgents : select urgent (urgent_first urgent arrived ++ (r ∷ [])) ≡ select urgent (arrived ++ (r ∷ []))
+    urgents : filter urgent (urgent_first urgent arrived ++ (r ∷ [])) ≡ filter urgent (arrived ++ (r ∷ []))
     urgents =
         select_append urgent (urgent_first urgent arrived) (r ∷ [])
-        ∙ ap (λ (xs : List A). xs ++ select urgent (r ∷ []))
-        (select_append urgent (select urgent arrived) (select (λ t. not (urgent t)) arrived)
-        ∙ ap₂ ◌++◌ (select_all urgent (select urgent arrived) (every_select urgent arrived))
-        (select_none urgent (select (λ t. not (urgent t)) arrived) (some_fails urgent arrived))
-        ∙ append-nil (select urgent arrived))
+        ∙ ap (λ (xs : List A). xs ++ filter urgent (r ∷ []))
+        (select_append urgent (filter urgent arrived) (filter (λ t. not (urgent t)) arrived)
+        ∙ ap₂ ◌++◌ (select_all urgent (filter urgent arrived) (every_select urgent arrived))
+        (select_none urgent (filter (λ t. not (urgent t)) arrived) (some_fails urgent arrived))
+        ∙ append-nil (filter urgent arrived))
         ∙ sym (select_append urgent arrived (r ∷ []))
 
-    rests : select (λ t. not (urgent t)) (urgent_first urgent arrived ++ (r ∷ [])) ≡ select (λ t. not (urgent t)) (arrived ++ (r ∷ []))
+    rests : filter (λ t. not (urgent t)) (urgent_first urgent arrived ++ (r ∷ [])) ≡ filter (λ t. not (urgent t)) (arrived ++ (r ∷ []))
     rests =
         select_append (λ t. not (urgent t)) (urgent_first urgent arrived) (r ∷ [])
-        ∙ ap (λ (xs : List A). xs ++ select (λ t. not (urgent t)) (r ∷ []))
-        (select_append (λ t. not (urgent t)) (select urgent arrived) (select (λ t. not (urgent t)) arrived)
+        ∙ ap (λ (xs : List A). xs ++ filter (λ t. not (urgent t)) (r ∷ []))
+        (select_append (λ t. not (urgent t)) (filter urgent arrived) (filter (λ t. not (urgent t)) arrived)
         ∙ ap₂ ◌++◌ (fails_select urgent arrived)
-        (select_fails urgent (select (λ t. not (urgent t)) arrived) (some_fails urgent arrived)))
+        (select_fails urgent (filter (λ t. not (urgent t)) arrived) (some_fails urgent arrived)))
         ∙ sym (select_append (λ t. not (urgent t)) arrived (r ∷ []))

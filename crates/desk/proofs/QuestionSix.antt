@@ -7,7 +7,7 @@ use Prim.Native.Nat.{ℕ, ◌%◌, ◌≤◌, ◌<◌}
 use lib.Dec.{ltb, leb, eqb}
 use borrow.Author.Tests.{lt-ltb, le-ltb, lt-leb, le-leb, eq-eqb, ne_eqb}
 use Rattle.verdict.specs.Verdict.{accepted, refused}
-use Rattle.lists.specs.Lists.{every}
+use Rattle.std.specs.List.{list_all}
 use Rattle.lists.proofs.Laws.{and_fst, and_snd}
 use Rattle.word.specs.Field.{head_desks}
 use Rattle.plan.specs.Plan.{Plan}
@@ -41,16 +41,16 @@ module _ (p : Plan) (desk : ℕ) (r : Request) where
 -- ---- the waiting records
 
 module _ (p : Plan) (desk : ℕ) (waiting : List Request) where
-  pub one_unfit : every (waits_here p desk) waiting ≡ false → queue_fits p desk waiting ≡ false
+  pub one_unfit : list_all (waits_here p desk) waiting ≡ false → queue_fits p desk waiting ≡ false
   unfolding queue_fits
   one_unfit e = rw e
 
-  pub by_order : every (waits_here p desk) waiting ≡ true → queue_fits p desk waiting ≡ urgent_lead (is_urgent p) waiting
+  pub by_order : list_all (waits_here p desk) waiting ≡ true → queue_fits p desk waiting ≡ urgent_lead (is_urgent p) waiting
   unfolding queue_fits
   by_order e = rw e
 
 pub none_waits : (p : Plan) (desk : ℕ) (records : List Request) (n : ℕ) → n ≡ 0 → queue_fits p desk (waiting_in n records) ≡ true
-unfolding queue_fits every urgent_lead
+unfolding queue_fits urgent_lead
 none_waits p desk records n e = rw e
 
 -- ---- the state, with the records
@@ -83,10 +83,10 @@ module _ (p : Plan) (d : Desk) (records : List Request) (e : desk_fits p d recor
   fits_queue =
       and_snd (eqb (d.awaited % p.desks) d.desk) _ (and_snd (leb d.waiting 32) _ (and_snd (ltb d.desk p.desks) _ e))
 
-  pub fits_each : every (waits_here p d.desk) (waiting_in d.waiting records) ≡ true
+  pub fits_each : list_all (waits_here p d.desk) (waiting_in d.waiting records) ≡ true
   unfolding queue_fits
-  fits_each = and_fst (every (waits_here p d.desk) (waiting_in d.waiting records)) _ fits_queue
+  fits_each = and_fst (list_all (waits_here p d.desk) (waiting_in d.waiting records)) _ fits_queue
 
   pub fits_ordered : urgent_lead (is_urgent p) (waiting_in d.waiting records) ≡ true
   unfolding queue_fits
-  fits_ordered = and_snd (every (waits_here p d.desk) (waiting_in d.waiting records)) _ fits_queue
+  fits_ordered = and_snd (list_all (waits_here p d.desk) (waiting_in d.waiting records)) _ fits_queue

@@ -1,7 +1,7 @@
 -- Questions 5 and 6: the buffers that every call at a desk is lent, and the desk's state.
 use Rattle.std.specs.Prelude.{ℕ, ◌%◌, ◌≡◌, Bool, ◌&&◌, List, ltb, leb, eqb, length}
 use Rattle.verdict.specs.Verdict.{accepted, is_accepted}
-use Rattle.lists.specs.Lists.{every}
+use Rattle.std.specs.List.{list_all}
 use Rattle.plan.specs.Plan.{Plan}
 use Rattle.plan.specs.Decode.{plan_of}
 use Rattle.plan.specs.Admission.{plan_verdict}
@@ -32,7 +32,7 @@ waits_here p desk r =
 
 -- 6, of the waiting records: each is such a one, and they are in order
 unfoldable pub queue_fits : Plan → ℕ → List Request → Bool
-queue_fits p desk waiting = every (waits_here p desk) waiting && urgent_lead (is_urgent p) waiting
+queue_fits p desk waiting = list_all (waits_here p desk) waiting && urgent_lead (is_urgent p) waiting
 
 -- 6: "Is the desk below n, waiting at most 32, the awaited number congruent to the desk modulo n, each waiting record a global operation
 -- of this desk?"; "It refuses with 6 a row in which a waiting urgent record follows a waiting one that is not."

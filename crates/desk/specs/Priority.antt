@@ -4,13 +4,14 @@
 --     JoinKeepsOrder                   those that wait are in order then too
 --     UrgentJoins, OtherJoins          behind the urgent ones, or behind all
 use Rattle.std.specs.Prelude.{ℕ, ◌<◌, ◌≡◌, ◌↔◌, Bool, true, false, not, cond, List, [], ◌∷◌, ◌++◌, length, get_or}
-use Rattle.lists.specs.Lists.{some, select, inserted}
+use Rattle.std.specs.List.{list_any, filter}
+use Rattle.lists.specs.Lists.{inserted}
 use Rattle.desk.specs.Queueing.{join_queue}
 
 -- 6: not "a row in which a waiting urgent record follows a waiting one that is not"
 unfoldable pub urgent_lead : {A : Type 0} → (A → Bool) → List A → Bool
 urgent_lead urgent [] = true
-urgent_lead urgent (r ∷ rs) = cond (urgent r) (urgent_lead urgent rs) (not (some urgent rs))
+urgent_lead urgent (r ∷ rs) = cond (urgent r) (urgent_lead urgent rs) (not (list_any urgent rs))
 
 -- record j is urgent and follows record i, which is not: just then they are not in order
 abbrev pub UrgentLeadMeans : Type 1
@@ -19,7 +20,7 @@ UrgentLeadMeans = (A : Type 0) (urgent : A → Bool) (d : A) (rs : List A) → (
 
 -- "An arriving urgent request moves the waiting others up by a place.": behind the urgent ones, and any other behind all
 abbrev pub join_place : {A : Type 0} → (A → Bool) → List A → A → ℕ
-join_place urgent waiting r = cond (urgent r) (length (select urgent waiting)) (length waiting)
+join_place urgent waiting r = cond (urgent r) (length (filter urgent waiting)) (length waiting)
 
 abbrev pub JoinsAtPlace : Type 1
 JoinsAtPlace = (A : Type 0) (urgent : A → Bool) (waiting : List A) (r : A) → urgent_lead urgent waiting ≡ true
@@ -30,7 +31,7 @@ JoinKeepsOrder = (A : Type 0) (urgent : A → Bool) (waiting : List A) (r : A) �
 
 abbrev pub UrgentJoins : Type 1
 UrgentJoins = (A : Type 0) (urgent : A → Bool) (waiting : List A) (r : A) → urgent r ≡ true
-    → join_queue urgent waiting r ≡ select urgent waiting ++ (r ∷ select (λ t. not (urgent t)) waiting)
+    → join_queue urgent waiting r ≡ filter urgent waiting ++ (r ∷ filter (λ t. not (urgent t)) waiting)
 
 abbrev pub OtherJoins : Type 1
 OtherJoins = (A : Type 0) (urgent : A → Bool) (waiting : List A) (r : A) → urgent_lead urgent waiting ≡ true → urgent r ≡ false

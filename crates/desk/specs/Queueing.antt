@@ -1,7 +1,7 @@
 -- The desk's own words on a waiting record: the operation in it, whether it is urgent, the queue as far as requests wait, and the rule of
 -- joining it.
 use Rattle.std.specs.Prelude.{ℕ, Bool, not, List, [], ◌∷◌, ◌++◌, take}
-use Rattle.lists.specs.Lists.{select}
+use Rattle.std.specs.List.{filter}
 use Rattle.plan.specs.Plan.{Plan}
 use Rattle.operation.specs.Operation.{Operation, operation, urgent_of}
 use Rattle.queue.specs.Queue.{params_of}
@@ -21,7 +21,7 @@ waiting_in waiting queue = take waiting queue
 
 -- "urgent requests before the others, each sort by arrival", of requests in the order of their arrival
 abbrev pub urgent_first : {A : Type 0} → (A → Bool) → List A → List A
-urgent_first urgent rs = select urgent rs ++ select (λ r. not (urgent r)) rs
+urgent_first urgent rs = filter urgent rs ++ filter (λ r. not (urgent r)) rs
 
 -- how a request joins those that wait, "in the order laid down for the row": it is the latest of its sort
 abbrev pub join_queue : {A : Type 0} → (A → Bool) → List A → A → List A

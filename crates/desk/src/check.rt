@@ -4,7 +4,7 @@
 //     desk_fits          question 6
 ghost use Rattle.std.specs.Prelude.{◌≡◌, ◌≤◌, ltb, replicate};
 ghost use Rattle.verdict.specs.Verdict.{accepted};
-ghost use Rattle.lists.specs.Lists.{every};
+ghost use Rattle.std.specs.List.{list_all};
 ghost use Rattle.plan.specs.Decode.{plan_of};
 ghost use Rattle.plan.specs.Admission.{plan_verdict};
 ghost use Rattle.plan.specs.Place.{transaction_places};
@@ -48,7 +48,7 @@ fn all_wait_here(
 ) -> bool
     requires { (plan_verdict plan.now ≡ accepted) × (waiting ≤ queue_size) × (places.now ≡ transaction_places plan.now)
         × (masks.now ≡ mask_table (plan_of plan.now)) }
-    ensures { result ≡ every (waits_here (plan_of plan.now) desk) (waiting_in waiting (records_in row.now)) }
+    ensures { result ≡ list_all (waits_here (plan_of plan.now) desk) (waiting_in waiting (records_in row.now)) }
 {
     let mut i: usize = 0;
     while i < waiting {

@@ -4,7 +4,7 @@
 //     urgent_waiting, join_place    how many urgent ones wait; the place at which a request joins those that wait
 ghost use Rattle.std.specs.Prelude.{◌≡◌, ◌≤◌, length};
 ghost use Rattle.verdict.specs.Verdict.{accepted};
-ghost use Rattle.lists.specs.Lists.{select};
+ghost use Rattle.std.specs.List.{filter};
 ghost use Rattle.plan.specs.Decode.{plan_of};
 ghost use Rattle.plan.specs.Admission.{plan_verdict};
 ghost use Rattle.plan.specs.Place.{transaction_places};
@@ -53,7 +53,7 @@ pub(crate) fn urgent_lead(plan: &[u32], places: &[usize], waiting: usize, row: &
 // How many of the first `waiting` records are urgent.
 fn urgent_waiting(plan: &[u32], places: &[usize], waiting: usize, row: &[u32]) -> usize
     requires { (plan_verdict plan.now ≡ accepted) × (places.now ≡ transaction_places plan.now) × (waiting ≤ queue_size) }
-    ensures { result ≡ length (select (is_urgent (plan_of plan.now)) (waiting_in waiting (records_in row.now))) }
+    ensures { result ≡ length (filter (is_urgent (plan_of plan.now)) (waiting_in waiting (records_in row.now))) }
 {
     let mut count: usize = 0;
     let mut i: usize = 0;

@@ -6,7 +6,7 @@ use mathlib.Core.List.{List, [], ◌∷◌, ◌++◌}
 use Prim.Native.Nat.{ℕ, ◌+◌, ◌≤◌, ◌<◌}
 use native.Mathlib.Omega.{arith}
 use lib.ListN.{length, get_or, set, length-set}
-use Rattle.lists.specs.Lists.{every}
+use Rattle.std.specs.List.{list_all}
 use Rattle.lists.proofs.Laws.{and_fst, and_snd}
 use Rattle.word.specs.Field.{kind_of, table_field, column_field, parameter_count}
 use Rattle.plan.specs.Plan.{Step, operand}
@@ -32,7 +32,7 @@ module _ (ws : List ℕ) (at : ℕ) (ps : List ℕ) (store : Store) where
   -- at step s: the first `count` pairs are written, the accumulator is `number`, and these numbers are told
   pub record Running (s : ℕ) (cells values : List ℕ) (count number : ℕ) (told : Told) : Type 0 where
     pub whole : StandsAt ws at
-    pub rows : every (row_in_range ps) (steps_from ws at s) ≡ true
+    pub rows : list_all (row_in_range ps) (steps_from ws at s) ≡ true
     pub few : count ≤ s
     pub within : s ≤ steps_at ws at
     pub cells_long_lem : length cells ≡ 12
@@ -69,11 +69,10 @@ module _ (ws : List ℕ) (at : ℕ) (ps : List ℕ) (store : Store) where
     running_few h = omega (arith, q.few, h, transaction_steps (get_or ws at 0) q.whole.form)
 
     module _ (h : s < steps_at ws at) (w : ℕ) (i : w ≡ step_word ws at s) where
-      rows_here : (row_in_range ps (step_of w) && every (row_in_range ps) (steps_from ws at (s + 1))) ≡ true
-      unfolding every
+      rows_here : (row_in_range ps (step_of w) && list_all (row_in_range ps) (steps_from ws at (s + 1))) ≡ true
       rows_here = rw (steps_cons ws at s q.whole h w i) at q.rows
 
-      rows_next : every (row_in_range ps) (steps_from ws at (s + 1)) ≡ true
+      rows_next : list_all (row_in_range ps) (steps_from ws at (s + 1)) ≡ true
       rows_next = and_snd (row_in_range ps (step_of w)) _ rows_here
 
       pub running_row : kind_of w ≤ 4 → value_of ps (row_of w) ≤ 31

@@ -5,18 +5,18 @@ use Rattle.std.proofs.Common.{get_or, set, sym, refl, ap, ◌∙◌, subst, ap�
 use Rattle.std.proofs.Common.{inr, ⊎_elim, arith, get_or-set_other, get_or-set_same, le-ltb, lt-ltb, eqb-true, le-leb, leb-true}
 use mathlib.Core.Bool.{and-false}
 use borrow.Author.Tests.{lt-leb, eqb-false}
-use Rattle.lists.specs.Lists.{every}
+use Rattle.std.specs.List.{list_all}
 use Rattle.lists.proofs.Laws.{and_fst, and_snd, every_same, member_every, by_less}
 use Rattle.frame.specs.Frame.{SentUpdate}
 use Rattle.frame.specs.Admission.{desk_count, few_per_desk}
 
 -- with `s` holding a count for each desk already, no desk of the updates comes above 32
 abbrev pub few_on : List ℕ → List SentUpdate → Bool
-few_on s us = every (λ u. leb (get_or s u.desk 0 + desk_count u.desk us) 32) us
+few_on s us = list_all (λ u. leb (get_or s u.desk 0 + desk_count u.desk us) 32) us
 
 -- a test of every update's desk holds of a desk that has an update
-desk_holds : (f : ℕ → Bool) (d : ℕ) (us : List SentUpdate) → every (λ u. f u.desk) us ≡ true → (desk_count d us ≡ 0) ⊎ (f d ≡ true)
-unfolding every desk_count
+desk_holds : (f : ℕ → Bool) (d : ℕ) (us : List SentUpdate) → list_all (λ u. f u.desk) us ≡ true → (desk_count d us ≡ 0) ⊎ (f d ≡ true)
+unfolding desk_count
 desk_holds f d [] e = inl refl
 desk_holds f d (u ∷ us) e = go (eqb u.desk d) refl (desk_holds f d us (and_snd (f u.desk) _ e))
   where
@@ -65,7 +65,6 @@ first_test c k true h =
 
 pub few_next : (s : List ℕ) (u : SentUpdate) (us : List SentUpdate) → u.desk < length s
     → few_on s (u ∷ us) ≡ (ltb (get_or s u.desk 0) 32 && few_on (set s u.desk (get_or s u.desk 0 + 1)) us)
-unfolding every
 few_next s u us h =
     let t = set s u.desk (get_or s u.desk 0 + 1) in
     let c = get_or s u.desk 0 in

@@ -4,7 +4,7 @@ use Rattle.std.proofs.Common.{◌≡◌, ℕ, zero, suc, ◌+◌, ◌-◌, ◌<�
 use Rattle.std.proofs.Common.{◌∷◌, length, get_or, drop, set, replicate, sym, refl}
 use Rattle.std.proofs.Common.{ap, ◌∙◌, arith, length-set, drop_of_length-le, ltb-true, le-ltb, lt-ltb, ne_eqb}
 use mathlib.Core.Bool.{and_assoc}
-use Rattle.lists.specs.Lists.{every}
+use Rattle.std.specs.List.{list_all}
 use Rattle.lists.proofs.Laws.{drop_here, and_fst, and_snd, every_same}
 use Rattle.word.specs.Field.{kind_of, update_desk, cell_count}
 use Rattle.word.specs.Reserved.{reserved_zero}
@@ -107,7 +107,7 @@ one_update n w s r W u us d l e = go (update_formed n w) refl
 
 whole : (n : ℕ) (s : List ℕ) (left : ℕ) (ws : List ℕ) → n ≤ length s
     → rest n s left ws ≡ (well_formed n left ws && few_on s (updates_from left ws))
-unfolding rest well_formed updates_from every
+unfolding rest well_formed updates_from
 whole n s zero [] l = refl
 whole n s zero (w ∷ ws) l =
     one_update n w s _ _ (sent (update_desk w) (writes_from (cell_count w) ws)) (updates_from (cell_count w) ws) refl l

@@ -2,7 +2,7 @@
 use Rattle.std.specs.Prelude.{◌≡◌, ℕ, zero, suc, ◌+◌, ◌-◌, ◌%◌, Bool, true, false, cond}
 use Rattle.std.specs.Prelude.{◌&&◌, leb, List, [], ◌∷◌, length, take, drop, ◌==◌, nat_le, nat_lt, slice_index}
 use Rattle.verdict.specs.Verdict.{Verdict, accepted, ask, ◌then◌}
-use Rattle.lists.specs.Lists.{every}
+use Rattle.std.specs.List.{list_all}
 use Rattle.word.specs.Field.{kind_of, addressed_desk, frame_length, update_desk, cell_count, cell_field}
 use Rattle.word.specs.Reserved.{reserved_zero}
 use Rattle.plan.specs.Decode.{head_of, plan_of}
@@ -80,7 +80,7 @@ well_formed n (suc left) (w ∷ v ∷ ws) = cell_formed w && well_formed n left 
 
 -- 12: "at most 32 updates per desk"
 unfoldable pub few_per_desk : List SentUpdate → Bool
-few_per_desk us = every (λ u. leb (desk_count u.desk us) updates_per_desk) us
+few_per_desk us = list_all (λ u. leb (desk_count u.desk us) updates_per_desk) us
 
 abbrev pub updates_admitted : ℕ → List ℕ → Bool
 updates_admitted n body = well_formed n 0 body && few_per_desk (updates_from 0 body)

@@ -8,7 +8,7 @@ use mathlib.Core.List.Memᴰ
 use mathlib.Core.List.{List, [], ◌∷◌, Memᴰ}
 use native.Mathlib.Omega.{arith}
 use lib.Dec.{eqb, eqb→eq}
-use Rattle.lists.specs.Lists.{every}
+use Rattle.std.specs.List.{list_all}
 use Rattle.lists.proofs.Laws.{every_member, true_T}
 use Rattle.conflict.proofs.Ones.{count_of, none_of_count, one_of_count}
 use Rattle.serial.specs.System.{Class, free, local, global}
@@ -24,8 +24,8 @@ module _ (n : ℕ) (touched written : ℕ → ℕ → Bool) where
   -- of an operation by the cells it may read and write. Writing: local if just one desk may touch each cell that it writes.
   -- Writing nothing: free if no desk may write what it reads, else local.
   abbrev pub class_by : List ℕ → List ℕ → Class
-  class_by rs [] = cond (every (written_by 0) rs) free local
-  class_by rs (w ∷ ws) = cond (every (touched_by 1) (w ∷ ws)) local global
+  class_by rs [] = cond (list_all (written_by 0) rs) free local
+  class_by rs (w ∷ ws) = cond (list_all (touched_by 1) (w ∷ ws)) local global
 
   by_free : (b : Bool) → cond b free local ≡ free → b ≡ true
   by_free true e = refl
@@ -41,19 +41,19 @@ module _ (n : ℕ) (touched written : ℕ → ℕ → Bool) where
 
   free_none : (rs ws : List ℕ) (c : ℕ) → class_by rs ws ≡ free → Memᴰ c ws → ⊥
   free_none rs [] c e m = Memᴰ.not-nil m
-  free_none rs (w ∷ ws) c e m = by_never (every (touched_by 1) (w ∷ ws)) e
+  free_none rs (w ∷ ws) c e m = by_never (list_all (touched_by 1) (w ∷ ws)) e
 
-  count : (f : ℕ → ℕ → Bool) (k : ℕ) (cs : List ℕ) (c : ℕ) → every (λ c. eqb (count_of n (f c)) k) cs ≡ true →
+  count : (f : ℕ → ℕ → Bool) (k : ℕ) (cs : List ℕ) (c : ℕ) → list_all (λ c. eqb (count_of n (f c)) k) cs ≡ true →
       Memᴰ c cs → count_of n (f c) ≡ k
   count f k cs c e m = eqb→eq (count_of n (f c)) k (true_T _ (every_member (λ c. eqb (count_of n (f c)) k) cs c e m))
 
   free_unwritten : (rs ws : List ℕ) (c : ℕ) → class_by rs ws ≡ free → Memᴰ c rs → count_of n (written c) ≡ 0
-  free_unwritten rs [] c e m = count written 0 rs c (by_free (every (written_by 0) rs) e) m
-  free_unwritten rs (w ∷ ws) c e m = absurd (by_never (every (touched_by 1) (w ∷ ws)) e)
+  free_unwritten rs [] c e m = count written 0 rs c (by_free (list_all (written_by 0) rs) e) m
+  free_unwritten rs (w ∷ ws) c e m = absurd (by_never (list_all (touched_by 1) (w ∷ ws)) e)
 
   local_one : (rs ws : List ℕ) (c : ℕ) → class_by rs ws ≡ local → Memᴰ c ws → count_of n (touched c) ≡ 1
   local_one rs [] c e m = absurd (Memᴰ.not-nil m)
-  local_one rs (w ∷ ws) c e m = count touched 1 (w ∷ ws) c (by_local (every (touched_by 1) (w ∷ ws)) e) m
+  local_one rs (w ∷ ws) c e m = count touched 1 (w ∷ ws) c (by_local (list_all (touched_by 1) (w ∷ ws)) e) m
 
   -- operations whose touches and writes the masks hold
   module _ {Op : Type 0} (reads writes : Op → List ℕ) (desk : Op → ℕ) (below : (o : Op) → desk o < n)

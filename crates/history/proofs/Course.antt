@@ -7,7 +7,7 @@ use mathlib.Core.List.{[], ◌∷◌}
 use lib.Count.{ones}
 use native.Mathlib.Omega.{arith}
 use lib.ListN.{get_or}
-use Rattle.lists.specs.Lists.{every, some, tabulate}
+use Rattle.lists.specs.Lists.{tabulate}
 use Rattle.word.specs.Reserved.{reserved_zero, source_field}
 use Rattle.plan.specs.Decode.{step_of, part_by, access_by, action_by, transactions_of, plan_of}
 use Rattle.plan.specs.Admission.{has_head, counts_in_range, transaction_formed, step_formed}
@@ -44,7 +44,7 @@ small a b h k (suc (suc (suc zero))) = omega arith
 small a b h k (suc (suc (suc (suc i)))) = omega arith
 
 pub course : Course
-unfolding ones open_plan_verdict plan_verdict has_head counts_in_range transactions_verdict plans.well_formed every transaction_formed
+unfolding ones open_plan_verdict plan_verdict has_head counts_in_range transactions_verdict plans.well_formed transaction_formed
     step_formed
     tell_count parameters_exist part_exists step_exists source_exists transactions_of plan_of step_of part_by access_by action_by
     reserved_zero
@@ -52,7 +52,7 @@ unfolding ones open_plan_verdict plan_verdict has_head counts_in_range transacti
     writes_from
     updates_from sums_from frame_around cells_named transaction_exists unused_zero row_in_range parameters_pass operation_verdict
     apply_update act
-    run_from mask_of some row_touched cell_touched step_touches desk_mask cell_given step_writes written class_by write_words update_words
+    run_from mask_of row_touched cell_touched step_touches desk_mask cell_given step_writes written class_by write_words update_words
     updates_words desk_buffers_fit visit_buffers_fit waits_here urgent_lead queue_fits desk_fits turn_verdict request_verdict request_result
     foreign
     apply_all visit_verdict visit_result copied_by tabulate run_all updates_of replies_of replies_words

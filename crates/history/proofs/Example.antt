@@ -9,7 +9,6 @@ use mathlib.Core.List.{List, [], ◌∷◌, ◌++◌, Memᴰ}
 use native.Mathlib.Omega.{arith}
 use lib.ListN.{length}
 use lib.Dec.{eqb, ltb, eqb→eq}
-use Rattle.lists.specs.Lists.{every}
 use Rattle.lists.proofs.Laws.{cons_in_snoc, snoc_in_cons}
 use Rattle.plan.specs.Plan.{param, fixed, reads, writes, sets, cell, operand, Partitioning, by_param, unpartitioned, Transaction, Plan}
 use Rattle.operation.specs.Operation.{Operation, operation, desk_of, cells_named, read_set, write_set, MayRead, MayWrite}
@@ -135,7 +134,7 @@ abbrev listed : List Op
 listed = file₀ 8 ∷ file₁ 8 ∷ raise 3 ∷ look ∷ catalogue ∷ []
 
 classes : mathlib.Core.List.map example.class listed ≡ (local ∷ local ∷ global ∷ local ∷ free ∷ [])
-unfolding every cells_named count_of
+unfolding cells_named count_of
 classes = refl
 
 pub example_laws : Laws example

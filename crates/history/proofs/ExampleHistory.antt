@@ -6,7 +6,6 @@ use mathlib.Core.Bool.{Bool, true, false, true≢false}
 use mathlib.Core.List.Memᴰ
 use mathlib.Core.List.{List, [], ◌∷◌, map}
 use native.Mathlib.Omega.{arith}
-use Rattle.lists.specs.Lists.{every}
 use Rattle.operation.specs.Operation.{cells_named}
 use Rattle.execution.specs.Run.{Reply, reply_with, act, run_from}
 use Rattle.conflict.proofs.Ones.{count_of}
@@ -47,7 +46,7 @@ answered = answers example (new_desks example store₀) history
 expected : answered
     ≡ (replied (5, says 0) ∷ waits ∷ redirected 0 ∷ forwarded frame₁ ((7, says 3) ∷ []) ∷ replied (5, says 0) ∷ replied (6, says 8)
     ∷ forwarded frame₂ [] ∷ refused ∷ replied (5, says 3) ∷ replied (2, says 7) ∷ [])
-unfolding every cells_named count_of act run_from
+unfolding cells_named count_of act run_from
 expected = refl
 
 abbrev refusals : List Bool
@@ -58,22 +57,22 @@ serial_run = serial example history refusals
 
 -- the serial order by clients: both early looks stand before the raise
 order_is : map (λ (e : Finished Op). e.request.client) (order example serial_run) ≡ (5 ∷ 5 ∷ 7 ∷ 6 ∷ 5 ∷ 2 ∷ [])
-unfolding every cells_named count_of
+unfolding cells_named count_of
 order_is = refl
 
 -- the serial values, and the replies due to some calls
 store_is : store_after example (order example serial_run) store₀ ≡ (8 ∷ 0 ∷ 3 ∷ 7 ∷ [])
-unfolding every cells_named count_of act run_from
+unfolding cells_named count_of act run_from
 store_is = refl
 
 due_is : map (λ (i : ℕ). due example i (order example serial_run) store₀) (3 ∷ 4 ∷ 7 ∷ [])
     ≡ (((7, says 3) ∷ []) ∷ ((5, says 0) ∷ []) ∷ [] ∷ [])
-unfolding every cells_named count_of act run_from
+unfolding cells_named count_of act run_from
 due_is = refl
 
 -- the premise is met, so the claim speaks of this history
 proper : Proper example (new_desks example store₀) (start_frame ∷ []) history
-unfolding every cells_named count_of act run_from
+unfolding cells_named count_of act run_from
 proper = (
   omega arith,
   λ e. tt,

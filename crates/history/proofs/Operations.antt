@@ -10,7 +10,7 @@ use lib.ListN.{length, get_or}
 use borrow.Author.Tests.{ltb-true, lt-ltb, eqb-true, eq-eqb}
 use Rattle.verdict.specs.Verdict.{is_accepted}
 use Rattle.verdict.proofs.Verdicts.{is_accepted_accepted}
-use Rattle.lists.specs.Lists.{every}
+use Rattle.std.specs.List.{list_all}
 use Rattle.lists.proofs.Laws.{and_fst, and_snd, and_true}
 use Rattle.plan.specs.Plan.{Plan}
 use Rattle.operation.specs.Operation.{Operation}
@@ -26,15 +26,13 @@ abbrev is_word : ℕ → Bool
 is_word w = ltb w (2 ^ 32)
 
 pub is_operation : Plan → Operation → Bool
-is_operation p o = eqb (length o.params) 4 && (every is_word o.params && is_accepted (operation_verdict p o))
+is_operation p o = eqb (length o.params) 4 && (list_all is_word o.params && is_accepted (operation_verdict p o))
 
-all_words : (ps : List ℕ) → ((i : ℕ) → get_or ps i 0 < 2 ^ 32) → every is_word ps ≡ true
-unfolding every
+all_words : (ps : List ℕ) → ((i : ℕ) → get_or ps i 0 < 2 ^ 32) → list_all is_word ps ≡ true
 all_words [] h = refl
-all_words (w ∷ ps) h = and_true (is_word w) (every is_word ps) (lt-ltb w (2 ^ 32) (h 0)) (all_words ps (λ i. h (suc i)))
+all_words (w ∷ ps) h = and_true (is_word w) (list_all is_word ps) (lt-ltb w (2 ^ 32) (h 0)) (all_words ps (λ i. h (suc i)))
 
-each_word : (ps : List ℕ) → every is_word ps ≡ true → (i : ℕ) → get_or ps i 0 < 2 ^ 32
-unfolding every
+each_word : (ps : List ℕ) → list_all is_word ps ≡ true → (i : ℕ) → get_or ps i 0 < 2 ^ 32
 each_word [] e i = omega arith
 each_word (w ∷ ps) e zero = ltb-true w (2 ^ 32) (and_fst _ _ e)
 each_word (w ∷ ps) e (suc i) = each_word ps (and_snd (is_word w) _ e) i
@@ -46,8 +44,8 @@ module _ (p : Plan) (o : Operation) where
       let r = and_snd (eqb (length o.params) 4) _ e in
       record {
         four = eqb-true (length o.params) 4 (and_fst _ _ e);
-        words = each_word o.params (and_fst (every is_word o.params) _ r);
-        passes = is_accepted_accepted (operation_verdict p o) (and_snd (every is_word o.params) _ r);
+        words = each_word o.params (and_fst (list_all is_word o.params) _ r);
+        passes = is_accepted_accepted (operation_verdict p o) (and_snd (list_all is_word o.params) _ r);
       }
 
   pub decided_of_is : IsOperation p o → is_operation p o ≡ true

@@ -7,7 +7,8 @@ use mathlib.Core.List.{List, [], ◌∷◌, ◌++◌, map}
 use native.Mathlib.Omega.{arith}
 use lib.ListN.{length}
 use Rattle.verdict.specs.Verdict.{accepted, is_accepted}
-use Rattle.lists.specs.Lists.{every, All}
+use Rattle.std.specs.List.{list_all}
+use Rattle.lists.specs.Lists.{All}
 use Rattle.lists.proofs.Laws.{and_true}
 use Rattle.plan.specs.Plan.{Plan}
 use Rattle.plan.specs.Decode.{plan_of}
@@ -24,8 +25,7 @@ use Rattle.visits.proofs.OwnUpdates.{updates_count, all_fit}
 use Rattle.history.proofs.Operations.{Runs}
 
 -- requests that run pass questions 7 and 8
-all_operations : (p : Plan) (q : List Request) → All (Runs p) q → every (is_operation p) q ≡ true
-unfolding every
+all_operations : (p : Plan) (q : List Request) → All (Runs p) q → list_all (is_operation p) q ≡ true
 all_operations p [] k = refl
 all_operations p (r ∷ q) k = and_true (is_operation p r) _ (ap is_accepted k.0.passes) (all_operations p q k.1)
 

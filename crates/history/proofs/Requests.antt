@@ -11,7 +11,8 @@ use lib.Seq.{length-take-le}
 use borrow.Author.Tests.{ltb-true, eqb-true, le-leb, eq-eqb}
 use Rattle.verdict.specs.Verdict.{Verdict, accepted, refused, is_accepted}
 use Rattle.verdict.proofs.Verdicts.{ask_then_accepted}
-use Rattle.lists.specs.Lists.{every, All}
+use Rattle.std.specs.List.{list_all}
+use Rattle.lists.specs.Lists.{All}
 use Rattle.lists.proofs.Laws.{and_snd, and_true, every_member, member_every, All_mem, mem_All}
 use Rattle.plan.specs.Plan.{Plan}
 use Rattle.plan.specs.Decode.{plan_of}
@@ -70,9 +71,9 @@ module _ (p : Plan) (waiting : List Request) (r : Request) where
       mem_All (Runs p) (join_queue (is_urgent p) waiting r)
       (λ t m. All_mem (Runs p) t (r ∷ waiting) (join_member (is_urgent p) waiting r t m) (k, h))
 
-  join_fits : (desk : ℕ) → every (waits_here p desk) waiting ≡ true → waits_here p desk r ≡ true
+  join_fits : (desk : ℕ) → list_all (waits_here p desk) waiting ≡ true → waits_here p desk r ≡ true
       → queue_fits p desk (join_queue (is_urgent p) waiting r) ≡ true
-  unfolding queue_fits every
+  unfolding queue_fits
   join_fits desk h k =
       and_true _ _
       (member_every (waits_here p desk) (join_queue (is_urgent p) waiting r)

@@ -9,7 +9,8 @@ use native.Mathlib.Omega.{arith}
 use lib.Dec.{ltb, leb}
 use lib.ListN.{length}
 use borrow.Author.Tests.{leb-true, eqb-true, lt-ltb, eq-eqb}
-use Rattle.lists.specs.Lists.{every, All}
+use Rattle.std.specs.List.{list_all}
+use Rattle.lists.specs.Lists.{All}
 use Rattle.lists.proofs.Laws.{and_fst, and_snd, and_true}
 use Rattle.plan.specs.Decode.{plan_of}
 use Rattle.queue.specs.declared.record.Request.{Request}
@@ -34,7 +35,7 @@ pub record Six (ws : List ℕ) (h : Holding) : Type 0 where
   pub below : ltb h.state.desk (plan_of ws).desks ≡ true
   pub few : h.state.waiting ≤ 32
   pub turn : h.state.awaited % (plan_of ws).desks ≡ h.state.desk
-  pub each : every (waits_here (plan_of ws) h.state.desk) (waiting_at h) ≡ true
+  pub each : list_all (waits_here (plan_of ws) h.state.desk) (waiting_at h) ≡ true
   pub ordered : urgent_lead (is_urgent (plan_of ws)) (waiting_at h) ≡ true
 
 pub six : (ws : List ℕ) (h : Holding) → desk_fits (plan_of ws) h.state h.queue ≡ true → Six ws h

@@ -8,7 +8,7 @@ use lib.Dec.{ltb}
 use lib.ListN.{length, get_or}
 use borrow.Author.Tests.{ltb-true, lt-ltb}
 use Rattle.verdict.proofs.Verdicts.{ask_accepted, ask_then_accepted}
-use Rattle.lists.specs.Lists.{every}
+use Rattle.std.specs.List.{list_all}
 use Rattle.lists.proofs.Laws.{and_snd}
 use Rattle.plan.specs.Plan.{Plan, transaction_at}
 use Rattle.operation.specs.Operation.{Operation, operation, transaction_of}
@@ -27,7 +27,7 @@ module _ (p : Plan) (o : Operation) (i : IsOperation p o) where
       ask_accepted 8 (parameters_pass (transaction_of p o) o.params)
       (ask_then_accepted 7 (transaction_exists p o.transaction) _ i.passes).1
 
-  pub rows_passed : every (row_in_range o.params) (transaction_of p o).steps ≡ true
+  pub rows_passed : list_all (row_in_range o.params) (transaction_of p o).steps ≡ true
   unfolding parameters_pass
   rows_passed = and_snd (unused_zero (transaction_of p o).params o.params) _ parameters_passed
 

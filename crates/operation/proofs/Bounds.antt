@@ -9,7 +9,7 @@ use native.Mathlib.Omega.{arith}
 use lib.ListN.{get_or, take, drop}
 use lib.Dec.{leb, eqb}
 use borrow.Author.Tests.{leb-true}
-use Rattle.lists.specs.Lists.{every}
+use Rattle.std.specs.List.{list_all}
 use Rattle.lists.proofs.Laws.{and_fst, and_snd}
 use Rattle.word.specs.Field.{kind_of, step_count, table_field, column_field, row_source, fixed_row, operand_source, fixed_number}
 use Rattle.plan.specs.Plan.{Source, param, fixed, Access, reads, writes, Action, Step, cell, operand, tells}
@@ -68,9 +68,9 @@ unfolding row_in_range
 cell_low ps a t k (param i) f e = let h = leb-true (get_or ps i 0) 31 e in omega arith
 cell_low ps a t k (fixed v) f e = omega arith
 
-pub cells_low : (a : Access) (ps : List ℕ) (ss : List Step) → AllFit ss → every (row_in_range ps) ss ≡ true
+pub cells_low : (a : Access) (ps : List ℕ) (ss : List Step) → AllFit ss → list_all (row_in_range ps) ss ≡ true
     → (c : ℕ) → Memᴰ c (cells_named a ps ss) → c < 1024
-unfolding cells_named every
+unfolding cells_named
 cells_low a ps [] f e c m = absurd (Memᴰ.not-nil m)
 cells_low a ps (operand g v ∷ ss) f e c m =
     cells_low a ps ss (λ st h. f st (Memᴰ.tail h)) (and_snd (row_in_range ps (operand g v)) _ e) c m

@@ -5,7 +5,7 @@ use mathlib.Core.Bool.{true, false, ◌&&◌}
 use mathlib.Core.List.{List}
 use Prim.Native.Nat.{ℕ, ◌+◌, ◌≤◌, ◌<◌}
 use lib.ListN.{get_or}
-use Rattle.lists.specs.Lists.{every}
+use Rattle.std.specs.List.{list_all}
 use Rattle.word.specs.Field.{parameter_count}
 use Rattle.plan.specs.Decode.{step_of}
 use Rattle.plan.specs.Place.{StandsAt, transaction_from, steps_at, step_word}
@@ -16,7 +16,7 @@ module _ (ws : List ℕ) (at : ℕ) (ps : List ℕ) where
   -- at step s: the rows of the steps from s on are still to be asked
   pub record Asking (s : ℕ) : Type 0 where
     pub whole : StandsAt ws at
-    pub rest : parameters_pass (transaction_from ws at) ps ≡ every (row_in_range ps) (steps_from ws at s)
+    pub rest : parameters_pass (transaction_from ws at) ps ≡ list_all (row_in_range ps) (steps_from ws at s)
 
   pub unused_fails : unused_zero (parameter_count (get_or ws at 0)) ps ≡ false → parameters_pass (transaction_from ws at) ps ≡ false
   unfolding parameters_pass
@@ -28,8 +28,7 @@ module _ (ws : List ℕ) (at : ℕ) (ps : List ℕ) where
 
   module _ (s : ℕ) (q : Asking s) where
     rest_here : s < steps_at ws at → (w : ℕ) → w ≡ step_word ws at s
-        → parameters_pass (transaction_from ws at) ps ≡ (row_in_range ps (step_of w) && every (row_in_range ps) (steps_from ws at (s + 1)))
-    unfolding every
+        → parameters_pass (transaction_from ws at) ps ≡ (row_in_range ps (step_of w) && list_all (row_in_range ps) (steps_from ws at (s + 1)))
     rest_here h w e = q.rest ∙ rw (steps_cons ws at s q.whole h w e)
 
     pub asking_fails : s < steps_at ws at → (w : ℕ) → w ≡ step_word ws at s → row_in_range ps (step_of w) ≡ false
@@ -40,5 +39,4 @@ module _ (ws : List ℕ) (at : ℕ) (ps : List ℕ) where
     asking_next h w e f = record { whole = q.whole; rest = rest_here h w e ∙ rw f }
 
     pub asking_done : steps_at ws at ≤ s → parameters_pass (transaction_from ws at) ps ≡ true
-    unfolding every
     asking_done h = q.rest ∙ rw (steps_none ws at s h)

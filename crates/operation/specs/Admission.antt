@@ -1,7 +1,7 @@
 -- Questions 7 and 8: which requests are operations.
 use Rattle.std.specs.Prelude.{ℕ, ◌^◌, ◌<◌, ◌≡◌, Bool, true, ◌&&◌, List, length, get_or, drop, ltb, leb, eqb}
 use Rattle.verdict.specs.Verdict.{Verdict, accepted, ask, ◌then◌}
-use Rattle.lists.specs.Lists.{every}
+use Rattle.std.specs.List.{list_all}
 use Rattle.plan.specs.Plan.{param, fixed, Step, cell, operand, tells, Transaction, Plan}
 use Rattle.operation.specs.Operation.{Operation, transaction_of}
 
@@ -11,7 +11,7 @@ transaction_exists p k = ltb k (length p.transactions)
 
 -- 8: "Are unused parameters zero", those whose number is not below the count
 unfoldable pub unused_zero : ℕ → List ℕ → Bool
-unused_zero count ps = every (λ w. eqb w 0) (drop count ps)
+unused_zero count ps = list_all (λ w. eqb w 0) (drop count ps)
 
 -- 8: "and those used as rows at most 31?"
 unfoldable pub row_in_range : List ℕ → Step → Bool
@@ -21,7 +21,7 @@ row_in_range ps (operand f v) = true
 row_in_range ps tells = true
 
 unfoldable pub parameters_pass : Transaction → List ℕ → Bool
-parameters_pass t ps = unused_zero t.params ps && every (row_in_range ps) t.steps
+parameters_pass t ps = unused_zero t.params ps && list_all (row_in_range ps) t.steps
 
 unfoldable pub operation_verdict : Plan → Operation → Verdict
 operation_verdict p o = ask 7 (transaction_exists p o.transaction) then ask 8 (parameters_pass (transaction_of p o) o.params)

@@ -9,7 +9,7 @@ use lib.ListN.{length}
 use borrow.Author.Tests.{le-leb, lt-leb, not-true}
 use Rattle.verdict.specs.Verdict.{Verdict, accepted, refused, if_accepted}
 use Rattle.verdict.proofs.Verdicts.{then_accepted}
-use Rattle.lists.specs.Lists.{every, some}
+use Rattle.std.specs.List.{list_all, list_any}
 use Rattle.lists.proofs.Laws.{and_fst, and_snd}
 use Rattle.plan.specs.Plan.{Transaction}
 use Rattle.plan.specs.Decode.{is_open, plan_of}
@@ -111,8 +111,8 @@ refuses_more ws e h = rw (e, lt-leb (length (open_transactions (plan_of ws).tran
 
 -- ---- with no open field
 
-none_open : (ts : List Transaction) → every decided ts ≡ true → open_transactions ts ≡ []
-unfolding every open_transactions
+none_open : (ts : List Transaction) → list_all decided ts ≡ true → open_transactions ts ≡ []
+unfolding open_transactions
 none_open [] e = refl
 none_open (t ∷ ts) e = rw (and_fst (decided t) _ e) (none_open ts (and_snd (decided t) _ e))
 
@@ -124,7 +124,7 @@ nothing_open ws e =
     (c.0, c.1, go (choice_verdict ws))
   where
     same : fill (best ws) ws ≡ ws
-    same = fill_nothing_open (best ws) ws (not-true (some is_open ws) (sym (open_found ws (accepted_passes ws e)) ∙ plan_decided ws e))
+    same = fill_nothing_open (best ws) ws (not-true (list_any is_open ws) (sym (open_found ws (accepted_passes ws e)) ∙ plan_decided ws e))
 
     go : (v : Verdict) → if_accepted v (fill (best ws) ws) (λ question. ws) ≡ ws
     go accepted = same

@@ -8,7 +8,7 @@ use native.Mathlib.Omega.{arith}
 use lib.ListN.{length, get_or, take, drop}
 use lib.Seq.{get_or-drop}
 use Rattle.verdict.specs.Verdict.{accepted}
-use Rattle.lists.specs.Lists.{every, some}
+use Rattle.std.specs.List.{list_all, list_any}
 use Rattle.lists.proofs.Laws.{and_fst, and_snd}
 use Rattle.word.specs.Field.{parameter_count}
 use Rattle.plan.specs.Decode.{is_open, head_of}
@@ -44,12 +44,12 @@ unfolding open_words
 open_words_closed w ws e = rw e
 
 -- where no word is open, none is filled
-pub fill_nothing_open : (fs ws : List ℕ) → some is_open ws ≡ false → fill fs ws ≡ ws
-unfolding some fill
+pub fill_nothing_open : (fs ws : List ℕ) → list_any is_open ws ≡ false → fill fs ws ≡ ws
+unfolding fill
 fill_nothing_open fs [] e = refl
 fill_nothing_open fs (w ∷ ws) e = go (is_open w) refl e (fill_nothing_open fs ws)
   where
-    go : (b : Bool) → is_open w ≡ b → (b || some is_open ws) ≡ false → (some is_open ws ≡ false → fill fs ws ≡ ws) → fill fs (w ∷ ws)
+    go : (b : Bool) → is_open w ≡ b → (b || list_any is_open ws) ≡ false → (list_any is_open ws ≡ false → fill fs ws ≡ ws) → fill fs (w ∷ ws)
         ≡ w ∷ ws
     go true q h rest = absurd (false≢true (sym h))
     go false q h rest = fill_closed fs w ws q ∙ ap (λ (l : List ℕ). w ∷ l) (rest h)
@@ -86,9 +86,9 @@ module _ (w : ℕ) (ws fs : List ℕ) (c : Candidates (w ∷ ws) fs) where
 
 -- ---- the steps' words are as they were
 
-pub fill_steps : (n : ℕ) (ws fs : List ℕ) → every step_formed (take n ws) ≡ true
+pub fill_steps : (n : ℕ) (ws fs : List ℕ) → list_all step_formed (take n ws) ≡ true
     → (take n (fill fs ws) ≡ take n ws) × (drop n (fill fs ws) ≡ fill fs (drop n ws)) × (open_words (drop n ws) ≡ open_words ws)
-unfolding every fill
+unfolding fill
 fill_steps zero ws fs s = (refl, refl, refl)
 fill_steps (suc n) [] fs s = (refl, refl, refl)
 fill_steps (suc n) (w ∷ ws) fs s =

@@ -9,7 +9,7 @@ use lib.Dec.{leb}
 use lib.ListN.{length, get_or, take, drop}
 use Rattle.verdict.specs.Verdict.{accepted}
 use Rattle.verdict.proofs.Verdicts.{ask_then_accepted}
-use Rattle.lists.specs.Lists.{every}
+use Rattle.std.specs.List.{list_all}
 use Rattle.lists.proofs.Laws.{and_fst, and_snd, and_true}
 use Rattle.word.specs.Field.{head_transactions, parameter_count, step_count, partitioning_field}
 use Rattle.plan.specs.Plan.{Transaction}
@@ -79,7 +79,7 @@ module _ (n w : ℕ) (ws fs : List ℕ) (e : well_formed (suc n) (w ∷ ws) ≡ 
       ∙ parts_formed n (put_field (get_or fs 0 0) w) (fill (fields_behind fs w) ws) (record {
         form = put_formed (get_or fs 0 0) w here parts.form;
         fits = rw (put_steps (get_or fs 0 0) w here, filled_length (fields_behind fs w) ws) parts.fits;
-        steps = ap (every step_formed) taken ∙ parts.steps;
+        steps = ap (list_all step_formed) taken ∙ parts.steps;
         tells_few = ap (λ (l : List ℕ). leb (tell_count (map step_of l)) most_tells) taken ∙ parts.tells_few;
         rest = ap (well_formed n) dropped ∙ rest;
       })
@@ -114,24 +114,24 @@ fill_well_formed (suc n) (w ∷ ws) fs e c =
     (fill_well_formed n (drop (step_count w) ws) (fields_behind fs w) (formed_parts n w ws e).rest (candidates_past n w ws fs e c))
 
 fill_exists : (n : ℕ) (ws fs : List ℕ) → well_formed n ws ≡ true → Candidates ws fs
-    → every parameters_exist (transactions_of n ws) ≡ true → every parameters_exist (transactions_of n (fill fs ws)) ≡ true
-unfolding well_formed fill transactions_of every
+    → list_all parameters_exist (transactions_of n ws) ≡ true → list_all parameters_exist (transactions_of n (fill fs ws)) ≡ true
+unfolding well_formed fill transactions_of
 fill_exists zero ws fs e c q = refl
 fill_exists (suc n) [] fs e c q = refl
 fill_exists (suc n) (w ∷ ws) fs e c q =
-    ap (every parameters_exist) (fill_transactions_lem n w ws fs e c)
+    ap (list_all parameters_exist) (fill_transactions_lem n w ws fs e c)
     ∙ and_true (parameters_exist (filled_transaction fs w ws)) _
     (first_exists n w ws fs e c (and_fst (parameters_exist (transaction_of w ws)) _ q))
     (fill_exists n (drop (step_count w) ws) (fields_behind fs w) (formed_parts n w ws e).rest (candidates_past n w ws fs e c)
     (and_snd (parameters_exist (transaction_of w ws)) _ q))
 
 fill_decided : (n : ℕ) (ws fs : List ℕ) → well_formed n ws ≡ true → Candidates ws fs
-    → every decided (transactions_of n (fill fs ws)) ≡ true
-unfolding well_formed fill transactions_of every
+    → list_all decided (transactions_of n (fill fs ws)) ≡ true
+unfolding well_formed fill transactions_of
 fill_decided zero ws fs e c = refl
 fill_decided (suc n) [] fs e c = refl
 fill_decided (suc n) (w ∷ ws) fs e c =
-    ap (every decided) (fill_transactions_lem n w ws fs e c)
+    ap (list_all decided) (fill_transactions_lem n w ws fs e c)
     ∙ and_true (decided (filled_transaction fs w ws)) _
     (first_decided n w ws fs e c)
     (fill_decided n (drop (step_count w) ws) (fields_behind fs w) (formed_parts n w ws e).rest (candidates_past n w ws fs e c))

@@ -9,7 +9,7 @@ use native.Mathlib.Omega.{arith}
 use lib.ListN.{take, drop, replicate}
 use borrow.Author.Tests.{eq-eqb}
 use Rattle.verdict.specs.Verdict.{accepted}
-use Rattle.lists.specs.Lists.{every, some}
+use Rattle.std.specs.List.{list_all, list_any}
 use Rattle.lists.proofs.Laws.{and_fst, and_snd}
 use Rattle.word.specs.Field.{kind_of, step_count, weight_field, head_desks, head_transactions}
 use Rattle.plan.specs.Plan.{Plan}
@@ -35,16 +35,16 @@ use Rattle.partitioning.proofs.SharedRows.{word_shares_lem}
 
 module _ (s : List ℕ) where
   -- along steps: the weight at hand is counted once if one of them shares
-  cost_steps : (m : ℕ) (ws : List ℕ) (g c : ℕ) → every step_formed (take m ws) ≡ true
-      → cost_from s g c ws ≡ cond (some (word_shares s) (take m ws)) (cost_from s 0 (c + g) (drop m ws)) (cost_from s g c (drop m ws))
-  unfolding every some cost_from
+  cost_steps : (m : ℕ) (ws : List ℕ) (g c : ℕ) → list_all step_formed (take m ws) ≡ true
+      → cost_from s g c ws ≡ cond (list_any (word_shares s) (take m ws)) (cost_from s 0 (c + g) (drop m ws)) (cost_from s g c (drop m ws))
+  unfolding cost_from
   cost_steps zero ws g c f = refl
   cost_steps (suc m) [] g c f = refl
   cost_steps (suc m) (w ∷ ws) g c f =
       rw (step_no_transaction w (and_fst (step_formed w) _ f))
-      (go (word_shares s w) (some (word_shares s) (take m ws)) (cost_steps m ws 0 (c + g) rest) (cost_steps m ws g c rest))
+      (go (word_shares s w) (list_any (word_shares s) (take m ws)) (cost_steps m ws 0 (c + g) rest) (cost_steps m ws g c rest))
     where
-      rest : every step_formed (take m ws) ≡ true
+      rest : list_all step_formed (take m ws) ≡ true
       rest = and_snd (step_formed w) _ f
 
       go : (a b : Bool) → cost_from s 0 (c + g) ws ≡ cond b (cost_from s 0 (c + g + 0) (drop m ws)) (cost_from s 0 (c + g) (drop m ws))
@@ -64,8 +64,7 @@ module _ (s : List ℕ) where
   cost_begins (suc m) (w ∷ ws) g c f = rw (eq-eqb (kind_of w) 2 (transaction_kind w (formed_parts m w ws f).form))
 
   module _ (p : Plan) (shares : (w : ℕ) → step_formed w ≡ true → word_shares s w ≡ writes_shared p (step_of w)) where
-    some_shares : (ws : List ℕ) → every step_formed ws ≡ true → some (word_shares s) ws ≡ some (writes_shared p) (map step_of ws)
-    unfolding every some
+    some_shares : (ws : List ℕ) → list_all step_formed ws ≡ true → list_any (word_shares s) ws ≡ list_any (writes_shared p) (map step_of ws)
     some_shares [] f = refl
     some_shares (w ∷ ws) f =
         ap₂ ◌||◌ (shares w (and_fst (step_formed w) _ f)) (some_shares ws (and_snd (step_formed w) _ f))
@@ -83,7 +82,7 @@ module _ (s : List ℕ) where
         rw (eq-eqb (kind_of w) 2 (transaction_kind w parts.form))
         (cost_steps (step_count w) ws g c parts.steps
         ∙ ap (λ (b : Bool). cond b (cost_from s 0 (c + g) l) (cost_from s g c l)) (some_shares (take (step_count w) ws) parts.steps)
-        ∙ go (some (writes_shared p) (map step_of (take (step_count w) ws))) (cost_transactions m l (c + g) parts.rest)
+        ∙ go (list_any (writes_shared p) (map step_of (take (step_count w) ws))) (cost_transactions m l (c + g) parts.rest)
         (cost_begins m l g c parts.rest ∙ cost_transactions m l c parts.rest))
       where
         go : (b : Bool) → cost_from s 0 (c + weight_field w) (drop (step_count w) ws)
@@ -149,7 +148,7 @@ module _ (ws : List ℕ) (i : ℕ) (e : open_plan_verdict ws ≡ accepted) where
       ∙ ap (λ (n : ℕ). word_shares (shared_rows n touched) w) (sym (desk_count_lem filled))
       ∙ word_shares_lem (plan_of filled) (drop 1 filled) transactions 14 (omega (arith, desk_count_lem filled, gives.desks_high))
       (omega (arith, desk_count_lem filled, gives.desks_low)) filled_transactions gives.form
-      (subst (λ ts. every decided ts ≡ true) filled_transactions (plan_decided filled filled_plan)) touched holds_filled w f
+      (subst (λ ts. list_all decided ts ≡ true) filled_transactions (plan_decided filled filled_plan)) touched holds_filled w f
 
   pub filling_cost : cost_from (shared_rows (head_desks (head_of ws)) touched) 0 0 ws ≡ cost_by ws i
   unfolding cost_by plan_of

@@ -12,7 +12,8 @@ use lib.Count.{ones}
 use lib.Dec.{ltb, leb, eqb}
 use lib.ListN.{get_or}
 use borrow.Author.Tests.{eq-eqb, ne_eqb, eqb-true, leb-true, leb-false}
-use Rattle.lists.specs.Lists.{every, some_below}
+use Rattle.std.specs.List.{list_all}
+use Rattle.lists.specs.Lists.{some_below}
 use Rattle.lists.proofs.Laws.{and_fst, and_snd, and_true, bool_ext, by_same, get_or_tabulate}
 use Rattle.lists.proofs.Laws.{some_below_number, number_some_below, some_below_none}
 use Rattle.word.specs.Field.{kind_of, table_field, column_field}
@@ -74,7 +75,7 @@ many_mask n = go (eqb n 1)
 
 module _ (p : Plan) (ws : List ℕ) (m q : ℕ) (few : p.desks ≤ 8) (some_desk : 1 ≤ p.desks)
     (is : p.transactions ≡ transactions_of m ws) (form : well_formed m ws ≡ true)
-    (all : every decided (transactions_of m ws) ≡ true) where
+    (all : list_all decided (transactions_of m ws) ≡ true) where
   -- a cell is shared as the sets have its row
   shared_by : (a r c : ℕ) → InTableColumn a r c
       → shared p c ≡ several_by p.desks (r % p.desks) (closed_puts a r q ws) (closed_puts (32 + a) r q ws) (closed_puts (64 + a) r q ws)

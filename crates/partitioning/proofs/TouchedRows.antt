@@ -9,7 +9,7 @@ use native.Mathlib.Omega.{arith}
 use lib.Dec.{ltb, leb, eqb}
 use lib.ListN.{take, drop}
 use borrow.Author.Tests.{eq-eqb, ne_eqb, eqb-true, leb-true, leb-false}
-use Rattle.lists.specs.Lists.{every, some}
+use Rattle.std.specs.List.{list_all, list_any}
 use Rattle.lists.proofs.Laws.{and_fst, and_snd, by_same, or_interchange}
 use Rattle.word.specs.Field.{kind_of, table_field, column_field, row_source, fixed_row, step_count, partitioning_field}
 use Rattle.plan.specs.Plan.{Source, param, fixed, by_param}
@@ -177,34 +177,33 @@ module _ (n q r a c d : ℕ) (i : InTableColumn a r c) where
 
 module _ (n r a c d : ℕ) (i : InTableColumn a r c) where
   steps_touched : (q : ℕ) → Decided q → (ws : List ℕ)
-      → some (λ s. step_touches n (part_by q) s c d) (map step_of ws)
-      ≡ touched_by n (r % n) (some (λ w. puts a q w r) ws) (some (λ w. puts (32 + a) q w r) ws) (some (λ w. puts (64 + a) q w r) ws) d
-  unfolding some
+      → list_any (λ s. step_touches n (part_by q) s c d) (map step_of ws)
+      ≡ touched_by n (r % n) (list_any (λ w. puts a q w r) ws) (list_any (λ w. puts (32 + a) q w r) ws) (list_any (λ w. puts (64 + a) q w r) ws) d
   steps_touched q h [] = refl
   steps_touched q h (w ∷ ws) =
       ap₂ ◌||◌ (step_touched n q r a c d i w h) (steps_touched q h ws)
-      ∙ sym (touched_or n (r % n) d (puts a q w r) (some (λ w. puts a q w r) ws) (puts (32 + a) q w r) (some (λ w. puts (32 + a) q w r) ws)
-      (puts (64 + a) q w r) (some (λ w. puts (64 + a) q w r) ws))
+      ∙ sym (touched_or n (r % n) d (puts a q w r) (list_any (λ w. puts a q w r) ws) (puts (32 + a) q w r) (list_any (λ w. puts (32 + a) q w r) ws)
+      (puts (64 + a) q w r) (list_any (λ w. puts (64 + a) q w r) ws))
 
 -- a step's word is no transaction's
 pub step_no_transaction : (w : ℕ) → step_formed w ≡ true → is_transaction w ≡ false
 step_no_transaction w f = ne_eqb (kind_of w) 2 (λ e. omega (arith, step_kind_low w f))
 
-steps_put : (k r q m : ℕ) (ws : List ℕ) → every step_formed (take m ws) ≡ true
-    → closed_puts k r q ws ≡ (some (λ w. puts k q w r) (take m ws) || closed_puts k r q (drop m ws))
-unfolding some every closed_puts
+steps_put : (k r q m : ℕ) (ws : List ℕ) → list_all step_formed (take m ws) ≡ true
+    → closed_puts k r q ws ≡ (list_any (λ w. puts k q w r) (take m ws) || closed_puts k r q (drop m ws))
+unfolding closed_puts
 steps_put k r q zero ws f = refl
 steps_put k r q (suc m) [] f = refl
 steps_put k r q (suc m) (w ∷ ws) f =
     rw (step_no_transaction w (and_fst (step_formed w) _ f))
     (ap (λ (b : Bool). puts k q w r || b) (steps_put k r q m ws (and_snd (step_formed w) _ f))
-    ∙ sym (or_assoc (puts k q w r) (some (λ w. puts k q w r) (take m ws)) (closed_puts k r q (drop m ws))))
+    ∙ sym (or_assoc (puts k q w r) (list_any (λ w. puts k q w r) (take m ws)) (closed_puts k r q (drop m ws))))
 
 module _ (n r a c d : ℕ) (i : InTableColumn a r c) where
-  pub transactions_touched : (m : ℕ) (ws : List ℕ) (q : ℕ) → well_formed m ws ≡ true → every decided (transactions_of m ws) ≡ true
+  pub transactions_touched : (m : ℕ) (ws : List ℕ) (q : ℕ) → well_formed m ws ≡ true → list_all decided (transactions_of m ws) ≡ true
       → transactions_touch n (transactions_of m ws) c d
       ≡ touched_by n (r % n) (closed_puts a r q ws) (closed_puts (32 + a) r q ws) (closed_puts (64 + a) r q ws) d
-  unfolding some every well_formed transactions_of closed_puts
+  unfolding well_formed transactions_of closed_puts
   transactions_touched zero [] q f e = refl
   transactions_touched zero (w ∷ ws) q f e = absurd (false≢true f)
   transactions_touched (suc m) [] q f e = absurd (false≢true f)
@@ -222,5 +221,5 @@ module _ (n r a c d : ℕ) (i : InTableColumn a r c) where
         steps_put (64 + a) r p (step_count w) ws formed,
       )
       (ap₂ ◌||◌ (steps_touched n r a c d i p g s) (transactions_touched m l p parts.rest (and_snd (part_decided (part_by p)) _ e))
-      ∙ sym (touched_or n (r % n) d (some (λ w. puts a p w r) s) (closed_puts a r p l) (some (λ w. puts (32 + a) p w r) s)
-      (closed_puts (32 + a) r p l) (some (λ w. puts (64 + a) p w r) s) (closed_puts (64 + a) r p l)))
+      ∙ sym (touched_or n (r % n) d (list_any (λ w. puts a p w r) s) (closed_puts a r p l) (list_any (λ w. puts (32 + a) p w r) s)
+      (closed_puts (32 + a) r p l) (list_any (λ w. puts (64 + a) p w r) s) (closed_puts (64 + a) r p l)))

@@ -5,7 +5,8 @@
 --     HasGlobalMeans, CostMeans     that the computed test and cost are those over all operations
 use Rattle.std.specs.Prelude.{ℕ, suc, ◌+◌, ◌<◌, ◌≡◌, Bool, true, ◌&&◌, cond, List, [], ◌∷◌, ◌↔◌, length}
 use Rattle.verdict.specs.Verdict.{accepted}
-use Rattle.lists.specs.Lists.{some, some_below}
+use Rattle.std.specs.List.{list_any}
+use Rattle.lists.specs.Lists.{some_below}
 use Rattle.plan.specs.Plan.{Step, Transaction, Plan, transaction_at}
 use Rattle.plan.specs.Decode.{plan_of}
 use Rattle.plan.specs.Admission.{plan_verdict}
@@ -45,7 +46,7 @@ unfoldable pub writes_shared : Plan → Step → Bool
 writes_shared p s = some_below store_size (λ c. step_writes s c && shared p c)
 
 abbrev pub has_global : Plan → Transaction → Bool
-has_global p t = some (writes_shared p) t.steps
+has_global p t = list_any (writes_shared p) t.steps
 
 unfoldable pub global_weight : Plan → List Transaction → ℕ
 global_weight p [] = 0

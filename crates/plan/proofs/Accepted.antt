@@ -9,7 +9,7 @@ use lib.ListN.{length, drop}
 use borrow.Author.Tests.{leb-true, eqb-true}
 use Rattle.verdict.specs.Verdict.{accepted, ask}
 use Rattle.verdict.proofs.Verdicts.{then_accepted, ask_accepted, ask_then_accepted}
-use Rattle.lists.specs.Lists.{every}
+use Rattle.std.specs.List.{list_all}
 use Rattle.lists.proofs.Laws.{and_fst, and_snd}
 use Rattle.word.specs.Field.{kind_of, head_desks, head_transactions, step_count}
 use Rattle.plan.specs.Decode.{head_of, transactions_of, plan_of}
@@ -30,7 +30,7 @@ pub record Accepted (ws : List ℕ) : Type 0 where
   -- 3
   pub form : well_formed (head_transactions (head_of ws)) (drop 1 ws) ≡ true
   -- 4
-  pub names : every parameters_exist (transactions_of (head_transactions (head_of ws)) (drop 1 ws)) ≡ true
+  pub names : list_all parameters_exist (transactions_of (head_transactions (head_of ws)) (drop 1 ws)) ≡ true
 
 pub open_accepted_gives : (ws : List ℕ) → open_plan_verdict ws ≡ accepted → Accepted ws
 unfolding open_plan_verdict transactions_verdict has_head counts_in_range
@@ -50,12 +50,12 @@ open_accepted_gives ws e =
       transactions_low = leb-true 1 (head_transactions (head_of ws)) (and_fst _ _ transactions);
       transactions_high = leb-true (head_transactions (head_of ws)) 32 (and_snd (leb 1 (head_transactions (head_of ws))) _ transactions);
       form = q3.0;
-      names = ask_accepted 4 (every parameters_exist (transactions_of (head_transactions (head_of ws)) (drop 1 ws))) q3.1;
+      names = ask_accepted 4 (list_all parameters_exist (transactions_of (head_transactions (head_of ws)) (drop 1 ws))) q3.1;
     }
 
 pub accepted_by : (ws : List ℕ) → has_head ws ≡ true → counts_in_range (head_of ws) ≡ true
     → well_formed (head_transactions (head_of ws)) (drop 1 ws) ≡ true
-    → every parameters_exist (transactions_of (head_transactions (head_of ws)) (drop 1 ws)) ≡ true → open_plan_verdict ws ≡ accepted
+    → list_all parameters_exist (transactions_of (head_transactions (head_of ws)) (drop 1 ws)) ≡ true → open_plan_verdict ws ≡ accepted
 unfolding open_plan_verdict transactions_verdict
 accepted_by ws q1 q2 q3 q4 = rw (q1, q2, q3, q4)
 
@@ -64,15 +64,15 @@ accepted_by ws q1 q2 q3 q4 = rw (q1, q2, q3, q4)
 module _ (ws : List ℕ) where
   pub accepted_passes : plan_verdict ws ≡ accepted → open_plan_verdict ws ≡ accepted
   unfolding plan_verdict
-  accepted_passes e = (then_accepted (open_plan_verdict ws) (ask 17 (every decided (plan_of ws).transactions)) e).0
+  accepted_passes e = (then_accepted (open_plan_verdict ws) (ask 17 (list_all decided (plan_of ws).transactions)) e).0
 
-  pub plan_decided : plan_verdict ws ≡ accepted → every decided (plan_of ws).transactions ≡ true
+  pub plan_decided : plan_verdict ws ≡ accepted → list_all decided (plan_of ws).transactions ≡ true
   unfolding plan_verdict
   plan_decided e =
-      ask_accepted 17 (every decided (plan_of ws).transactions)
-      (then_accepted (open_plan_verdict ws) (ask 17 (every decided (plan_of ws).transactions)) e).1
+      ask_accepted 17 (list_all decided (plan_of ws).transactions)
+      (then_accepted (open_plan_verdict ws) (ask 17 (list_all decided (plan_of ws).transactions)) e).1
 
-  pub plan_accepted : open_plan_verdict ws ≡ accepted → every decided (plan_of ws).transactions ≡ true → plan_verdict ws ≡ accepted
+  pub plan_accepted : open_plan_verdict ws ≡ accepted → list_all decided (plan_of ws).transactions ≡ true → plan_verdict ws ≡ accepted
   unfolding plan_verdict
   plan_accepted e d = rw (e, d)
 
@@ -98,6 +98,6 @@ pub desk_count_lem : (ws : List ℕ) → (plan_of ws).desks ≡ head_desks (head
 unfolding plan_of
 desk_count_lem ws = refl
 
-pub all_named : (ws : List ℕ) → plan_verdict ws ≡ accepted → every parameters_exist (plan_of ws).transactions ≡ true
+pub all_named : (ws : List ℕ) → plan_verdict ws ≡ accepted → list_all parameters_exist (plan_of ws).transactions ≡ true
 unfolding plan_of
 all_named ws e = (accepted_gives ws e).names

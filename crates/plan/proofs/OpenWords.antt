@@ -8,7 +8,7 @@ use native.Mathlib.Omega.{arith}
 use lib.ListN.{length, get_or, take, drop, take-append-drop}
 use lib.Dec.{eqb}
 use borrow.Author.Tests.{eq-eqb, ne_eqb, eqb-true}
-use Rattle.lists.specs.Lists.{every, some}
+use Rattle.std.specs.List.{list_all, list_any}
 use Rattle.lists.proofs.Laws.{and_fst, and_snd, some_here, some_past, some_append}
 use Rattle.word.specs.Field.{kind_of, head_transactions, step_count, partitioning_field}
 use Rattle.plan.specs.Decode.{open_field, is_open, part_by, transactions_of, plan_of}
@@ -39,8 +39,7 @@ transaction_decided w f = part_decided_lem (partitioning_field w) ∙ rw (eq-eqb
 
 -- ---- the words of a plan
 
-steps_not_open : (ws : List ℕ) → every step_formed ws ≡ true → some is_open ws ≡ false
-unfolding some every
+steps_not_open : (ws : List ℕ) → list_all step_formed ws ≡ true → list_any is_open ws ≡ false
 steps_not_open [] f = refl
 steps_not_open (w ∷ ws) f =
     ap₂ (λ (a b : Bool). a || b) (step_not_open w (and_fst (step_formed w) _ f)) (steps_not_open ws (and_snd (step_formed w) _ f))
@@ -49,8 +48,8 @@ not_or : (a b : Bool) → (not a && not b) ≡ not (a || b)
 not_or true b = refl
 not_or false b = refl
 
-transactions_decided : (n : ℕ) (ws : List ℕ) → well_formed n ws ≡ true → every decided (transactions_of n ws) ≡ not (some is_open ws)
-unfolding some every well_formed transactions_of
+transactions_decided : (n : ℕ) (ws : List ℕ) → well_formed n ws ≡ true → list_all decided (transactions_of n ws) ≡ not (list_any is_open ws)
+unfolding well_formed transactions_of
 transactions_decided zero [] f = refl
 transactions_decided zero (w ∷ ws) f = absurd (false≢true f)
 transactions_decided (suc n) [] f = absurd (false≢true f)
@@ -58,27 +57,27 @@ transactions_decided (suc n) (w ∷ ws) f =
     let p = formed_parts n w ws f in
     let steps = steps_not_open (take (step_count w) ws) p.steps in
     ap₂ (λ (x y : Bool). x && y) (transaction_decided w p.form) (transactions_decided n (drop (step_count w) ws) p.rest)
-    ∙ not_or (is_open w) (some is_open (drop (step_count w) ws))
+    ∙ not_or (is_open w) (list_any is_open (drop (step_count w) ws))
     ∙ ap (λ (x : Bool). not (is_open w || x))
-    (ap (λ (x : Bool). x || some is_open (drop (step_count w) ws)) (sym steps)
-    ∙ sym (some_append is_open (take (step_count w) ws) (drop (step_count w) ws)) ∙ ap (some is_open) (take-append-drop (step_count w) ws))
+    (ap (λ (x : Bool). x || list_any is_open (drop (step_count w) ws)) (sym steps)
+    ∙ sym (some_append is_open (take (step_count w) ws) (drop (step_count w) ws)) ∙ ap (list_any is_open) (take-append-drop (step_count w) ws))
 
 -- the head is of kind 1
 pub open_found : OpenFound
-unfolding some plan_of
+unfolding plan_of
 open_found [] e = absurd (omega (arith, (open_accepted_gives [] e).words_low))
 open_found (w ∷ ws) e =
     let a = open_accepted_gives (w ∷ ws) e in
     transactions_decided (head_transactions w) ws a.form
-    ∙ ap (λ (x : Bool). not (x || some is_open ws)) (sym (not_open w (λ k. omega (arith, k, a.head_kind))))
+    ∙ ap (λ (x : Bool). not (x || list_any is_open ws)) (sym (not_open w (λ k. omega (arith, k, a.head_kind))))
 
 -- ---- by the place among the words
 
 -- some word from this place on is open
 pub some_open_from : List ℕ → ℕ → Bool
-some_open_from ws i = some is_open (drop i ws)
+some_open_from ws i = list_any is_open (drop i ws)
 
-pub open_all : (ws : List ℕ) → some is_open ws ≡ some_open_from ws 0
+pub open_all : (ws : List ℕ) → list_any is_open ws ≡ some_open_from ws 0
 unfolding some_open_from
 open_all ws = refl
 

@@ -12,7 +12,7 @@ use lib.Dec.{ltb, leb, leb-zero, leb-suc-suc, leb-suc-zero}
 use lib.ListN.{length, get_or, take, drop, drop_of_length-le}
 use lib.Seq.{drop-cons}
 use Rattle.verdict.specs.Verdict.{Verdict, accepted, refused, ask, ◌then◌}
-use Rattle.lists.specs.Lists.{every}
+use Rattle.std.specs.List.{list_all}
 use Rattle.lists.proofs.Laws.{and_fst, and_snd, left_suc, drop_here, drop_cases}
 use Rattle.word.specs.Field.{parameter_count, step_count, partitioning_field}
 use Rattle.plan.specs.Decode.{transactions_of, step_of, part_by}
@@ -23,14 +23,14 @@ use Rattle.plan.specs.Admission.{transactions_verdict}
 
 -- the verdict when n transactions are still to come in the words ws; m: a parameter was missing already
 rest : ℕ → List ℕ → Bool → Verdict
-rest n ws m = ask 3 (well_formed n ws) then ask 4 (not m && every parameters_exist (transactions_of n ws))
+rest n ws m = ask 3 (well_formed n ws) then ask 4 (not m && list_all parameters_exist (transactions_of n ws))
 
 -- the same inside a transaction with p parameters, of which k steps are still to come behind some that tell, and n transactions behind it
 rest_in : ℕ → ℕ → ℕ → ℕ → List ℕ → Bool → Verdict
 rest_in k p n tells ws m =
-    ask 3 (leb k (length ws) && (every step_formed (take k ws)
+    ask 3 (leb k (length ws) && (list_all step_formed (take k ws)
     && (leb (tells + tell_count (map step_of (take k ws))) most_tells && well_formed n (drop k ws))))
-    then ask 4 (not m && (every (step_exists p) (map step_of (take k ws)) && every parameters_exist (transactions_of n (drop k ws))))
+    then ask 4 (not m && (list_all (step_exists p) (map step_of (take k ws)) && list_all parameters_exist (transactions_of n (drop k ws))))
 
 -- ---- one word of a list
 
@@ -40,7 +40,7 @@ noted false true b c = refl
 noted false false b c = refl
 
 rest_done : (m : Bool) → rest 0 [] m ≡ cond m (refused 4) accepted
-unfolding rest well_formed transactions_of every
+unfolding rest well_formed transactions_of
 rest_done true = refl
 rest_done false = refl
 
@@ -59,11 +59,11 @@ rest_bad n w ws m e = simp e
 rest_good : (n w : ℕ) (ws : List ℕ) (m : Bool) → transaction_formed w ≡ true
     → rest (suc n) (w ∷ ws) m ≡ rest_in (step_count w) (parameter_count w) n 0 ws
     (m || not (part_exists (parameter_count w) (part_by (partitioning_field w))))
-unfolding rest rest_in well_formed transactions_of every parameters_exist
+unfolding rest rest_in well_formed transactions_of parameters_exist
 rest_good n w ws m e = simp (e, noted, zero-add)
 
 in_zero : (p n tells : ℕ) (ws : List ℕ) (m : Bool) → tells ≤ most_tells → rest_in 0 p n tells ws m ≡ rest n ws m
-unfolding rest rest_in every tell_count
+unfolding rest rest_in tell_count
 in_zero p n tells ws m h = simp (leb-zero, add-zero, le-leb tells most_tells h)
 
 in_nil : (k p n tells : ℕ) (m : Bool) → rest_in (suc k) p n tells [] m ≡ refused 3
@@ -72,7 +72,7 @@ in_nil k p n tells m = simp leb-suc-zero
 
 -- a word that is not well formed, or tells and is one too many
 in_bad : (k p n tells w : ℕ) (ws : List ℕ) (m : Bool) → step_fits tells w ≡ false → rest_in (suc k) p n tells (w ∷ ws) m ≡ refused 3
-unfolding rest_in every tell_count
+unfolding rest_in tell_count
 in_bad k p n tells w ws m e = go (step_formed w) refl
   where
     go : (b : Bool) → step_formed w ≡ b → rest_in (suc k) p n tells (w ∷ ws) m ≡ refused 3
@@ -83,7 +83,7 @@ in_bad k p n tells w ws m e = go (step_formed w) refl
 
 in_good : (k p n tells w : ℕ) (ws : List ℕ) (m : Bool) → step_fits tells w ≡ true
     → rest_in (suc k) p n tells (w ∷ ws) m ≡ rest_in k p n (tells + one_if_tells (step_of w)) ws (m || not (step_exists p (step_of w)))
-unfolding rest_in every tell_count
+unfolding rest_in tell_count
 in_good k p n tells w ws m e =
     let behind = tell_count (map step_of (take k ws)) in
     simp (and_fst (step_formed w) _ e, noted, leb-suc-suc, ← add_assoc tells (one_if_tells (step_of w)) behind)

@@ -9,7 +9,7 @@ use native.Mathlib.Numerals.{add-one}
 use native.Mathlib.Omega.{arith}
 use lib.ListN.{length, take, drop, length-drop}
 use lib.Seq.{drop-cons, get_or-drop, get_or-take, length-take-le}
-use Rattle.lists.specs.Lists.{every}
+use Rattle.std.specs.List.{list_all}
 use Rattle.lists.proofs.Laws.{and_fst, and_snd, left_suc, every_index}
 use Rattle.plan.specs.Plan.{Step}
 use Rattle.plan.specs.Decode.{step_of}
@@ -45,15 +45,13 @@ module _ (ws : List ℕ) (at s : ℕ) (p : StandsAt ws at) (h : s < steps_at ws 
       (every_index step_formed (take (steps_at ws at) (drop (at + 1) ws)) s 0 p.steps k))
 
 -- what holds of every step holds of each, as the walk meets it
-module _ (f : Step → Bool) (ws : List ℕ) (at : ℕ) (p : StandsAt ws at) (e : every f (transaction_from ws at).steps ≡ true) where
-  every_from : (s : ℕ) → s ≤ steps_at ws at → every f (steps_from ws at s) ≡ true
-  unfolding every
-  every_from zero h = ap (every f) (steps_all ws at) ∙ e
+module _ (f : Step → Bool) (ws : List ℕ) (at : ℕ) (p : StandsAt ws at) (e : list_all f (transaction_from ws at).steps ≡ true) where
+  every_from : (s : ℕ) → s ≤ steps_at ws at → list_all f (steps_from ws at s) ≡ true
+  every_from zero h = ap (list_all f) (steps_all ws at) ∙ e
   every_from (suc s) h =
-      ap (λ (i : ℕ). every f (steps_from ws at i)) (sym (add-one s))
-      ∙ and_snd (f (step_of (step_word ws at s))) _ (ap (every f) (sym (steps_cons ws at s p h _ refl)) ∙ every_from s (omega arith))
+      ap (λ (i : ℕ). list_all f (steps_from ws at i)) (sym (add-one s))
+      ∙ and_snd (f (step_of (step_word ws at s))) _ (ap (list_all f) (sym (steps_cons ws at s p h _ refl)) ∙ every_from s (omega arith))
 
   pub every_step : (s : ℕ) → s < steps_at ws at → (w : ℕ) → w ≡ step_word ws at s → f (step_of w) ≡ true
-  unfolding every
   every_step s h w i =
-      and_fst (f (step_of w)) _ (ap (every f) (sym (steps_cons ws at s p h w i)) ∙ every_from s (omega arith))
+      and_fst (f (step_of w)) _ (ap (list_all f) (sym (steps_cons ws at s p h w i)) ∙ every_from s (omega arith))

@@ -2,7 +2,7 @@
 use Rattle.std.specs.Prelude.{ℕ, zero, suc, ◌+◌, ◌≤◌, ◌≡◌, Bool, true, false, not, ◌&&◌}
 use Rattle.std.specs.Prelude.{◌||◌, List, [], ◌∷◌, map, length, take, drop, ltb, leb, eqb}
 use Rattle.verdict.specs.Verdict.{Verdict, accepted, ask, ◌then◌}
-use Rattle.lists.specs.Lists.{every, some}
+use Rattle.std.specs.List.{list_all, list_any}
 use Rattle.word.specs.Field.{kind_of, head_desks, head_transactions, head_words, parameter_count, step_count, partitioning_field}
 use Rattle.word.specs.Reserved.{source_field, reserved_zero}
 use Rattle.plan.specs.Plan.{Source, param, fixed, Step, cell, operand, tells, Partitioning, by_param, unpartitioned, undecided}
@@ -64,7 +64,7 @@ well_formed zero (w ∷ ws) = false
 well_formed (suc n) [] = false
 well_formed (suc n) (w ∷ ws) =
     transaction_formed w && (leb (step_count w) (length ws)
-    && (every step_formed (take (step_count w) ws)
+    && (list_all step_formed (take (step_count w) ws)
     && (leb (tell_count (map step_of (take (step_count w) ws))) most_tells && well_formed n (drop (step_count w) ws))))
 
 -- 4: "Does every parameter named in a step or for partitioning exist?" Parameter i exists if i is below the count; an open field names none
@@ -83,13 +83,13 @@ part_exists count unpartitioned = true
 part_exists count undecided = true
 
 unfoldable pub parameters_exist : Transaction → Bool
-parameters_exist t = part_exists t.params t.part && every (step_exists t.params) t.steps
+parameters_exist t = part_exists t.params t.part && list_all (step_exists t.params) t.steps
 
 -- ---- the verdict
 
 -- questions 3 and 4 of n transactions in the words behind the head
 unfoldable pub transactions_verdict : ℕ → List ℕ → Verdict
-transactions_verdict n ws = ask 3 (well_formed n ws) then ask 4 (every parameters_exist (transactions_of n ws))
+transactions_verdict n ws = ask 3 (well_formed n ws) then ask 4 (list_all parameters_exist (transactions_of n ws))
 
 -- "All of one question is put before the next": questions 1 to 4, which a plan with open fields can pass
 unfoldable pub open_plan_verdict : List ℕ → Verdict
@@ -109,11 +109,11 @@ decided t = part_decided t.part
 
 -- "any other call refuses an open field with 17 .. after question 4": the verdict on a plan, of every call but the chooser
 unfoldable pub plan_verdict : List ℕ → Verdict
-plan_verdict ws = open_plan_verdict ws then ask 17 (every decided (plan_of ws).transactions)
+plan_verdict ws = open_plan_verdict ws then ask 17 (list_all decided (plan_of ws).transactions)
 
 -- a word is open, as `is_open` finds it, exactly if not all transactions are decided
 abbrev pub OpenFound : Type 0
-OpenFound = (ws : List ℕ) → open_plan_verdict ws ≡ accepted → every decided (plan_of ws).transactions ≡ not (some is_open ws)
+OpenFound = (ws : List ℕ) → open_plan_verdict ws ≡ accepted → list_all decided (plan_of ws).transactions ≡ not (list_any is_open ws)
 
 -- "It refuses with 3 a transaction with more than four such steps.": no transaction of a plan that is accepted has more
 abbrev pub TellsFew : Type 0

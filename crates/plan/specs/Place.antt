@@ -1,6 +1,7 @@
 -- Where a transaction and its steps stand among the words of a plan.
 use Rattle.std.specs.Prelude.{ℕ, zero, suc, ◌+◌, ◌≤◌, ◌≡◌, true, cond, List, ltb, length, get_or, take, drop}
-use Rattle.lists.specs.Lists.{tabulate, every}
+use Rattle.std.specs.List.{list_all}
+use Rattle.lists.specs.Lists.{tabulate}
 use Rattle.word.specs.Field.{step_count, head_transactions}
 use Rattle.plan.specs.Plan.{Transaction}
 use Rattle.plan.specs.Decode.{transaction_of, head_of}
@@ -30,5 +31,5 @@ step_word ws at s = get_or ws (at + 1 + s) 0
 pub record StandsAt (ws : List ℕ) (at : ℕ) : Type 0 where
   pub room : at + 1 + steps_at ws at ≤ length ws
   pub form : transaction_formed (get_or ws at 0) ≡ true
-  pub steps : every step_formed (take (steps_at ws at) (drop (at + 1) ws)) ≡ true
+  pub steps : list_all step_formed (take (steps_at ws at) (drop (at + 1) ws)) ≡ true
   pub tells_few : tell_count (transaction_from ws at).steps ≤ most_tells

@@ -1,6 +1,6 @@
 // Open partitioning fields among the words of a plan.
 ghost use Rattle.std.specs.Prelude.{◌≡◌};
-ghost use Rattle.lists.specs.Lists.{some};
+ghost use Rattle.std.specs.List.{list_any};
 ghost use Rattle.plan.specs.Decode.{is_open};
 
 use crate::form;
@@ -18,7 +18,7 @@ pub fn is_open(word: u32) -> bool
 
 // Whether there is such a word.
 pub(crate) fn has_open(plan: &[u32]) -> bool
-    ensures { result ≡ some is_open plan.now }
+    ensures { result ≡ list_any is_open plan.now }
 {
     let mut i: usize = 0;
     while i < plan.len() {

@@ -81,7 +81,7 @@ module _ (n : ℕ) where
       )
       refl
 
-  module _ (some : 0 < n) (vs : List Visit) (h : Numbered 0 vs) where
+  module _ (list_any : 0 < n) (vs : List Visit) (h : Numbered 0 vs) where
     abbrev v : ℕ
     v = length vs
 

@@ -2,7 +2,7 @@
 -- Assumes nothing.
 use mathlib.Core.Path.{refl}
 use lib.Count.{ones}
-use Rattle.lists.specs.Lists.{every, some, lowest_below, tabulate}
+use Rattle.lists.specs.Lists.{lowest_below, tabulate}
 use Rattle.word.specs.Reserved.{source_field, reserved_zero}
 use Rattle.plan.specs.Decode.{access_by, action_by, step_of, part_by, transactions_of, plan_of}
 use Rattle.plan.specs.Admission.{has_head, counts_in_range, transaction_formed, step_formed}
@@ -32,9 +32,9 @@ use Rattle.visits.specs.Visit.{visit_verdict, visit_result}
 use Rattle.starred.specs.Table.{Starred}
 
 pub starred : Starred
-unfolding ones source_field reserved_zero access_by action_by step_of part_by transactions_of plan_of every has_head counts_in_range
+unfolding ones source_field reserved_zero access_by action_by step_of part_by transactions_of plan_of has_head counts_in_range
     transaction_formed step_formed tell_count well_formed source_exists step_exists part_exists parameters_exist transactions_verdict
-    open_plan_verdict plan_verdict cells_named transaction_exists unused_zero row_in_range parameters_pass operation_verdict mask_of some
+    open_plan_verdict plan_verdict cells_named transaction_exists unused_zero row_in_range parameters_pass operation_verdict mask_of
     row_touched cell_touched step_touches desk_mask cell_given step_writes written class_by lowest_below in_mask
     is_other cause_desk has_other cause_cell cause_transaction classify_result
     read_verdict frame_verdict frame_headed sums_right updates_right frames.well_formed update_formed cell_formed few_per_desk desk_count

@@ -9,7 +9,7 @@ use native.Mathlib.Omega.{arith}
 use lib.Dec.{ltb, leb}
 use lib.ListN.{length}
 use borrow.Author.Tests.{ltb-true, lt-ltb, leb-true, le-leb}
-use Rattle.lists.specs.Lists.{every}
+use Rattle.std.specs.List.{list_all}
 use Rattle.lists.proofs.Laws.{and_fst, and_snd, and_true}
 use Rattle.word.specs.Field.{update_desk, cell_count, cell_field}
 use Rattle.operation.specs.Store.{Update}
@@ -24,11 +24,11 @@ use Rattle.token.proofs.HeadWords.{update_formed_lem, cell_read, cell_field_lem,
 pub record Decoded (n left : ℕ) (ws : List ℕ) : Type 0 where
   pub words : ws ≡ write_words (writes_from left ws) ++ updates_words (updates_from left ws)
   pub count : length (writes_from left ws) ≡ left
-  pub cells : every cell_fits (writes_from left ws) ≡ true
-  pub each : every (update_fits n) (updates_from left ws) ≡ true
+  pub cells : list_all cell_fits (writes_from left ws) ≡ true
+  pub each : list_all (update_fits n) (updates_from left ws) ≡ true
 
 pub decoded : (n left : ℕ) (ws : List ℕ) → well_formed n left ws ≡ true → Decoded n left ws
-unfolding well_formed writes_from updates_from write_words update_words updates_words every
+unfolding well_formed writes_from updates_from write_words update_words updates_words
 decoded n zero [] e = record { words = refl; count = refl; cells = refl; each = refl }
 decoded n zero (w ∷ ws) e =
     let u = update_read n w (and_fst (update_formed n w) _ e) in
@@ -59,8 +59,8 @@ record Cells (n : ℕ) (u : Update) (rest : List ℕ) : Type 0 where
   here : writes_from (length u) (write_words u ++ rest) ≡ u
   later : updates_from (length u) (write_words u ++ rest) ≡ updates_from 0 rest
 
-cells : (n : ℕ) (u : Update) (rest : List ℕ) → every cell_fits u ≡ true → Cells n u rest
-unfolding well_formed writes_from updates_from write_words every
+cells : (n : ℕ) (u : Update) (rest : List ℕ) → list_all cell_fits u ≡ true → Cells n u rest
+unfolding well_formed writes_from updates_from write_words
 cells n [] rest e = record { form = refl; here = refl; later = refl }
 cells n (w ∷ u) rest e =
     let c = ltb-true w.0 1024 (and_fst (cell_fits w) _ e) in
@@ -75,8 +75,8 @@ pub record Encoded (n : ℕ) (us : List SentUpdate) : Type 0 where
   pub form : well_formed n 0 (updates_words us) ≡ true
   pub updates : updates_from 0 (updates_words us) ≡ us
 
-pub encoded : (n : ℕ) (us : List SentUpdate) → n ≤ 8 → every (update_fits n) us ≡ true → Encoded n us
-unfolding well_formed updates_from update_words updates_words every
+pub encoded : (n : ℕ) (us : List SentUpdate) → n ≤ 8 → list_all (update_fits n) us ≡ true → Encoded n us
+unfolding well_formed updates_from update_words updates_words
 encoded n [] h e = record { form = refl; updates = refl }
 encoded n (u ∷ us) h e =
     let f = and_fst (update_fits n u) _ e in

@@ -8,7 +8,7 @@ use native.Mathlib.Omega.{arith}
 use lib.Dec.{eqb}
 use lib.ListN.{length}
 use borrow.Author.Tests.{eqb-true}
-use Rattle.lists.specs.Lists.{every}
+use Rattle.std.specs.List.{list_all}
 use Rattle.lists.proofs.Laws.{and_fst, and_snd, and_true, every_append}
 use Rattle.operation.specs.Store.{Update}
 use Rattle.frame.specs.Frame.{SentUpdate, sent, update_words, updates_words}
@@ -25,12 +25,12 @@ words_append (u ∷ us) ts =
 
 -- ---- each of them
 
-every_foreign : (f : SentUpdate → Bool) (desk : ℕ) (us : List SentUpdate) → every f us ≡ true → every f (foreign desk us) ≡ true
-unfolding every foreign
+every_foreign : (f : SentUpdate → Bool) (desk : ℕ) (us : List SentUpdate) → list_all f us ≡ true → list_all f (foreign desk us) ≡ true
+unfolding foreign
 every_foreign f desk [] e = refl
 every_foreign f desk (u ∷ us) e = go (eqb u.desk desk) (every_foreign f desk us (and_snd (f u) _ e))
   where
-    go : (own : Bool) → every f (foreign desk us) ≡ true → every f (cond own (foreign desk us) (u ∷ foreign desk us)) ≡ true
+    go : (own : Bool) → list_all f (foreign desk us) ≡ true → list_all f (cond own (foreign desk us) (u ∷ foreign desk us)) ≡ true
     go true r = r
     go false r = and_true (f u) _ (and_fst (f u) _ e) r
 
@@ -77,7 +77,7 @@ own_count d desk (w ∷ ws) = go (eqb desk d) (own_count d desk ws)
 
 -- at most 32 of its own behind the others' keep a frame well formed
 pub forwarded_fits : (n desk : ℕ) (us : List SentUpdate) (ws : List Update) → WellFormed n us → length ws ≤ 32
-    → every (update_fits n) (map (sent desk) ws) ≡ true → WellFormed n (foreign desk us ++ map (sent desk) ws)
+    → list_all (update_fits n) (map (sent desk) ws) ≡ true → WellFormed n (foreign desk us ++ map (sent desk) ws)
 forwarded_fits n desk us ws f few own =
     record {
       each = every_append (update_fits n) (foreign desk us) (map (sent desk) ws) (every_foreign (update_fits n) desk us f.each) own;

@@ -9,7 +9,7 @@ use native.Mathlib.Omega.{arith}
 use lib.Dec.{ltb, leb, eqb}
 use lib.ListN.{length, length-append}
 use borrow.Author.Tests.{ltb-true, leb-true, eqb-false}
-use Rattle.lists.specs.Lists.{every}
+use Rattle.std.specs.List.{list_all}
 use Rattle.lists.proofs.Laws.{and_fst, and_snd}
 use Rattle.frame.specs.Frame.{SentUpdate, update_words, updates_words}
 use Rattle.frame.specs.Admission.{desk_count}
@@ -36,8 +36,7 @@ count_one (suc n) u us h = go (eqb u.desk n) refl (count_one n u us)
     go true q r = omega (arith, count_mono n u us)
     go false q r = omega (arith, r (omega (arith, eqb-false u.desk n q)))
 
-counted_all : (n : ℕ) (us : List SentUpdate) → every (update_fits n) us ≡ true → length us ≤ count_below n us
-unfolding every
+counted_all : (n : ℕ) (us : List SentUpdate) → list_all (update_fits n) us ≡ true → length us ≤ count_below n us
 counted_all n [] e = omega arith
 counted_all n (u ∷ us) e =
     let d = ltb-true u.desk n (and_fst (ltb u.desk n) _ (and_fst (update_fits n u) _ e)) in
@@ -48,8 +47,8 @@ unfolding count_below
 count_bound zero us h = omega arith
 count_bound (suc n) us h = omega (arith, count_bound n us h, h n)
 
-words_bound : (n : ℕ) (us : List SentUpdate) → every (update_fits n) us ≡ true → length (updates_words us) ≤ 25 * length us
-unfolding updates_words every
+words_bound : (n : ℕ) (us : List SentUpdate) → list_all (update_fits n) us ≡ true → length (updates_words us) ≤ 25 * length us
+unfolding updates_words
 words_bound n [] e = omega arith
 words_bound n (u ∷ us) e =
     let g = and_snd (ltb u.desk n) _ (and_fst (update_fits n u) _ e) in

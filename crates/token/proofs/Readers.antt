@@ -6,7 +6,7 @@ use Prim.Native.Nat.{ℕ}
 use native.Mathlib.Nat.{zero-mod}
 use native.Mathlib.Omega.{arith}
 use Rattle.verdict.specs.Verdict.{Verdict, accepted, refused}
-use Rattle.lists.specs.Lists.{every}
+use Rattle.std.specs.List.{list_all}
 use Rattle.plan.specs.Decode.{plan_of}
 use Rattle.frame.specs.Frame.{updates_words, frame_around, frame_words, starting_frame}
 use Rattle.frame.specs.Admission.{frame_visit, desk_count, read_verdict, ReadsAs}
@@ -38,7 +38,7 @@ readers_agree plan frame =
 -- ---- the starting frame
 
 no_updates : (n : ℕ) → WellFormed n []
-unfolding every desk_count
+unfolding desk_count
 no_updates n = record { each = refl; per_desk = λ d. omega arith }
 
 pub starting_words : (n : ℕ) → starting_frame ≡ frame_words n 0 []

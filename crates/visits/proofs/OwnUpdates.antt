@@ -8,7 +8,7 @@ use native.Mathlib.Omega.{arith}
 use lib.ListN.{length}
 use borrow.Author.Tests.{lt-ltb, le-leb}
 use Rattle.verdict.specs.Verdict.{accepted}
-use Rattle.lists.specs.Lists.{every}
+use Rattle.std.specs.List.{list_all}
 use Rattle.lists.proofs.Laws.{and_fst, and_snd, and_true, member_every}
 use Rattle.plan.specs.Plan.{Plan, writes}
 use Rattle.plan.specs.Decode.{plan_of}
@@ -55,9 +55,9 @@ module _ (ws : List ℕ) (e : plan_verdict ws ≡ accepted) (desk : ℕ) (low : 
       subst (λ (o : Outcome). update_fits n (sent desk o.update) ≡ true) (run_asked ws r a at refl ps refl s)
       (and_true _ _ (lt-ltb desk n low) (and_true _ _ few cells))
 
-  pub all_fit : (rs : List Request) (s : Store) → every (is_operation (plan_of ws)) rs ≡ true
-      → every (update_fits (plan_of ws).desks) (map (sent desk) (updates_of (plan_of ws) rs s)) ≡ true
-  unfolding every updates_of
+  pub all_fit : (rs : List Request) (s : Store) → list_all (is_operation (plan_of ws)) rs ≡ true
+      → list_all (update_fits (plan_of ws).desks) (map (sent desk) (updates_of (plan_of ws) rs s)) ≡ true
+  unfolding updates_of
   all_fit [] s h = refl
   all_fit (r ∷ rs) s h =
       and_true _ _ (one_fits r s (and_fst (is_operation (plan_of ws) r) _ h))

@@ -9,7 +9,7 @@ use lib.ListN.{length}
 use borrow.Author.Tests.{leb-true, ltb-true, eqb-true}
 use Rattle.verdict.specs.Verdict.{accepted, ask, ◌then◌}
 use Rattle.verdict.proofs.Verdicts.{then_accepted, ask_accepted, ask_then_accepted, then_associates}
-use Rattle.lists.specs.Lists.{every}
+use Rattle.std.specs.List.{list_all}
 use Rattle.lists.proofs.Laws.{and_fst, and_snd, every_member, member_every}
 use Rattle.word.specs.Field.{addressed_desk}
 use Rattle.plan.specs.Plan.{Plan}
@@ -30,7 +30,7 @@ use Rattle.queue.specs.Queue.{queue_size}
 use Rattle.visits.specs.Waiting.{replies_size}
 
 -- a waiting record is an operation
-operations_here : (p : Plan) (desk : ℕ) (rs : List Request) → every (waits_here p desk) rs ≡ true → every (is_operation p) rs ≡ true
+operations_here : (p : Plan) (desk : ℕ) (rs : List Request) → list_all (waits_here p desk) rs ≡ true → list_all (is_operation p) rs ≡ true
 unfolding waits_here
 operations_here p desk rs e =
     member_every (is_operation p) rs (λ r m. and_fst (is_operation p r) _ (every_member (waits_here p desk) rs r e m))

@@ -3,7 +3,7 @@
 --     Passable                           what they give once all are answered with yes, but for the snapshot
 use Rattle.std.specs.Prelude.{ℕ, ◌≤◌, ◌<◌, ◌≡◌, true, ◌&&◌, List, length}
 use Rattle.verdict.specs.Verdict.{Verdict, accepted, ask, ◌then◌}
-use Rattle.lists.specs.Lists.{every}
+use Rattle.std.specs.List.{list_all}
 use Rattle.plan.specs.Decode.{plan_of}
 use Rattle.plan.specs.Admission.{plan_verdict}
 use Rattle.operation.specs.Store.{store_size}
@@ -39,6 +39,6 @@ pub record Passable (ws : List ℕ) (h : Holding) (f out replies : List ℕ) : T
   pub reply_room : replies_size ≤ length replies
   pub desk : h.state.desk < (plan_of ws).desks
   pub waiting : h.state.waiting ≤ queue_size
-  pub operations : every (is_operation (plan_of ws)) (waiting_at h) ≡ true
+  pub operations : list_all (is_operation (plan_of ws)) (waiting_at h) ≡ true
   pub frame : frame_verdict (plan_of ws).desks f ≡ accepted
   pub visit : frame_visit f < 4294967295

@@ -1,7 +1,8 @@
 -- What running waiting requests at a desk asks and leaves: the store, and the words behind the front of the outgoing words and replies.
 use Rattle.std.specs.Prelude.{ℕ, ◌*◌, ◌≤◌, ◌≡◌, Bool, true, List, map, length}
 use Rattle.verdict.specs.Verdict.{accepted, is_accepted}
-use Rattle.lists.specs.Lists.{every, overwritten}
+use Rattle.std.specs.List.{list_all}
+use Rattle.lists.specs.Lists.{overwritten}
 use Rattle.plan.specs.Plan.{Plan}
 use Rattle.plan.specs.Decode.{plan_of}
 use Rattle.plan.specs.Admission.{plan_verdict}
@@ -49,7 +50,7 @@ all_replies p rs s = replies_words (replies_of p rs s)
 
 pub record AllRun (ws : List ℕ) (rs : List Request) (desk : ℕ) (cells out replies : List ℕ) : Type 0 where
   pub plan : plan_verdict ws ≡ accepted
-  pub operations : every (is_operation (plan_of ws)) rs ≡ true
+  pub operations : list_all (is_operation (plan_of ws)) rs ≡ true
   pub room : length (all_made (plan_of ws) desk rs cells) ≤ length out
   pub reply_room : reply_size * length rs ≤ length replies
 

@@ -7,69 +7,66 @@ use mathlib.Core.List.{List, [], ◌∷◌, ◌++◌, map, Memᴰ}
 use Prim.Native.Nat.{◌+◌, ◌≤◌}
 use native.Mathlib.Omega.{arith}
 use lib.ListN.{length}
-use Rattle.lists.specs.Lists.Every.{every}
-use Rattle.lists.specs.Lists.Some.{some}
-use Rattle.lists.specs.Lists.Select.{select}
+use Rattle.std.specs.List.{list_all}
+use Rattle.std.specs.List.{list_any}
+use Rattle.std.specs.List.{filter}
 
 module _ {A : Type 0} (f : A → Bool) where
-  pub select_append : (xs ys : List A) → select f (xs ++ ys) ≡ select f xs ++ select f ys
+  pub select_append : (xs ys : List A) → filter f (xs ++ ys) ≡ filter f xs ++ filter f ys
   select_append [] ys = refl
   select_append (x ∷ xs) ys = go (f x) (select_append xs ys)
     where
-      go : (b : Bool) → select f (xs ++ ys) ≡ select f xs ++ select f ys
-          → cond b (x ∷ select f (xs ++ ys)) (select f (xs ++ ys)) ≡ cond b (x ∷ select f xs) (select f xs) ++ select f ys
+      go : (b : Bool) → filter f (xs ++ ys) ≡ filter f xs ++ filter f ys
+          → cond b (x ∷ filter f (xs ++ ys)) (filter f (xs ++ ys)) ≡ cond b (x ∷ filter f xs) (filter f xs) ++ filter f ys
       go true e = ap (◌∷◌ x) e
       go false e = e
 
-  pub select_yes : (x : A) (xs : List A) → f x ≡ true → select f (x ∷ xs) ≡ x ∷ select f xs
-  select_yes x xs e = ap (λ (b : Bool). cond b (x ∷ select f xs) (select f xs)) e
+  pub select_yes : (x : A) (xs : List A) → f x ≡ true → filter f (x ∷ xs) ≡ x ∷ filter f xs
+  select_yes x xs e = ap (λ (b : Bool). cond b (x ∷ filter f xs) (filter f xs)) e
 
-  pub select_no : (x : A) (xs : List A) → f x ≡ false → select f (x ∷ xs) ≡ select f xs
-  select_no x xs e = ap (λ (b : Bool). cond b (x ∷ select f xs) (select f xs)) e
+  pub select_no : (x : A) (xs : List A) → f x ≡ false → filter f (x ∷ xs) ≡ filter f xs
+  select_no x xs e = ap (λ (b : Bool). cond b (x ∷ filter f xs) (filter f xs)) e
 
-  pub select_short : (xs : List A) → length (select f xs) ≤ length xs
+  pub select_short : (xs : List A) → length (filter f xs) ≤ length xs
   select_short [] = omega arith
   select_short (x ∷ xs) = go (f x) (select_short xs)
     where
-      go : (b : Bool) → length (select f xs) ≤ length xs → length (cond b (x ∷ select f xs) (select f xs)) ≤ length (x ∷ xs)
+      go : (b : Bool) → length (filter f xs) ≤ length xs → length (cond b (x ∷ filter f xs) (filter f xs)) ≤ length (x ∷ xs)
       go true e = omega arith
       go false e = omega arith
 
   -- all of those that are selected pass
-  pub every_select : (xs : List A) → every f (select f xs) ≡ true
-  unfolding every
+  pub every_select : (xs : List A) → list_all f (filter f xs) ≡ true
   every_select [] = refl
   every_select (x ∷ xs) = go (f x) refl (every_select xs)
     where
-      go : (b : Bool) → f x ≡ b → every f (select f xs) ≡ true → every f (cond b (x ∷ select f xs) (select f xs)) ≡ true
-      go true p e = ap (λ (b : Bool). b && every f (select f xs)) p ∙ e
+      go : (b : Bool) → f x ≡ b → list_all f (filter f xs) ≡ true → list_all f (cond b (x ∷ filter f xs) (filter f xs)) ≡ true
+      go true p e = ap (λ (b : Bool). b && list_all f (filter f xs)) p ∙ e
       go false p e = e
 
   -- where none passes none is selected, and where all pass all are
-  pub select_none : (xs : List A) → some f xs ≡ false → select f xs ≡ []
-  unfolding some
+  pub select_none : (xs : List A) → list_any f xs ≡ false → filter f xs ≡ []
   select_none [] e = refl
   select_none (x ∷ xs) e = go (f x) e (select_none xs)
     where
-      go : (b : Bool) → (b || some f xs) ≡ false → (some f xs ≡ false → select f xs ≡ []) → cond b (x ∷ select f xs) (select f xs) ≡ []
+      go : (b : Bool) → (b || list_any f xs) ≡ false → (list_any f xs ≡ false → filter f xs ≡ []) → cond b (x ∷ filter f xs) (filter f xs) ≡ []
       go true p r = absurd (false≢true (sym p))
       go false p r = r p
 
-  pub select_all : (xs : List A) → every f xs ≡ true → select f xs ≡ xs
-  unfolding every
+  pub select_all : (xs : List A) → list_all f xs ≡ true → filter f xs ≡ xs
   select_all [] e = refl
   select_all (x ∷ xs) e = go (f x) e (select_all xs)
     where
-      go : (b : Bool) → (b && every f xs) ≡ true → (every f xs ≡ true → select f xs ≡ xs)
-          → cond b (x ∷ select f xs) (select f xs) ≡ x ∷ xs
+      go : (b : Bool) → (b && list_all f xs) ≡ true → (list_all f xs ≡ true → filter f xs ≡ xs)
+          → cond b (x ∷ filter f xs) (filter f xs) ≡ x ∷ xs
       go true p r = ap (◌∷◌ x) (r p)
       go false p r = absurd (false≢true p)
 
-  pub select_member : (t : A) (xs : List A) → Memᴰ t (select f xs) → Memᴰ t xs
+  pub select_member : (t : A) (xs : List A) → Memᴰ t (filter f xs) → Memᴰ t xs
   select_member t [] m = m
   select_member t (x ∷ xs) m = go (f x) m (select_member t xs)
     where
-      go : (b : Bool) → Memᴰ t (cond b (x ∷ select f xs) (select f xs)) → (Memᴰ t (select f xs) → Memᴰ t xs)
+      go : (b : Bool) → Memᴰ t (cond b (x ∷ filter f xs) (filter f xs)) → (Memᴰ t (filter f xs) → Memᴰ t xs)
           → Memᴰ t (x ∷ xs)
       go true (Memᴰ.head p) r = Memᴰ.head p
       go true (Memᴰ.tail q) r = Memᴰ.tail (r q)
@@ -77,13 +74,13 @@ module _ {A : Type 0} (f : A → Bool) where
 
 -- ---- of a list mapped
 
-pub select_map : {A B : Type 0} (g : A → B) (f : B → Bool) (xs : List A) → map g (select (λ x. f (g x)) xs) ≡ select f (map g xs)
+pub select_map : {A B : Type 0} (g : A → B) (f : B → Bool) (xs : List A) → map g (filter (λ x. f (g x)) xs) ≡ filter f (map g xs)
 select_map g f [] = refl
 select_map {A} {B} g f (x ∷ xs) = go (f (g x)) (select_map g f xs)
   where
-    go : (b : Bool) → map g (select (λ y. f (g y)) xs) ≡ select f (map g xs)
-        → map g (cond b (x ∷ select (λ y. f (g y)) xs) (select (λ y. f (g y)) xs))
-        ≡ cond b (g x ∷ select f (map g xs)) (select f (map g xs))
+    go : (b : Bool) → map g (filter (λ y. f (g y)) xs) ≡ filter f (map g xs)
+        → map g (cond b (x ∷ filter (λ y. f (g y)) xs) (filter (λ y. f (g y)) xs))
+        ≡ cond b (g x ∷ filter f (map g xs)) (filter f (map g xs))
     go true e = ap (◌∷◌ (g x)) e
     go false e = e
 
@@ -94,59 +91,57 @@ module _ {A : Type 0} (f : A → Bool) where
   fails x = not (f x)
 
   -- none of those that fail passes
-  pub some_fails : (xs : List A) → some f (select fails xs) ≡ false
-  unfolding some
+  pub some_fails : (xs : List A) → list_any f (filter fails xs) ≡ false
   some_fails [] = refl
   some_fails (x ∷ xs) = go (f x) refl (some_fails xs)
     where
-      go : (b : Bool) → f x ≡ b → some f (select fails xs) ≡ false
-          → some f (cond (not b) (x ∷ select fails xs) (select fails xs)) ≡ false
+      go : (b : Bool) → f x ≡ b → list_any f (filter fails xs) ≡ false
+          → list_any f (cond (not b) (x ∷ filter fails xs) (filter fails xs)) ≡ false
       go true p e = e
-      go false p e = ap (λ (b : Bool). b || some f (select fails xs)) p ∙ e
+      go false p e = ap (λ (b : Bool). b || list_any f (filter fails xs)) p ∙ e
 
   -- where none passes all fail
-  pub select_fails : (xs : List A) → some f xs ≡ false → select fails xs ≡ xs
-  unfolding some
+  pub select_fails : (xs : List A) → list_any f xs ≡ false → filter fails xs ≡ xs
   select_fails [] e = refl
   select_fails (x ∷ xs) e = go (f x) e (select_fails xs)
     where
-      go : (b : Bool) → (b || some f xs) ≡ false → (some f xs ≡ false → select fails xs ≡ xs)
-          → cond (not b) (x ∷ select fails xs) (select fails xs) ≡ x ∷ xs
+      go : (b : Bool) → (b || list_any f xs) ≡ false → (list_any f xs ≡ false → filter fails xs ≡ xs)
+          → cond (not b) (x ∷ filter fails xs) (filter fails xs) ≡ x ∷ xs
       go true p r = absurd (false≢true (sym p))
       go false p r = ap (◌∷◌ x) (r p)
 
   -- those that pass do not fail
-  pub fails_select : (xs : List A) → select fails (select f xs) ≡ []
+  pub fails_select : (xs : List A) → filter fails (filter f xs) ≡ []
   fails_select [] = refl
   fails_select (x ∷ xs) = go (f x) refl (fails_select xs)
     where
-      go : (b : Bool) → f x ≡ b → select fails (select f xs) ≡ [] → select fails (cond b (x ∷ select f xs) (select f xs)) ≡ []
-      go true p e = select_no fails x (select f xs) (ap not p) ∙ e
+      go : (b : Bool) → f x ≡ b → filter fails (filter f xs) ≡ [] → filter fails (cond b (x ∷ filter f xs) (filter f xs)) ≡ []
+      go true p e = select_no fails x (filter f xs) (ap not p) ∙ e
       go false p e = e
 
   -- each passes or fails
-  pub select_lengths : (xs : List A) → length (select f xs) + length (select fails xs) ≡ length xs
+  pub select_lengths : (xs : List A) → length (filter f xs) + length (filter fails xs) ≡ length xs
   select_lengths [] = refl
   select_lengths (x ∷ xs) = go (f x) (select_lengths xs)
     where
-      go : (b : Bool) → length (select f xs) + length (select fails xs) ≡ length xs
-          → length (cond b (x ∷ select f xs) (select f xs)) + length (cond (not b) (x ∷ select fails xs) (select fails xs))
+      go : (b : Bool) → length (filter f xs) + length (filter fails xs) ≡ length xs
+          → length (cond b (x ∷ filter f xs) (filter f xs)) + length (cond (not b) (x ∷ filter fails xs) (filter fails xs))
           ≡ length (x ∷ xs)
       go true e = omega arith
       go false e = omega arith
 
-  pub member_either : (t : A) (xs : List A) → Memᴰ t xs → Memᴰ t (select f xs) ⊎ Memᴰ t (select fails xs)
+  pub member_either : (t : A) (xs : List A) → Memᴰ t xs → Memᴰ t (filter f xs) ⊎ Memᴰ t (filter fails xs)
   member_either t [] x' = elim x' [ ]
   member_either t (x ∷ xs) (Memᴰ.head p) = go (f x)
     where
-      go : (b : Bool) → Memᴰ t (cond b (x ∷ select f xs) (select f xs))
-          ⊎ Memᴰ t (cond (not b) (x ∷ select fails xs) (select fails xs))
+      go : (b : Bool) → Memᴰ t (cond b (x ∷ filter f xs) (filter f xs))
+          ⊎ Memᴰ t (cond (not b) (x ∷ filter fails xs) (filter fails xs))
       go true = inl (Memᴰ.head p)
       go false = inr (Memᴰ.head p)
   member_either t (x ∷ xs) (Memᴰ.tail m) = go (f x) (member_either t xs m)
     where
-      go : (b : Bool) → Memᴰ t (select f xs) ⊎ Memᴰ t (select fails xs)
-          → Memᴰ t (cond b (x ∷ select f xs) (select f xs)) ⊎ Memᴰ t (cond (not b) (x ∷ select fails xs) (select fails xs))
+      go : (b : Bool) → Memᴰ t (filter f xs) ⊎ Memᴰ t (filter fails xs)
+          → Memᴰ t (cond b (x ∷ filter f xs) (filter f xs)) ⊎ Memᴰ t (cond (not b) (x ∷ filter fails xs) (filter fails xs))
       go true (inl q) = inl (Memᴰ.tail q)
       go true (inr q) = inr q
       go false (inl q) = inl q

@@ -3,14 +3,14 @@
 use mathlib.Core.Path.{◌∙◌, sym, ap}
 use native.Mathlib.Omega.{arith}
 use borrow.Author.Tests.{eq-eqb, ne_eqb}
-use Rattle.lists.specs.Lists.{some}
+use Rattle.std.specs.List.{list_any}
 use Rattle.plan.proofs.Steps.{steps_all}
 use Rattle.conflict.specs.Class.{is_write}
 use Rattle.conflict.proofs.Named.{writing_here, writing_none}
 use Rattle.conflict.proofs.class.has_write.Goals as goal
 
 pub loop-s-init : goal.loop-s-init
-loop-s-init c = let a = c.args in ap (some is_write) (sym (steps_all a.plan.now a.at))
+loop-s-init c = let a = c.args in ap (list_any is_write) (sym (steps_all a.plan.now a.at))
 
 pub returns-then-step_word-eq4 : goal.returns-then-step_word-eq4
 returns-then-step_word-eq4 c =

@@ -3,7 +3,7 @@
 use mathlib.Core.Path.{◌≡◌}
 use Prim.Native.Nat.{◌-◌}
 use lib.ListN.{length}
-use Rattle.lists.specs.Lists.{some}
+use Rattle.std.specs.List.{list_any}
 use Rattle.plan.specs.Plan.{reads}
 use Rattle.plan.specs.Decode.{plan_of}
 use Rattle.plan.specs.Place.{transaction_from}
@@ -14,7 +14,7 @@ use Rattle.conflict.proofs.written.reads_written.Given as goal
 
 abbrev pub invariant-loop-i : goal.invariant-loop-i
 invariant-loop-i l =
-    some (written (plan_of l.plan)) (cells_named reads l.params (transaction_from l.plan l.at).steps)
+    list_any (written (plan_of l.plan)) (cells_named reads l.params (transaction_from l.plan l.at).steps)
     ≡ written_from (cells_named reads l.params (transaction_from l.plan l.at).steps) l.plan l.i
 
 abbrev pub decreases-loop-i : goal.decreases-loop-i

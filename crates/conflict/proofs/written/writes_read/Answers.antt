@@ -3,7 +3,7 @@
 use mathlib.Core.Path.{◌∙◌, sym, ap}
 use mathlib.Core.List.{List}
 use native.Mathlib.Omega.{arith}
-use Rattle.lists.specs.Lists.{some}
+use Rattle.std.specs.List.{list_any}
 use Rattle.plan.specs.Plan.{reads, Step}
 use Rattle.plan.specs.Decode.{step_of}
 use Rattle.plan.proofs.Steps.{steps_all}
@@ -16,7 +16,7 @@ use Rattle.conflict.proofs.written.writes_read.Goals as goal
 pub loop-s-init : goal.loop-s-init
 loop-s-init c =
     let a = c.args in
-    ap (λ (ss : List Step). some (step_writes (step_of a.word)) (cells_named reads a.params ss))
+    ap (λ (ss : List Step). list_any (step_writes (step_of a.word)) (cells_named reads a.params ss))
     (sym (steps_all a.plan.now a.at))
 
 pub cell_named-requires : goal.cell_named-requires

@@ -2,7 +2,7 @@
 -- Assumes nothing.
 use mathlib.Core.Path.{◌≡◌}
 use Prim.Native.Nat.{◌-◌}
-use Rattle.lists.specs.Lists.{some}
+use Rattle.std.specs.List.{list_any}
 use Rattle.plan.specs.Plan.{reads}
 use Rattle.plan.specs.Decode.{step_of}
 use Rattle.plan.specs.Place.{transaction_from}
@@ -13,8 +13,8 @@ use Rattle.conflict.proofs.written.writes_read.Given as goal
 
 abbrev pub invariant-loop-s : goal.invariant-loop-s
 invariant-loop-s l =
-    some (step_writes (step_of l.word)) (cells_named reads l.params (transaction_from l.plan l.at).steps)
-    ≡ some (step_writes (step_of l.word)) (cells_named reads l.params (steps_from l.plan l.at l.s))
+    list_any (step_writes (step_of l.word)) (cells_named reads l.params (transaction_from l.plan l.at).steps)
+    ≡ list_any (step_writes (step_of l.word)) (cells_named reads l.params (steps_from l.plan l.at l.s))
 
 abbrev pub decreases-loop-s : goal.decreases-loop-s
 decreases-loop-s l = l.steps - l.s

@@ -6,7 +6,7 @@ use mathlib.Core.List.{List}
 use Prim.Native.Nat.{ℕ, ◌+◌, ◌≤◌, ◌<◌}
 use native.Mathlib.Omega.{arith}
 use lib.ListN.{length, take, drop}
-use Rattle.lists.specs.Lists.{every}
+use Rattle.std.specs.List.{list_all}
 use Rattle.lists.proofs.Laws.{every_take_here, every_take_past, length_tabulate, get_or_tabulate}
 use Rattle.plan.specs.Decode.{plan_of}
 use Rattle.queue.specs.Queue.{no_request}
@@ -25,39 +25,39 @@ fits row waiting h = omega (arith, length_tabulate 32 (record_in row))
 pub returns-then-not-waits_here : goal.returns-then-not-waits_here
 returns-then-not-waits_here c =
     let turned : let waiting = take c.args.waiting (records_in c.args.row.now) in
-    every (waits_here (plan_of c.args.plan.now) c.args.desk) waiting
-    ≡ (c.waits_here.result && every (waits_here (plan_of c.args.plan.now) c.args.desk) (drop (c.loop-i.i + 1) waiting)) = let row =
+    list_all (waits_here (plan_of c.args.plan.now) c.args.desk) waiting
+    ≡ (c.waits_here.result && list_all (waits_here (plan_of c.args.plan.now) c.args.desk) (drop (c.loop-i.i + 1) waiting)) = let row =
     c.args.row.now in
     let f = waits_here (plan_of c.args.plan.now) c.args.desk in
     let here = c.loop-i-test.true in
     let low : c.loop-i.i < 32 = omega (arith, here, c.requires.1) in
     c.loop-i.invariant.1
     ∙ every_take_here f (records_in row) c.args.waiting (fits row _ c.requires.1) c.loop-i.i no_request here
-    ∙ ap (λ (b : Bool). b && every f (drop (c.loop-i.i + 1) (take c.args.waiting (records_in row))))
+    ∙ ap (λ (b : Bool). b && list_all f (drop (c.loop-i.i + 1) (take c.args.waiting (records_in row))))
     (ap f (get_or_tabulate 32 (record_in row) c.loop-i.i no_request low ∙ sym c.record_in-request.ensures)
     ∙ sym c.waits_here.ensures) in
     sym (turned
-    ∙ ap (λ (b : Bool). b && every (waits_here (plan_of c.args.plan.now) c.args.desk)
+    ∙ ap (λ (b : Bool). b && list_all (waits_here (plan_of c.args.plan.now) c.args.desk)
     (drop (c.loop-i.i + 1) (take c.args.waiting (records_in c.args.row.now))))
     (c.if-not-waits_here.true))
 
 pub loop-i-preserved : goal.loop-i-preserved
 loop-i-preserved c =
     let turned : let waiting = take c.args.waiting (records_in c.args.row.now) in
-    every (waits_here (plan_of c.args.plan.now) c.args.desk) waiting
-    ≡ (c.waits_here.result && every (waits_here (plan_of c.args.plan.now) c.args.desk) (drop (c.loop-i.i + 1) waiting)) = let row =
+    list_all (waits_here (plan_of c.args.plan.now) c.args.desk) waiting
+    ≡ (c.waits_here.result && list_all (waits_here (plan_of c.args.plan.now) c.args.desk) (drop (c.loop-i.i + 1) waiting)) = let row =
     c.args.row.now in
     let f = waits_here (plan_of c.args.plan.now) c.args.desk in
     let here = c.loop-i-test.true in
     let low : c.loop-i.i < 32 = omega (arith, here, c.requires.1) in
     c.loop-i.invariant.1
     ∙ every_take_here f (records_in row) c.args.waiting (fits row _ c.requires.1) c.loop-i.i no_request here
-    ∙ ap (λ (b : Bool). b && every f (drop (c.loop-i.i + 1) (take c.args.waiting (records_in row))))
+    ∙ ap (λ (b : Bool). b && list_all f (drop (c.loop-i.i + 1) (take c.args.waiting (records_in row))))
     (ap f (get_or_tabulate 32 (record_in row) c.loop-i.i no_request low ∙ sym c.record_in-request.ensures)
     ∙ sym c.waits_here.ensures) in (
       search rules,
       turned
-          ∙ ap (λ (b : Bool). b && every (waits_here (plan_of c.args.plan.now) c.args.desk)
+          ∙ ap (λ (b : Bool). b && list_all (waits_here (plan_of c.args.plan.now) c.args.desk)
           (drop (c.loop-i.i + 1) (take c.args.waiting (records_in c.args.row.now))))
           (c.if-not-waits_here.false),
     )
@@ -67,5 +67,5 @@ returns c =
     let row = c.args.row.now in
     let f = waits_here (plan_of c.args.plan.now) c.args.desk in
     let last : c.loop-i.i ≡ c.args.waiting = omega (arith, c.loop-i-test.false, c.loop-i.invariant.0) in
-    sym (c.loop-i.invariant.1 ∙ ap (λ (i : ℕ). every f (drop i (take c.args.waiting (records_in row)))) last
+    sym (c.loop-i.invariant.1 ∙ ap (λ (i : ℕ). list_all f (drop i (take c.args.waiting (records_in row)))) last
     ∙ every_take_past f (records_in row) c.args.waiting (fits row _ c.requires.1))

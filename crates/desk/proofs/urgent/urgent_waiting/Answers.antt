@@ -6,7 +6,7 @@ use Prim.Native.Nat.{ℕ, suc, ◌+◌}
 use native.Mathlib.Nat.{zero-add, add-zero}
 use native.Mathlib.Omega.{arith}
 use lib.ListN.{length, take, drop}
-use Rattle.lists.specs.Lists.{select}
+use Rattle.std.specs.List.{filter}
 use Rattle.lists.proofs.Laws.{select_yes, select_no}
 use Rattle.plan.specs.Decode.{plan_of}
 use Rattle.queue.specs.declared.record.Request.{Request}
@@ -27,11 +27,11 @@ pub loop-i-preserved-then-is_urgent : goal.loop-i-preserved-then-is_urgent
 loop-i-preserved-then-is_urgent c =
     let turned : let u = is_urgent (plan_of c.args.plan.now) in
     let waiting = take c.args.waiting (records_in c.args.row.now) in
-    (length (select u waiting)
-    ≡ c.loop-i.count + length (select u (record_in c.args.row.now c.loop-i.i ∷ drop (c.loop-i.i + 1) waiting)))
+    (length (filter u waiting)
+    ≡ c.loop-i.count + length (filter u (record_in c.args.row.now c.loop-i.i ∷ drop (c.loop-i.i + 1) waiting)))
     × (u (record_in c.args.row.now c.loop-i.i) ≡ c.is_urgent.result) = let u = is_urgent (plan_of c.args.plan.now) in (
       c.loop-i.invariant.2
-          ∙ ap (λ (rs : List Request). c.loop-i.count + length (select u rs))
+          ∙ ap (λ (rs : List Request). c.loop-i.count + length (filter u rs))
           (waiting_here c.args.row.now c.args.waiting c.requires.2 c.loop-i.i c.loop-i-test.true),
       ap u (sym c.record_in-request.ensures) ∙ sym c.is_urgent.ensures,
     ) in
@@ -40,7 +40,7 @@ loop-i-preserved-then-is_urgent c =
     let behind = drop (c.loop-i.i + 1) (take c.args.waiting (records_in c.args.row.now)) in (
       search rules,
       search rules,
-      counted _ c.loop-i.count (length (select u behind))
+      counted _ c.loop-i.count (length (filter u behind))
           (turned.0 ∙ ap (λ (rs : List Request). c.loop-i.count + length rs) (select_yes u r behind (turned.1 ∙ c.if-is_urgent.true))),
     )
 
@@ -48,11 +48,11 @@ pub loop-i-preserved : goal.loop-i-preserved
 loop-i-preserved c =
     let turned : let u = is_urgent (plan_of c.args.plan.now) in
     let waiting = take c.args.waiting (records_in c.args.row.now) in
-    (length (select u waiting)
-    ≡ c.loop-i.count + length (select u (record_in c.args.row.now c.loop-i.i ∷ drop (c.loop-i.i + 1) waiting)))
+    (length (filter u waiting)
+    ≡ c.loop-i.count + length (filter u (record_in c.args.row.now c.loop-i.i ∷ drop (c.loop-i.i + 1) waiting)))
     × (u (record_in c.args.row.now c.loop-i.i) ≡ c.is_urgent.result) = let u = is_urgent (plan_of c.args.plan.now) in (
       c.loop-i.invariant.2
-          ∙ ap (λ (rs : List Request). c.loop-i.count + length (select u rs))
+          ∙ ap (λ (rs : List Request). c.loop-i.count + length (filter u rs))
           (waiting_here c.args.row.now c.args.waiting c.requires.2 c.loop-i.i c.loop-i-test.true),
       ap u (sym c.record_in-request.ensures) ∙ sym c.is_urgent.ensures,
     ) in
@@ -68,6 +68,6 @@ pub returns : goal.returns
 returns c =
     let u = is_urgent (plan_of c.args.plan.now) in
     sym (c.loop-i.invariant.2
-    ∙ ap (λ (rs : List Request). c.loop-i.count + length (select u rs))
+    ∙ ap (λ (rs : List Request). c.loop-i.count + length (filter u rs))
     (waiting_past c.args.row.now c.args.waiting c.requires.2 c.loop-i.i c.loop-i-test.false)
     ∙ add-zero c.loop-i.count)

@@ -4,12 +4,12 @@ use mathlib.Core.Path.{◌≡◌}
 use Prim.Native.Nat.{◌-◌}
 use lib.Dec.{eqb}
 use lib.ListN.{length, drop}
-use Rattle.lists.specs.Lists.{every}
+use Rattle.std.specs.List.{list_all}
 use Rattle.operation.specs.Admission.{unused_zero}
 use Rattle.operation.proofs.admission.unused_zero.Given as goal
 
 abbrev pub invariant-loop-i : goal.invariant-loop-i
-invariant-loop-i l = (length l.params ≡ 4) × (unused_zero l.count l.params ≡ every (λ w. eqb w 0) (drop l.i l.params))
+invariant-loop-i l = (length l.params ≡ 4) × (unused_zero l.count l.params ≡ list_all (λ w. eqb w 0) (drop l.i l.params))
 
 abbrev pub decreases-loop-i : goal.decreases-loop-i
 decreases-loop-i l = 4 - l.i

@@ -9,7 +9,7 @@ use lib.ListN.{length, take, length-drop, get_or}
 use lib.Seq.{length-take-le, get_or-take}
 use Rattle.lists.proofs.Laws.{every_index, fill_length, length_tabulate, get_or_tabulate, take_remainder}
 use Rattle.verdict.specs.Verdict.{accepted}
-use Rattle.lists.specs.Lists.{every}
+use Rattle.std.specs.List.{list_all}
 use Rattle.plan.specs.Decode.{plan_of}
 use Rattle.plan.specs.Admission.{plan_verdict}
 use Rattle.plan.proofs.Placing.{places_long}
@@ -32,7 +32,7 @@ next row waiting at r few here read =
 
 -- and an operation, whose transaction has its place in the table
 admitted : (ws : List ℕ) (rs : List Request) (at : ℕ) (r : Request) → plan_verdict ws ≡ accepted
-    → every (is_operation (plan_of ws)) rs ≡ true → at < length rs → get_or rs at no_request ≡ r → Admitted ws r
+    → list_all (is_operation (plan_of ws)) rs ≡ true → at < length rs → get_or rs at no_request ≡ r → Admitted ws r
 admitted ws rs at r plan operations here e =
     operation_admitted ws _ plan (ap (is_operation (plan_of ws)) (sym e) ∙ every_index _ _ _ no_request operations here)
 
