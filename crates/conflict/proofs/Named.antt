@@ -16,7 +16,7 @@ use Rattle.plan.specs.Decode.{access_by, step_of, row_of}
 use Rattle.plan.specs.Admission.{step_formed}
 use Rattle.plan.specs.Place.{StandsAt, transaction_from, steps_at, step_word}
 use Rattle.plan.proofs.Words.{step_kind_low}
-use Rattle.plan.proofs.Steps.{steps_from, steps_none, steps_cons, step_formed_lem, every_step}
+use Rattle.plan.proofs.StepWords.{steps_from, steps_none, steps_cons, step_formed_lem, every_step}
 use Rattle.operation.specs.Operation.{same_access, value_of, cell_number, cells_named}
 use Rattle.operation.specs.Admission.{row_in_range, parameters_pass, unused_zero}
 use Rattle.operation.proofs.StepKinds.{row_bound, step_above_4}

@@ -13,7 +13,7 @@ use Rattle.plan.specs.Plan.{Step, operand}
 use Rattle.plan.specs.Decode.{row_of, operand_of, action_by, step_of}
 use Rattle.plan.specs.Place.{StandsAt, transaction_from, steps_at, step_word}
 use Rattle.plan.specs.Admission.{one_if_tells, tell_count, most_tells}
-use Rattle.plan.proofs.Steps.{steps_from, steps_all, steps_none, steps_cons, step_formed_lem}
+use Rattle.plan.proofs.StepWords.{steps_from, steps_all, steps_none, steps_cons, step_formed_lem}
 use Rattle.plan.proofs.Words.{transaction_steps, step_kind_low}
 use Rattle.operation.specs.Operation.{value_of, cell_number}
 use Rattle.operation.specs.Admission.{parameters_pass, unused_zero, row_in_range}

@@ -9,7 +9,7 @@ use Rattle.std.specs.List.{list_all}
 use Rattle.word.specs.Field.{parameter_count}
 use Rattle.plan.specs.Decode.{step_of}
 use Rattle.plan.specs.Place.{StandsAt, transaction_from, steps_at, step_word}
-use Rattle.plan.proofs.Steps.{steps_from, steps_all, steps_none, steps_cons}
+use Rattle.plan.proofs.StepWords.{steps_from, steps_all, steps_none, steps_cons}
 use Rattle.operation.specs.Admission.{parameters_pass, unused_zero, row_in_range}
 
 module _ (ws : List ℕ) (at : ℕ) (ps : List ℕ) where

@@ -6,6 +6,6 @@ pub mod Accepted
 pub mod OpenWords
 pub mod Places
 pub mod Placing
-pub mod Steps
+pub mod StepWords
 pub mod Lengths
 pub mod Tells

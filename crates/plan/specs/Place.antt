@@ -20,12 +20,15 @@ transaction_places ws = tabulate 32 (λ k. cond (ltb k (head_transactions (head_
 abbrev pub transaction_from : List ℕ → ℕ → Transaction
 transaction_from ws at = transaction_of (get_or ws at 0) (drop (at + 1) ws)
 
--- how many steps it has, and the word of its step s
+-- how many steps it has, the word of its step s, and the words of all
 abbrev pub steps_at : List ℕ → ℕ → ℕ
 steps_at ws at = step_count (get_or ws at 0)
 
 abbrev pub step_word : List ℕ → ℕ → ℕ → ℕ
 step_word ws at s = get_or ws (at + 1 + s) 0
+
+abbrev pub step_words : List ℕ → ℕ → List ℕ
+step_words ws at = take (steps_at ws at) (drop (at + 1) ws)
 
 -- a well-formed transaction stands at `at`, whole
 pub record StandsAt (ws : List ℕ) (at : ℕ) : Type 0 where

@@ -8,5 +8,5 @@ mod reader;
 
 pub use form::{MOST_TELLS, OPEN, UNPARTITIONED, names_no_parameter};
 pub use open::is_open;
-pub use place::{step_count, step_word, transaction_place, transaction_places, word_at};
+pub use place::{step_count, step_word, steps, transaction_place, transaction_places, word_at};
 pub use reader::{read_open_plan, read_plan};

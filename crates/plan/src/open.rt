@@ -20,13 +20,5 @@ pub fn is_open(word: u32) -> bool
 pub(crate) fn has_open(plan: &[u32]) -> bool
     ensures { result ≡ list_any is_open plan.now }
 {
-    let mut i: usize = 0;
-    while i < plan.len() {
-        let word = plan[i];
-        i = i + 1;
-        if is_open(word) {
-            return true;
-        }
-    }
-    false
+    plan.iter().any(|word| is_open(*word))
 }

@@ -2,7 +2,7 @@
 ghost use Rattle.std.specs.Prelude.{◌≡◌, get_or, ◌<◌};
 ghost use Rattle.verdict.specs.Verdict.{accepted};
 ghost use Rattle.plan.specs.Admission.{plan_verdict};
-ghost use Rattle.plan.specs.Place.{transaction_place, transaction_places, StandsAt, steps_at, step_word};
+ghost use Rattle.plan.specs.Place.{transaction_place, transaction_places, StandsAt, steps_at, step_word, step_words};
 
 use word::fields;
 
@@ -29,6 +29,15 @@ pub fn step_word(plan: &[u32], at: usize, s: usize) -> u32
     plan[at + 1 + s]
 }
 
+// The words of its steps.
+pub fn steps(plan: &[u32], at: usize) -> &[u32]
+    requires { StandsAt plan.now at }
+    ensures { result.now ≡ step_words plan.now at }
+{
+    let first = at + 1;
+    &plan[first..first + step_count(plan, at)]
+}
+
 // The place of transaction k.
 pub fn transaction_place(plan: &[u32], k: u32) -> usize
     ensures { result ≡ transaction_place plan.now k }
@@ -49,11 +58,9 @@ pub fn transaction_places(plan: &[u32]) -> [usize; 32]
     let mut places = [0usize; 32];
     let transactions = (plan[0] / fields::TRANSACTIONS % 256) as usize;
     let mut at: usize = 1;
-    let mut k: usize = 0;
-    while k < transactions {
+    for k in 0..transactions {
         places[k] = at;
         at = at + 1 + step_count(plan, at);
-        k = k + 1;
     }
     places
 }

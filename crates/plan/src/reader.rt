@@ -6,48 +6,47 @@ ghost use Rattle.verdict.specs.Verdict.{verdict_of};
 ghost use Rattle.plan.specs.Admission.{open_plan_verdict, plan_verdict, transactions_verdict, transaction_formed, step_fits, most_tells};
 
 use crate::{form, open};
-use verdict::Verdict;
+use verdict::Refusal;
 use word::fields;
 
 // Questions 1 to 4, then 17: whether a field is open.
-pub fn read_plan(plan: &[u32]) -> Verdict
+#[tactic(auto, using(crate::proofs::OpenWords::open_found), unfolding(crate::specs::Admission::plan_verdict))]
+pub fn read_plan(plan: &[u32]) -> Result<(), Refusal>
     ensures { verdict_of result ≡ plan_verdict plan.now }
 {
-    if let Verdict::Refused(question) = read_open_plan(plan) {
-        return Verdict::Refused(question);
-    }
+    read_open_plan(plan)?;
     if open::has_open(plan) {
-        return Verdict::Refused(17);
+        return Err(Refusal::OpenField);
     }
-    Verdict::Accepted
+    Ok(())
 }
 
 // Questions 1 to 4.
-pub fn read_open_plan(plan: &[u32]) -> Verdict
+pub fn read_open_plan(plan: &[u32]) -> Result<(), Refusal>
     ensures { verdict_of result ≡ open_plan_verdict plan.now }
 {
     let words = plan.len();
     if words < 1 {
-        return Verdict::Refused(1);
+        return Err(Refusal::NoPlan);
     }
     if 417 < words {
-        return Verdict::Refused(1);
+        return Err(Refusal::NoPlan);
     }
     let head = plan[0];
     if head / fields::KIND != 1 {
-        return Verdict::Refused(1);
+        return Err(Refusal::NoPlan);
     }
     if (head % 0x1_0000) as usize != words {
-        return Verdict::Refused(1);
+        return Err(Refusal::NoPlan);
     }
     if !form::counts_in_range(head) {
-        return Verdict::Refused(2);
+        return Err(Refusal::CountOutOfRange);
     }
     read_transactions(plan, head / fields::TRANSACTIONS % 256)
 }
 
 // Questions 3 and 4 of the words behind the head. The first form fault leaves both loops.
-fn read_transactions(plan: &[u32], transactions: u32) -> Verdict
+fn read_transactions(plan: &[u32], transactions: u32) -> Result<(), Refusal>
     ensures { verdict_of result ≡ transactions_verdict transactions (drop 1 plan.now) }
 {
     let mut at: usize = 1;
@@ -61,31 +60,29 @@ fn read_transactions(plan: &[u32], transactions: u32) -> Verdict
         let parameters = word / fields::PARAMETERS % 16;
         let steps = word / fields::STEPS % 16;
         missing = form::partitioning_missing(word, missing);
-        at = at + 1;
+        at += 1;
         let mut tells: usize = 0;
-        let mut s: u32 = 0;
-        while s < steps {
+        for s in 0..steps {
             if !step_at(plan, at, tells) {
                 break 'transactions;
             }
             let step = plan[at];
             tells = form::tells_with(step, tells);
             missing = form::step_missing(step, parameters, missing);
-            at = at + 1;
-            s = s + 1;
+            at += 1;
         }
-        t = t + 1;
+        t += 1;
     }
     if t < transactions {
-        return Verdict::Refused(3);
+        return Err(Refusal::MalformedWord);
     }
     if at < plan.len() {
-        return Verdict::Refused(3);
+        return Err(Refusal::MalformedWord);
     }
     if missing {
-        return Verdict::Refused(4);
+        return Err(Refusal::MissingParameter);
     }
-    Verdict::Accepted
+    Ok(())
 }
 
 // Whether a well-formed transaction's word stands at this place.

@@ -8,7 +8,7 @@ use lib.ListN.{length}
 use Rattle.lists.proofs.Laws.{length_tabulate}
 use Rattle.plan.specs.Plan.{writes, Step}
 use Rattle.plan.specs.Decode.{plan_of, row_of}
-use Rattle.plan.proofs.Steps.{steps_all}
+use Rattle.plan.proofs.StepWords.{steps_all}
 use Rattle.operation.specs.Operation.{value_of, cells_named}
 use Rattle.conflict.specs.Touch.{desk_mask}
 use Rattle.conflict.proofs.LowestCells.{lowest_from, tabled_other, cause_cell_walked}

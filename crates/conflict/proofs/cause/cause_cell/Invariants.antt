@@ -5,7 +5,7 @@ use Prim.Native.Nat.{◌-◌}
 use Rattle.plan.specs.Plan.{writes}
 use Rattle.plan.specs.Decode.{plan_of}
 use Rattle.plan.specs.Place.{transaction_from}
-use Rattle.plan.proofs.Steps.{steps_from}
+use Rattle.plan.proofs.StepWords.{steps_from}
 use Rattle.operation.specs.Operation.{cells_named}
 use Rattle.conflict.specs.Cause.{cause_cell}
 use Rattle.conflict.proofs.LowestCells.{lowest_from, tabled_other}

@@ -10,7 +10,7 @@ use Rattle.plan.specs.Plan.{Step}
 use Rattle.plan.specs.Decode.{head_of}
 use Rattle.plan.specs.Place.{transaction_from}
 use Rattle.plan.proofs.Accepted.{accepted_gives, desk_count_lem}
-use Rattle.plan.proofs.Steps.{steps_all}
+use Rattle.plan.proofs.StepWords.{steps_all}
 use Rattle.conflict.specs.Touch.{steps_touch}
 use Rattle.conflict.proofs.Named.{touching_here, touching_none}
 use borrow.Author.Rules.{rules}

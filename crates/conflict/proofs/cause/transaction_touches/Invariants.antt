@@ -4,7 +4,7 @@ use mathlib.Core.Path.{◌≡◌}
 use Prim.Native.Nat.{◌-◌}
 use Rattle.plan.specs.Decode.{plan_of, part_by}
 use Rattle.plan.specs.Place.{transaction_from}
-use Rattle.plan.proofs.Steps.{steps_from}
+use Rattle.plan.proofs.StepWords.{steps_from}
 use Rattle.conflict.specs.Touch.{steps_touch}
 use Rattle.conflict.proofs.cause.transaction_touches.Given as goal
 

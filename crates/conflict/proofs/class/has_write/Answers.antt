@@ -4,7 +4,7 @@ use mathlib.Core.Path.{◌∙◌, sym, ap}
 use native.Mathlib.Omega.{arith}
 use borrow.Author.Tests.{eq-eqb, ne_eqb}
 use Rattle.std.specs.List.{list_any}
-use Rattle.plan.proofs.Steps.{steps_all}
+use Rattle.plan.proofs.StepWords.{steps_all}
 use Rattle.conflict.specs.Class.{is_write}
 use Rattle.conflict.proofs.Named.{writing_here, writing_none}
 use Rattle.conflict.proofs.class.has_write.Goals as goal

@@ -4,7 +4,7 @@ use mathlib.Core.Path.{◌≡◌}
 use Prim.Native.Nat.{◌-◌}
 use Rattle.std.specs.List.{list_any}
 use Rattle.plan.specs.Place.{transaction_from}
-use Rattle.plan.proofs.Steps.{steps_from}
+use Rattle.plan.proofs.StepWords.{steps_from}
 use Rattle.conflict.specs.Class.{is_write}
 use Rattle.conflict.proofs.class.has_write.Given as goal
 

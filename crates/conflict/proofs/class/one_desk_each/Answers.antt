@@ -8,7 +8,7 @@ use lib.ListN.{get_or}
 use borrow.Author.Tests.{eq-eqb, ne_eqb}
 use Rattle.plan.specs.Plan.{writes, Step}
 use Rattle.plan.specs.Decode.{row_of}
-use Rattle.plan.proofs.Steps.{steps_all}
+use Rattle.plan.proofs.StepWords.{steps_all}
 use Rattle.operation.specs.Operation.{value_of, cells_named}
 use Rattle.conflict.specs.Class.{one_desk_each}
 use Rattle.conflict.proofs.Named.{row_passes, one_here, one_other, one_done}

@@ -5,7 +5,7 @@ use Prim.Native.Nat.{◌-◌}
 use lib.ListN.{get_or}
 use Rattle.plan.specs.Plan.{writes}
 use Rattle.plan.specs.Place.{transaction_from}
-use Rattle.plan.proofs.Steps.{steps_from}
+use Rattle.plan.proofs.StepWords.{steps_from}
 use Rattle.operation.specs.Operation.{cells_named}
 use Rattle.conflict.specs.Class.{one_desk_each}
 use Rattle.conflict.proofs.class.one_desk_each.Given as goal

@@ -7,7 +7,7 @@ use lib.ListN.{length, length-replicate}
 use Rattle.plan.specs.Place.{StandsAt, transaction_place, steps_at}
 use Rattle.plan.proofs.Accepted.{accepted_gives}
 use Rattle.plan.proofs.Places.{stands_at_lem, place_next, transactions_all, transactions_cons, transactions_none}
-use Rattle.plan.proofs.Steps.{steps_all, steps_cons, steps_none}
+use Rattle.plan.proofs.StepWords.{steps_all, steps_cons, steps_none}
 use Rattle.conflict.proofs.Filling.{start, enter, step_on, leave, done}
 use borrow.Author.Rules.{rules}
 use Rattle.conflict.proofs.mask.fill_masks.Goals as goal

@@ -5,7 +5,7 @@ use Prim.Native.Nat.{◌+◌, ◌-◌}
 use Rattle.plan.specs.Decode.{part_by}
 use Rattle.plan.specs.Place.{transaction_place}
 use Rattle.plan.proofs.Places.{transactions_from}
-use Rattle.plan.proofs.Steps.{steps_from}
+use Rattle.plan.proofs.StepWords.{steps_from}
 use Rattle.conflict.proofs.Filling.{Filling, FillingIn}
 use Rattle.conflict.proofs.mask.fill_masks.Given as goal
 

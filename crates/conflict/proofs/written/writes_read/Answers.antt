@@ -6,7 +6,7 @@ use native.Mathlib.Omega.{arith}
 use Rattle.std.specs.List.{list_any}
 use Rattle.plan.specs.Plan.{reads, Step}
 use Rattle.plan.specs.Decode.{step_of}
-use Rattle.plan.proofs.Steps.{steps_all}
+use Rattle.plan.proofs.StepWords.{steps_all}
 use Rattle.operation.specs.Operation.{cells_named}
 use Rattle.conflict.specs.Written.{step_writes}
 use Rattle.conflict.proofs.Named.{row_passes, read_found, read_other, read_done}

@@ -6,7 +6,7 @@ use Rattle.std.specs.List.{list_any}
 use Rattle.plan.specs.Plan.{reads}
 use Rattle.plan.specs.Decode.{step_of}
 use Rattle.plan.specs.Place.{transaction_from}
-use Rattle.plan.proofs.Steps.{steps_from}
+use Rattle.plan.proofs.StepWords.{steps_from}
 use Rattle.operation.specs.Operation.{cells_named}
 use Rattle.conflict.specs.Written.{step_writes}
 use Rattle.conflict.proofs.written.writes_read.Given as goal

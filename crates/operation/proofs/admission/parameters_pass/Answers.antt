@@ -2,7 +2,7 @@
 -- Assumes nothing.
 use mathlib.Core.Path.{◌∙◌, sym}
 use native.Mathlib.Omega.{arith}
-use Rattle.plan.proofs.Steps.{step_formed_lem}
+use Rattle.plan.proofs.StepWords.{step_formed_lem}
 use Rattle.operation.proofs.Rows.{unused_fails, asking_start, asking_fails, asking_next, asking_done}
 use Rattle.operation.proofs.admission.parameters_pass.Goals as goal
 
