@@ -1,0 +1,16 @@
+-- What the code's transactions stand for.
+use Rattle.std.specs.Prelude.{ℕ, List, map, eqb}
+use Rattle.word.specs.Field.{parameter_count, partitioning_field, weight_field, urgent_field}
+use Rattle.plan.specs.Plan as plan
+use Rattle.plan.specs.Decode.{step_of, part_by}
+use Rattle.plan.specs.declared.transaction.Transaction.{Transaction}
+
+abbrev pub the_transaction : Transaction → plan.Transaction
+the_transaction t =
+    record {
+      params = parameter_count t.word;
+      part = part_by (partitioning_field t.word);
+      weight = weight_field t.word;
+      urgent = eqb (urgent_field t.word) 1;
+      steps = map step_of t.steps.now;
+    }

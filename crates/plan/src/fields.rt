@@ -1,0 +1,74 @@
+// What an accepted plan and a well-formed transaction say.
+//     Plan::read                     the plan, of the words of one
+//     desks, transaction_count       its counts
+//     standing                       the transaction that stands at a place
+//     parameters, partitioning       its fields
+ghost use Rattle.std.specs.Prelude.{◌≡◌, ◌<◌, ◌≤◌, OnOk, IfOk, length};
+ghost use Rattle.verdict.specs.Verdict.{verdict_of};
+ghost use Rattle.word.specs.Field.{head_transactions, parameter_count, partitioning_field};
+ghost use Rattle.plan.specs.Decode.{head_of, part_by};
+ghost use Rattle.plan.specs.Admission.{plan_verdict};
+ghost use Rattle.plan.specs.Accepted.{the_plan};
+ghost use Rattle.plan.specs.Place.{StandsAt, transaction_from};
+ghost use Rattle.plan.specs.Transaction.{the_transaction};
+
+use crate::accepted_plan::Plan;
+use crate::transaction::Transaction;
+use crate::{place, reader};
+use verdict::Refusal;
+use word::fields;
+
+impl<'a> Plan<'a> {
+    // The plan of these words, which the plan reader accepts.
+    pub fn read(words: &'a [u32]) -> Result<Self, Refusal>
+        ensures verdict { verdict_of result ≡ plan_verdict words.now }
+        ensures words { IfOk result (λ p. p.words.now ≡ words.now) }
+    {
+        reader::read_plan(words)?;
+        Ok(Plan { words })
+    }
+
+    // How many desks.
+    pub fn desks(&self) -> u32
+        ensures desks { result ≡ (the_plan self.now).desks }
+        ensures some { 1 ≤ result }
+        ensures most { result ≤ 8 }
+    {
+        self.words[0] / fields::DESKS % 16
+    }
+
+    // How many transactions.
+    pub fn transaction_count(&self) -> u32
+        ensures count { result ≡ length (the_plan self.now).transactions }
+        ensures most { result ≤ 32 }
+    {
+        self.words[0] / fields::TRANSACTIONS % 256
+    }
+}
+
+impl<'a> Transaction<'a> {
+    // The transaction that stands at this place.
+    pub fn standing(plan: &'a [u32], at: usize) -> Self
+        requires { StandsAt plan.now at }
+        ensures { the_transaction result ≡ transaction_from plan.now at }
+    {
+        Transaction {
+            word: plan[at],
+            steps: place::steps(plan, at),
+        }
+    }
+
+    // How many parameters it has.
+    pub fn parameters(&self) -> u32
+        ensures { result ≡ (the_transaction self.now).params }
+    {
+        self.word / fields::PARAMETERS % 16
+    }
+
+    // Whether it is urgent.
+    pub fn is_urgent(&self) -> bool
+        ensures { result ≡ (the_transaction self.now).urgent }
+    {
+        self.word / fields::URGENT % 2 == 1
+    }
+}

@@ -1,0 +1,9 @@
+// A well-formed transaction: its word, and the words of its steps.
+ghost use Rattle.plan.specs.Form.{IsTransaction};
+
+#[derive(Clone, Copy)]
+pub struct Transaction<'a> {
+    pub word: u32,
+    pub steps: &'a [u32],
+    ghost formed: { IsTransaction word steps.now },
+}
