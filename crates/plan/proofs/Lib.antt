@@ -1,4 +1,5 @@
 pub mod Words
+pub mod FirstTransaction
 pub mod FormedParts
 pub mod Partitionings
 pub mod Rest

@@ -1,9 +1,10 @@
--- What the code's transactions stand for.
+-- What the code's transactions stand for, one, and those that are left of a plan.
 use Rattle.std.specs.Prelude.{ℕ, List, map, eqb}
 use Rattle.word.specs.Field.{parameter_count, partitioning_field, weight_field, urgent_field}
 use Rattle.plan.specs.Plan as plan
-use Rattle.plan.specs.Decode.{step_of, part_by}
+use Rattle.plan.specs.Decode.{step_of, part_by, transactions_of}
 use Rattle.plan.specs.declared.transaction.Transaction.{Transaction}
+use Rattle.plan.specs.declared.transactions.Transactions.{Transactions}
 
 abbrev pub the_transaction : Transaction → plan.Transaction
 the_transaction t =
@@ -14,3 +15,6 @@ the_transaction t =
       urgent = eqb (urgent_field t.word) 1;
       steps = map step_of t.steps.now;
     }
+
+abbrev pub the_transactions : Transactions → List plan.Transaction
+the_transactions s = transactions_of s.left s.rest.now

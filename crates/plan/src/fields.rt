@@ -10,10 +10,12 @@ ghost use Rattle.plan.specs.Decode.{head_of, part_by};
 ghost use Rattle.plan.specs.Admission.{plan_verdict};
 ghost use Rattle.plan.specs.Accepted.{the_plan};
 ghost use Rattle.plan.specs.Place.{StandsAt, transaction_from};
-ghost use Rattle.plan.specs.Transaction.{the_transaction};
+ghost use Rattle.plan.specs.Transaction.{the_transaction, the_transactions};
+ghost use Rattle.std.specs.Iterator.{YieldsFirstBy, item_count};
 
 use crate::accepted_plan::Plan;
 use crate::transaction::Transaction;
+use crate::transactions::Transactions;
 use crate::{place, reader};
 use verdict::Refusal;
 use word::fields;
@@ -37,12 +39,47 @@ impl<'a> Plan<'a> {
         self.words[0] / fields::DESKS % 16
     }
 
+    // Its transactions, in order.
+    pub fn transactions(&self) -> Transactions<'a>
+        ensures { the_transactions result ≡ (the_plan self.now).transactions }
+    {
+        Transactions {
+            left: self.transaction_count(),
+            rest: &self.words[1..],
+        }
+    }
+
     // How many transactions.
     pub fn transaction_count(&self) -> u32
         ensures count { result ≡ length (the_plan self.now).transactions }
         ensures most { result ≤ 32 }
     {
         self.words[0] / fields::TRANSACTIONS % 256
+    }
+}
+
+impl<'a> Iterator for Transactions<'a> {
+    type Item = Transaction<'a>;
+
+    ghost next_gives = { YieldsFirstBy the_transaction the_transactions };
+
+    ghost remaining = { item_count the_transactions };
+
+    fn next(&mut self) -> Option<Transaction<'a>> {
+        if self.left == 0 {
+            return None;
+        }
+        let word = self.rest[0];
+        let end = 1 + (word / fields::STEPS % 16) as usize;
+        let transaction = Transaction {
+            word,
+            steps: &self.rest[1..end],
+        };
+        *self = Transactions {
+            left: self.left - 1,
+            rest: &self.rest[end..],
+        };
+        Some(transaction)
     }
 }
 

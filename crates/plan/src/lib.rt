@@ -9,6 +9,7 @@ mod place;
 mod reader;
 mod step;
 mod transaction;
+mod transactions;
 
 pub use accepted_plan::Plan;
 pub use form::{MOST_TELLS, OPEN, UNPARTITIONED, names_no_parameter};
@@ -17,3 +18,4 @@ pub use place::{step_count, step_word, steps, transaction_place, transaction_pla
 pub use reader::{read_open_plan, read_plan};
 pub use step::{Access, Action, Source, Step};
 pub use transaction::Transaction;
+pub use transactions::Transactions;
