@@ -1,4 +1,4 @@
--- What the code's steps stand for.
+-- What the code's steps and partitionings stand for.
 use Rattle.std.specs.Prelude.{ℕ}
 use Rattle.plan.specs.Plan as plan
 use Rattle.plan.specs.declared.step.Access.{Access}
@@ -9,6 +9,8 @@ use Rattle.plan.specs.declared.step.Source.{Source}
 use Rattle.plan.specs.declared.step.Source.TheVariants.{Parameter, Fixed}
 use Rattle.plan.specs.declared.step.Step.{Step}
 use Rattle.plan.specs.declared.step.Step.TheVariants.{Cell, Operand, Tell}
+use Rattle.plan.specs.declared.partitioning.Partitioning as partitioning
+use Rattle.plan.specs.declared.partitioning.Partitioning.TheVariants as by
 
 abbrev pub access_from : Access → plan.Access
 access_from Read = plan.reads
@@ -28,3 +30,8 @@ abbrev pub step_from : Step → plan.Step
 step_from (Cell a t c r) = plan.cell (access_from a) t c (source_from r)
 step_from (Operand a o) = plan.operand (action_from a) (source_from o)
 step_from Tell = plan.tells
+
+abbrev pub part_from : partitioning.Partitioning → plan.Partitioning
+part_from (by.Parameter i) = plan.by_param i
+part_from by.Unpartitioned = plan.unpartitioned
+part_from by.Open = plan.undecided

@@ -10,10 +10,14 @@ ghost use Rattle.plan.specs.Decode.{head_of, part_by};
 ghost use Rattle.plan.specs.Admission.{plan_verdict};
 ghost use Rattle.plan.specs.Accepted.{the_plan};
 ghost use Rattle.plan.specs.Place.{StandsAt, transaction_from};
+ghost use Rattle.plan.specs.Step.{part_from};
 ghost use Rattle.plan.specs.Transaction.{the_transaction, the_transactions};
 ghost use Rattle.std.specs.Iterator.{YieldsFirstBy, item_count};
+ghost use Rattle.std.specs.Option.{option_map};
+ghost use Rattle.std.specs.List.{slice_get};
 
 use crate::accepted_plan::Plan;
+use crate::partitioning::Partitioning;
 use crate::transaction::Transaction;
 use crate::transactions::Transactions;
 use crate::{place, reader};
@@ -37,6 +41,13 @@ impl<'a> Plan<'a> {
         ensures most { result ≤ 8 }
     {
         self.words[0] / fields::DESKS % 16
+    }
+
+    // The transaction with this number.
+    pub fn transaction(&self, number: u32) -> Option<Transaction<'a>>
+        ensures { option_map the_transaction result ≡ slice_get (the_plan self.now).transactions number }
+    {
+        self.transactions().nth(number as usize)
     }
 
     // Its transactions, in order.
@@ -100,6 +111,13 @@ impl<'a> Transaction<'a> {
         ensures { result ≡ (the_transaction self.now).params }
     {
         self.word / fields::PARAMETERS % 16
+    }
+
+    // By what its operations go to their desks.
+    pub fn partitioning(&self) -> Partitioning
+        ensures { part_from result ≡ (the_transaction self.now).part }
+    {
+        Partitioning::from(self.word / fields::PARTITIONING % 16)
     }
 
     // Whether it is urgent.
