@@ -1,12 +1,11 @@
 -- The words of transactions: the first one stands whole at their front, and behind it stand those that are left.
 -- Assumes nothing.
-use Rattle.std.proofs.Common.{ℕ, zero, suc, ◌+◌, ◌-◌, ◌<◌, ◌≤◌, ◌≡◌, true, List, [], ◌∷◌, length, take, drop, map, get_or, eqb, arith, refl}
+use Rattle.std.proofs.Common.{ℕ, zero, suc, ◌+◌, ◌-◌, ◌<◌, ◌≤◌, ◌≡◌, true, List, [], ◌∷◌, length, take, drop, map, get_or, arith}
 use Rattle.std.proofs.lemmas.Bool.{false≢true}
 use lib.Seq.{length-take-le}
 use borrow.Author.Tests.{leb-true}
 use Rattle.lists.proofs.Laws.{take_remainder}
 use Rattle.word.specs.Field.{step_count}
-use Rattle.plan.specs.Plan.{Transaction}
 use Rattle.plan.specs.Decode.{step_of, transaction_of, transactions_of}
 use Rattle.plan.specs.Admission.{well_formed, tell_count, most_tells}
 use Rattle.plan.specs.Form.{IsTransaction}

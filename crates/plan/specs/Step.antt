@@ -1,5 +1,4 @@
 -- What the code's steps and partitionings stand for.
-use Rattle.std.specs.Prelude.{ℕ}
 use Rattle.plan.specs.Plan as plan
 use Rattle.plan.specs.declared.step.Access.{Access}
 use Rattle.plan.specs.declared.step.Access.TheVariants.{Read, Write}

@@ -1,5 +1,5 @@
 -- What the code's transactions stand for, one, and those that are left of a plan.
-use Rattle.std.specs.Prelude.{ℕ, List, map, eqb}
+use Rattle.std.specs.Prelude.{List, map, eqb}
 use Rattle.word.specs.Field.{parameter_count, partitioning_field, weight_field, urgent_field}
 use Rattle.plan.specs.Plan as plan
 use Rattle.plan.specs.Decode.{step_of, part_by, transactions_of}

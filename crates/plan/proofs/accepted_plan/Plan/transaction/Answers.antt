@@ -6,4 +6,4 @@ use Rattle.plan.proofs.accepted_plan.Plan.transaction.Goals as goal
 
 pub returns : goal.returns
 returns c =
-    nth_from_yields_List _ _ _ c.nth.ensures.ran (YieldsList-from_first the_transaction the_transactions _ c.transactions.ensures)
+    nth_from_yields_List _ c.nth.new.self _ c.nth.ensures.ran (YieldsList-from_first the_transaction the_transactions _ c.transactions.ensures)

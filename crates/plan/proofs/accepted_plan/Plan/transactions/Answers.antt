@@ -1,10 +1,9 @@
 -- The transactions of an accepted plan stand behind its head.
 -- Assumes nothing.
-use Rattle.std.proofs.Common.{◌≡◌, ◌∙◌, sym, ap, refl, drop}
+use Rattle.std.proofs.Common.{◌≡◌, ◌∙◌}
 use Rattle.lists.proofs.Laws.{take_remainder}
 use Rattle.word.specs.Field.{head_transactions}
-use Rattle.plan.specs.Decode.{plan_of, head_of, transactions_of}
-use Rattle.plan.specs.Admission.{well_formed}
+use Rattle.plan.specs.Decode.{plan_of, head_of}
 use Rattle.plan.proofs.Accepted.{accepted_gives, transaction_count}
 use Rattle.plan.proofs.accepted_plan.Plan.transactions.Goals as goal
 

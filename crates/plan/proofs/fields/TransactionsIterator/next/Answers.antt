@@ -1,6 +1,6 @@
 -- The next transaction is the first of those that are left.
 -- Assumes nothing.
-use Rattle.std.proofs.Common.{◌<◌, rules, arith, length, ◌≤◌, refl, ◌∙◌}
+use Rattle.std.proofs.Common.{rules, arith, refl, ◌∙◌}
 use Rattle.plan.specs.Decode.{transactions_of}
 use Rattle.plan.proofs.FirstTransaction.{first_transaction}
 use Rattle.plan.proofs.fields.TransactionsIterator.next.Goals as goal
