@@ -1,66 +1,70 @@
 // Questions 7 and 8.
-ghost use Rattle.std.specs.Prelude.{◌≡◌, true};
-ghost use Rattle.verdict.specs.Verdict.{accepted};
-ghost use Rattle.plan.specs.Decode.{plan_of, step_of};
-ghost use Rattle.plan.specs.Admission.{plan_verdict, step_formed};
-ghost use Rattle.plan.specs.Place.{StandsAt, transaction_from};
-ghost use Rattle.operation.specs.Admission.{transaction_exists, parameters_pass, unused_zero, row_in_range};
+//     unused_zero, row_in_range     question 8 of the parameters that are not used, and of a step
+//     Operation::of                 the operation of a transaction with parameters, if they pass question 8
+//     Operation::admit              the operation of a plan, if it passes questions 7 and 8
+ghost use Rattle.std.specs.Prelude.{◌≡◌, ◌≤◌, IfSome, IfOk, is_some};
+ghost use Rattle.verdict.specs.Verdict.{verdict_of};
+ghost use Rattle.plan.specs.Plan.{transaction_at};
+ghost use Rattle.plan.specs.Accepted.{the_plan};
+ghost use Rattle.plan.specs.Step.{step_from};
+ghost use Rattle.plan.specs.Transaction.{the_transaction};
+ghost use Rattle.operation.specs.Operation.{operation};
+ghost use Rattle.operation.specs.Admission.{parameters_pass, unused_zero, row_in_range, operation_verdict};
 
-use crate::cell;
-use word::fields;
-
-// Question 7.
-pub fn transaction_exists(plan: &[u32], transaction: u32) -> bool
-    requires { plan_verdict plan.now ≡ accepted }
-    ensures { result ≡ transaction_exists (plan_of plan.now) transaction }
-{
-    transaction < plan[0] / fields::TRANSACTIONS % 256
-}
-
-// Question 8 of the transaction that stands at this place.
-pub fn parameters_pass(plan: &[u32], at: usize, params: [u32; 4]) -> bool
-    requires { StandsAt plan.now at }
-    ensures { result ≡ parameters_pass (transaction_from plan.now at) params }
-{
-    if !unused_zero(plan[at] / fields::PARAMETERS % 16, params) {
-        return false;
-    }
-    let steps = plan::step_count(plan, at);
-    let mut s: usize = 0;
-    while s < steps {
-        if !row_in_range(plan::step_word(plan, at, s), params) {
-            return false;
-        }
-        s = s + 1;
-    }
-    true
-}
+use crate::operation::Operation;
+use crate::value;
+use plan::{Plan, Source, Step, Transaction};
+use verdict::Refusal;
 
 // The parameters from this number on are zero.
-fn unused_zero(count: u32, params: [u32; 4]) -> bool
-    ensures { result ≡ unused_zero count params }
+fn unused_zero(count: u32, params: &[u32; 4]) -> bool
+    requires { count ≤ 4 }
+    ensures { result ≡ unused_zero count params.now }
 {
-    let mut i = count as usize;
-    while i < 4 {
-        if params[i] != 0 {
-            return false;
-        }
-        i = i + 1;
-    }
-    true
+    params[count as usize..].iter().all(|word| *word == 0)
 }
 
-// The row of the step in this word, if it is a parameter, is at most 31.
-fn row_in_range(word: u32, params: [u32; 4]) -> bool
-    requires { step_formed word ≡ true }
-    ensures { result ≡ row_in_range params (step_of word) }
+// The row of the step, if it is a parameter, is at most 31.
+fn row_in_range(step: Step, params: &[u32; 4]) -> bool
+    ensures { result ≡ row_in_range params.now (step_from step) }
 {
-    if 4 < word / fields::KIND {
-        return true;
+    match step {
+        Step::Cell(_, _, _, Source::Parameter(i)) => value::parameter(params, i) <= 31,
+        Step::Cell(_, _, _, Source::Fixed(_)) => true,
+        Step::Operand(_, _) => true,
+        Step::Tell => true,
     }
-    let source = word / fields::ROW_SOURCE % 8;
-    if source == 7 {
-        return true;
+}
+
+impl<'a> Operation<'a> {
+    // Question 8.
+    pub fn of(transaction: Transaction<'a>, params: [u32; 4]) -> Option<Self>
+        ensures passes { is_some result ≡ parameters_pass (the_transaction transaction.entry) params }
+        ensures same { IfSome result (λ o. (the_transaction o.transaction ≡ the_transaction transaction.entry) × (o.params ≡ params)) }
+    {
+        if !unused_zero(transaction.parameters(), &params) {
+            return None;
+        }
+        let rows = transaction
+            .steps
+            .iter()
+            .all(|word| row_in_range(Step::from(*word), &params));
+        if !rows {
+            return None;
+        }
+        Some(Operation {
+            transaction,
+            params,
+        })
     }
-    cell::parameter(params, source) <= 31
+
+    // Questions 7 and 8.
+    pub fn admit(plan: &Plan<'a>, transaction: u32, params: [u32; 4]) -> Result<Self, Refusal>
+        ensures verdict { verdict_of result ≡ operation_verdict (the_plan plan.now) (operation transaction params) }
+        ensures same { IfOk result (λ o. (the_transaction o.transaction ≡ transaction_at (the_plan plan.now) transaction)
+            × (o.params ≡ params)) }
+    {
+        let found = plan.transaction(transaction).ok_or(Refusal::NoTransaction)?;
+        Operation::of(found, params).ok_or(Refusal::ParameterOutOfRange)
+    }
 }

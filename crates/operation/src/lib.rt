@@ -2,7 +2,7 @@
 #![tactic(auto)]
 
 mod admission;
-mod cell;
+mod operation;
+mod value;
 
-pub use admission::{parameters_pass, transaction_exists};
-pub use cell::{STORE_SIZE, cell_named, desk, source_value};
+pub use operation::Operation;

@@ -10,16 +10,17 @@ ghost use Rattle.plan.specs.Decode.{head_of, part_by};
 ghost use Rattle.plan.specs.Admission.{plan_verdict};
 ghost use Rattle.plan.specs.Accepted.{the_plan};
 ghost use Rattle.plan.specs.Place.{StandsAt, transaction_from};
-ghost use Rattle.plan.specs.Step.{part_from};
-ghost use Rattle.plan.specs.Transaction.{the_transaction, the_transactions};
+ghost use Rattle.plan.specs.Step.{part_from, step_from};
+ghost use Rattle.plan.specs.Transaction.{the_steps, the_transaction, the_transactions};
 ghost use Rattle.std.specs.Iterator.{YieldsFirstBy, item_count};
 ghost use Rattle.std.specs.Option.{option_map};
 ghost use Rattle.std.specs.List.{slice_get};
 
 use crate::accepted_plan::Plan;
 use crate::partitioning::Partitioning;
+use crate::step::Step;
 use crate::transaction::Transaction;
-use crate::transactions::Transactions;
+use crate::transactions::{Steps, Transactions};
 use crate::{place, reader};
 use verdict::Refusal;
 use word::fields;
@@ -84,13 +85,27 @@ impl<'a> Iterator for Transactions<'a> {
         let end = 1 + (word / fields::STEPS % 16) as usize;
         let transaction = Transaction {
             word,
-            steps: &self.rest[1..end],
+            step_words: &self.rest[1..end],
         };
         *self = Transactions {
             left: self.left - 1,
             rest: &self.rest[end..],
         };
         Some(transaction)
+    }
+}
+
+impl<'a> Iterator for Steps<'a> {
+    type Item = Step;
+
+    ghost next_gives = { YieldsFirstBy step_from the_steps };
+
+    ghost remaining = { item_count the_steps };
+
+    fn next(&mut self) -> Option<Step> {
+        let (word, rest) = self.rest.split_first()?;
+        self.rest = rest;
+        Some(Step::from(*word))
     }
 }
 
@@ -102,13 +117,23 @@ impl<'a> Transaction<'a> {
     {
         Transaction {
             word: plan[at],
-            steps: place::steps(plan, at),
+            step_words: place::steps(plan, at),
+        }
+    }
+
+    // Its steps, in order.
+    pub fn steps(&self) -> Steps<'a>
+        ensures { the_steps result ≡ (the_transaction self.now).steps }
+    {
+        Steps {
+            rest: self.step_words,
         }
     }
 
     // How many parameters it has.
     pub fn parameters(&self) -> u32
-        ensures { result ≡ (the_transaction self.now).params }
+        ensures parameters { result ≡ (the_transaction self.now).params }
+        ensures most { result ≤ 4 }
     {
         self.word / fields::PARAMETERS % 16
     }

@@ -20,4 +20,4 @@ pub use place::{step_count, step_word, steps, transaction_place, transaction_pla
 pub use reader::{read_open_plan, read_plan};
 pub use step::{Access, Action, Source, Step};
 pub use transaction::Transaction;
-pub use transactions::Transactions;
+pub use transactions::{Steps, Transactions};

@@ -4,6 +4,6 @@ ghost use Rattle.plan.specs.Form.{IsTransaction};
 #[derive(Clone, Copy)]
 pub struct Transaction<'a> {
     pub word: u32,
-    pub steps: &'a [u32],
-    ghost formed: { IsTransaction word steps.now },
+    pub step_words: &'a [u32],
+    ghost formed: { IsTransaction word step_words.now },
 }

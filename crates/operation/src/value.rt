@@ -1,0 +1,23 @@
+// The words that an operation puts in for the sources of its steps.
+ghost use Rattle.std.specs.Prelude.{◌≡◌, get_or};
+ghost use Rattle.plan.specs.Step.{source_from};
+ghost use Rattle.operation.specs.Operation.{value_of};
+
+use plan::Source;
+
+// Parameter i, 0 past the fourth.
+pub(crate) fn parameter(params: &[u32; 4], i: u32) -> u32
+    ensures { result ≡ get_or params.now i 0 }
+{
+    params.get(i as usize).copied().unwrap_or(0)
+}
+
+// The value of a row or an operand: that parameter, or the fixed number.
+pub(crate) fn source_value(source: Source, params: &[u32; 4]) -> u32
+    ensures { result ≡ value_of params.now (source_from source) }
+{
+    match source {
+        Source::Parameter(i) => parameter(params, i),
+        Source::Fixed(number) => number,
+    }
+}
