@@ -17,6 +17,7 @@ use plan::{Plan, Source, Step, Transaction};
 use verdict::Refusal;
 
 // The parameters from this number on are zero.
+#[tactic(auto, unfolding(crate::specs::Admission::unused_zero))]
 fn unused_zero(count: u32, params: &[u32; 4]) -> bool
     requires { count ≤ 4 }
     ensures { result ≡ unused_zero count params.now }
@@ -24,6 +25,7 @@ fn unused_zero(count: u32, params: &[u32; 4]) -> bool
     params[count as usize..].iter().all(|word| *word == 0)
 }
 
+#[tactic(auto, unfolding(crate::specs::Admission::row_in_range))]
 // The row of the step, if it is a parameter, is at most 31.
 fn row_in_range(step: Step, params: &[u32; 4]) -> bool
     ensures { result ≡ row_in_range params.now (step_from step) }
@@ -38,6 +40,7 @@ fn row_in_range(step: Step, params: &[u32; 4]) -> bool
 
 impl<'a> Operation<'a> {
     // Question 8.
+    #[tactic(auto, unfolding(crate::specs::Admission::parameters_pass))]
     pub fn of(transaction: Transaction<'a>, params: [u32; 4]) -> Option<Self>
         ensures passes { is_some result ≡ parameters_pass (the_transaction transaction.entry) params }
         ensures same { IfSome result (λ o. (the_transaction o.transaction ≡ the_transaction transaction.entry) × (o.params ≡ params)) }
@@ -45,10 +48,7 @@ impl<'a> Operation<'a> {
         if !unused_zero(transaction.parameters(), &params) {
             return None;
         }
-        let rows = transaction
-            .steps
-            .iter()
-            .all(|word| row_in_range(Step::from(*word), &params));
+        let rows = transaction.steps().all(|step| row_in_range(step, &params));
         if !rows {
             return None;
         }
@@ -59,6 +59,7 @@ impl<'a> Operation<'a> {
     }
 
     // Questions 7 and 8.
+    #[tactic(auto, unfolding(crate::specs::Admission::operation_verdict, crate::specs::Admission::transaction_exists))]
     pub fn admit(plan: &Plan<'a>, transaction: u32, params: [u32; 4]) -> Result<Self, Refusal>
         ensures verdict { verdict_of result ≡ operation_verdict (the_plan plan.now) (operation transaction params) }
         ensures same { IfOk result (λ o. (the_transaction o.transaction ≡ transaction_at (the_plan plan.now) transaction)
