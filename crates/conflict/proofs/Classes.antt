@@ -17,7 +17,7 @@ use Rattle.plan.specs.Decode.{plan_of}
 use Rattle.plan.specs.Admission.{plan_verdict}
 use Rattle.operation.specs.Operation.{Operation, transaction_of, desk_of, read_set, write_set, MayRead, MayWrite, MayTouch}
 use Rattle.operation.specs.Admission.{IsOperation}
-use Rattle.operation.proofs.Cells.{names_of, of_names}
+use Rattle.operation.proofs.NamedCells.{names_of, of_names}
 use Rattle.conflict.specs.Touch.{desk_mask}
 use Rattle.conflict.specs.Written.{written}
 use Rattle.conflict.specs.Class.{OtherDesk, Free, Local, Global, Class, free, local, global, is_write, one_desk_each, class_by, class_of}

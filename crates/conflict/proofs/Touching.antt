@@ -24,7 +24,7 @@ use Rattle.plan.proofs.Words.{transaction_params}
 use Rattle.operation.specs.Operation.{Operation, operation, transaction_of, value_of, desk_by, desk_of, cell_number, cells_named}
 use Rattle.operation.specs.Admission.{IsOperation, parameters_pass, unused_zero, row_in_range}
 use Rattle.operation.proofs.Admitted.{transaction_below, parameters_passed, is_operation_lem}
-use Rattle.operation.proofs.Cells.{names_of, of_names}
+use Rattle.operation.proofs.NamedCells.{names_of, of_names}
 use Rattle.operation.proofs.CellNumbers.{cell_parts, parts_cell}
 use Rattle.operation.proofs.Bounds.{FieldsFit, AllFit, transaction_fits}
 use Rattle.conflict.specs.Touch.{row_touched, cell_touched, step_touches, steps_touch, transactions_touch}

@@ -16,7 +16,7 @@ use Rattle.plan.specs.Admission.{plan_verdict}
 use Rattle.operation.specs.Operation.{transaction_of, value_of, cell_number}
 use Rattle.operation.specs.Admission.{row_in_range}
 use Rattle.operation.proofs.Admitted.{transaction_below, rows_passed}
-use Rattle.operation.proofs.Cells.{names_of}
+use Rattle.operation.proofs.NamedCells.{names_of}
 use Rattle.operation.proofs.CellNumbers.{cell_parts}
 use Rattle.conflict.specs.Touch.{row_touched}
 use Rattle.conflict.specs.Written.{row_given, cell_given, step_writes, written}

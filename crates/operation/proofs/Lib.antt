@@ -1,7 +1,8 @@
 pub mod Values
 pub mod Rows
 pub mod Admitted
-pub mod Cells
+pub mod NamedCells
 pub mod StepKinds
 pub mod CellNumbers
 pub mod Bounds
+pub mod CellSteps

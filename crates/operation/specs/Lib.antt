@@ -1,3 +1,5 @@
 pub mod Operation
 pub mod Admission
 pub mod Store
+pub mod Named
+pub mod Cells

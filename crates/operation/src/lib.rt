@@ -2,7 +2,12 @@
 #![tactic(auto)]
 
 mod admission;
+mod cells;
+mod named;
 mod operation;
 mod value;
 
+pub use cells::STORE_SIZE;
+pub use named::Cells;
 pub use operation::Operation;
+pub use value::source_value;

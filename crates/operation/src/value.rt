@@ -13,7 +13,7 @@ pub(crate) fn parameter(params: &[u32; 4], i: u32) -> u32
 }
 
 // The value of a row or an operand: that parameter, or the fixed number.
-pub(crate) fn source_value(source: Source, params: &[u32; 4]) -> u32
+pub fn source_value(source: Source, params: &[u32; 4]) -> u32
     ensures { result ≡ value_of params.now (source_from source) }
 {
     match source {

@@ -22,7 +22,7 @@ use Rattle.operation.specs.Admission.{IsOperation, row_in_range}
 use Rattle.operation.specs.Store.{store_size}
 use Rattle.operation.proofs.Admitted.{transaction_below, rows_passed}
 use Rattle.operation.proofs.Bounds.{cells_low}
-use Rattle.operation.proofs.Cells.{names_of}
+use Rattle.operation.proofs.NamedCells.{names_of}
 use Rattle.conflict.specs.Touch.{desk_mask}
 use Rattle.conflict.specs.Written.{step_writes}
 use Rattle.conflict.specs.Class.{Global}
