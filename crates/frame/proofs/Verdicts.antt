@@ -52,6 +52,9 @@ pub read_accepted : (plan frame : List ℕ) → read_verdict plan frame ≡ acce
 unfolding read_verdict
 read_accepted plan frame e = then_accepted (plan_verdict plan) (frame_verdict (plan_of plan).desks frame) e
 
+pub frame_length_low : (n : ℕ) (frame : List ℕ) → frame_verdict n frame ≡ accepted → 4 ≤ length frame
+frame_length_low n frame e = (headed frame (admitted n frame e).head).low
+
 pub read_length : (plan frame : List ℕ) → read_verdict plan frame ≡ accepted → 4 ≤ length frame
 read_length plan frame e = (headed frame (admitted (plan_of plan).desks frame (read_accepted plan frame e).1).head).low
 

@@ -4,7 +4,6 @@ use Rattle.std.proofs.Common.{◌≡◌, ℕ, zero, suc, ◌+◌, ◌-◌, ◌<�
 use Rattle.std.proofs.Common.{◌∷◌, length, get_or, drop, set, replicate, sym, refl}
 use Rattle.std.proofs.Common.{ap, ◌∙◌, arith, length-set, drop_of_length-le, ltb-true, le-ltb, lt-ltb, ne_eqb}
 use mathlib.Core.Bool.{and_assoc}
-use Rattle.std.specs.List.{list_all}
 use Rattle.lists.proofs.Laws.{drop_here, and_fst, and_snd, every_same}
 use Rattle.word.specs.Field.{kind_of, update_desk, cell_count}
 use Rattle.word.specs.Reserved.{reserved_zero}
