@@ -1,22 +1,21 @@
 -- What the chooser answers, and what it leaves of the plan that it is lent.
-use Rattle.std.specs.Prelude.{ℕ, List, leb, length}
-use Rattle.verdict.specs.Verdict.{Verdict, ask, ◌then◌, if_accepted}
+use Rattle.std.specs.Prelude.{ℕ, List, leb, length, Result, Ok, Err}
+use Rattle.verdict.specs.Verdict.{Verdict, ask, ◌then◌, if_accepted, question_of}
 use Rattle.plan.specs.Decode.{plan_of}
 use Rattle.plan.specs.Admission.{open_plan_verdict}
 use Rattle.partitioning.specs.Filling.{open_transactions, fill}
 use Rattle.partitioning.specs.Cost.{cost_of}
 use Rattle.partitioning.specs.Best.{best}
-use Rattle.partitioning.specs.declared.choice.Choice.{Choice}
-use Rattle.partitioning.specs.declared.choice.Choice.TheVariants.{Chosen, Refused}
+use Rattle.verdict.specs.declared.Refusal.{Refusal}
 
 -- the cost of the plan so filled, or a question's number
 pub data Answer : Type 0 where
   chosen : ℕ → Answer
   choice_refused : ℕ → Answer
 
-abbrev pub answer_of : Choice → Answer
-answer_of (Chosen cost) = chosen cost
-answer_of (Refused question) = choice_refused question
+abbrev pub answer_of : Result ℕ Refusal → Answer
+answer_of (Ok cost) = chosen cost
+answer_of (Err r) = choice_refused (question_of r)
 
 -- "more than six open fields"
 abbrev pub most_open : ℕ

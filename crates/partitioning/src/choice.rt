@@ -3,27 +3,18 @@ ghost use Rattle.std.specs.Prelude.{◌≡◌};
 ghost use Rattle.partitioning.specs.Answer.{answer_of, choose_result, chosen_words};
 
 use crate::{filling, search};
-use verdict::Verdict;
+use verdict::Refusal;
 
-// The cost of the plan that is filled, or refused with the number of the question whose answer is no.
-#[derive(Clone, Copy)]
-pub enum Choice {
-    Chosen(u32),
-    Refused(u32),
-}
-
-// Fills the open fields of the plan: questions 1 to 4, then 16.
-pub fn choose(plan: &mut [u32]) -> Choice
+// Fills the open fields of the plan, and gives its cost then: questions 1 to 4, then 16.
+pub fn choose(plan: &mut [u32]) -> Result<u32, Refusal>
     ensures { (answer_of result ≡ choose_result plan.old) × (plan.new ≡ chosen_words plan.old) }
 {
-    if let Verdict::Refused(question) = plan::read_open_plan(plan) {
-        return Choice::Refused(question);
-    }
+    plan::read_open_plan(plan)?;
     if filling::MOST_OPEN < filling::open_count(plan) {
-        return Choice::Refused(16);
+        return Err(Refusal::ManyOpenFields);
     }
     let fillings = filling::filling_count(plan);
     let found = search::search(plan, fillings);
     filling::fill(plan, fillings, found.number);
-    Choice::Chosen(found.cost)
+    Ok(found.cost)
 }

@@ -7,4 +7,4 @@ mod filling;
 mod search;
 mod touched;
 
-pub use choice::{Choice, choose};
+pub use choice::choose;

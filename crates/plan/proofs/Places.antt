@@ -17,9 +17,10 @@ use Rattle.word.specs.Field.{step_count, head_transactions}
 use Rattle.plan.specs.Plan.{Transaction, no_transaction, transaction_at}
 use Rattle.plan.specs.Decode.{transactions_of, plan_of, head_of}
 use Rattle.plan.specs.Admission.{well_formed, tell_count, most_tells, plan_verdict}
-use Rattle.plan.specs.Place.{transaction_place, transaction_from, StandsAt}
+use Rattle.plan.specs.Place.{transaction_place, transaction_places, transaction_from, StandsAt}
 use Rattle.plan.proofs.FormedParts.{FormedParts, formed_parts}
 use Rattle.plan.proofs.Accepted.{accepted_gives, transaction_count}
+use Rattle.plan.proofs.Placing.{place_found}
 
 pub place_next : (ws : List ℕ) (k : ℕ) → transaction_place ws (k + 1)
     ≡ transaction_place ws k + 1 + step_count (get_or ws (transaction_place ws k) 0)
@@ -110,3 +111,15 @@ module _ (ws : List ℕ) (e : plan_verdict ws ≡ accepted) (k : ℕ) where
   pub transactions_none : head_transactions (head_of ws) ≤ k → transactions_from ws k ≡ []
   unfolding transactions_from
   transactions_none h = drop_of_length-le (plan_of ws).transactions {i = k} (omega (arith, transaction_count ws e))
+
+-- the transaction with a number, at its place in the table
+module _ (ws places : List ℕ) (e : plan_verdict ws ≡ accepted) (t : places ≡ transaction_places ws) (k : ℕ)
+    (h : k < head_transactions (head_of ws)) where
+  looked_up : get_or places k 0 ≡ transaction_place ws k
+  looked_up = place_found ws places t k h (omega (arith, (accepted_gives ws e).transactions_high))
+
+  pub stands_looked_up : StandsAt ws (get_or places k 0)
+  stands_looked_up = rw looked_up (stands_at_lem ws e k h)
+
+  pub transaction_looked_up : transaction_from ws (get_or places k 0) ≡ transaction_at (plan_of ws) k
+  transaction_looked_up = ap (transaction_from ws) looked_up ∙ sym (transaction_is ws e k h)

@@ -32,7 +32,10 @@ impl<'a> Plan<'a> {
         ensures words { IfOk result (λ p. p.words.now ≡ words.now) }
     {
         reader::read_plan(words)?;
-        Ok(Plan { words })
+        Ok(Plan {
+            words,
+            places: place::transaction_places(words),
+        })
     }
 
     // How many desks.
@@ -48,7 +51,10 @@ impl<'a> Plan<'a> {
     pub fn transaction(&self, number: u32) -> Option<Transaction<'a>>
         ensures { option_map the_transaction result ≡ slice_get (the_plan self.now).transactions number }
     {
-        self.transactions().nth(number as usize)
+        if self.transaction_count() <= number {
+            return None;
+        }
+        Some(Transaction::standing(self.words, self.places[number as usize]))
     }
 
     // Its transactions, in order.
