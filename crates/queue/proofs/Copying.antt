@@ -1,7 +1,8 @@
 -- The first records of a queue, stored one by one among words that are zero.
 --     stored_first_length                       there are 192 words
 --     stored_first_start, stored_first_next     no record, and one record more
---     stored_first_bounded                      no record past the 32nd is stored
+--     stored_first_all                          at the last of 32 records at most, all are stored
+--     copying                                   these three, which the copying loop rests on
 --     records_in_stored_in                      a record that is stored among the words of a queue is stored among its records
 --     waiting_records                           the records that wait in a queue of 32 are read from its words as from the queue
 -- Assumes nothing.
@@ -41,10 +42,13 @@ module _ (queue : List Request) where
       ∙ stored_in_past (stored_first (32 + k) queue) (32 + k) (record_at queue (32 + k)) (stored_first_length (32 + k)) (omega arith)
       ∙ stored_first_next (32 + k) ∙ ap (λ (m : ℕ). stored_first m queue) (omega arith)
 
-  pub stored_first_bounded : (n : ℕ) → stored_first (min n 32) queue ≡ stored_first n queue
+  stored_first_bounded : (n : ℕ) → stored_first (min n 32) queue ≡ stored_first n queue
   stored_first_bounded n =
       by_less n 32 (λ l. ap (λ (m : ℕ). stored_first m queue) (min-eq_left (omega arith)))
       (λ l. ap (λ (m : ℕ). stored_first m queue) (min-eq_right l) ∙ past (n - 32) ∙ ap (λ (m : ℕ). stored_first m queue) (omega arith))
+
+  pub stored_first_all : (n at : ℕ) → min n 32 ≤ at → at ≤ min n 32 → stored_first at queue ≡ stored_first n queue
+  stored_first_all n at last ends = ap (λ (m : ℕ). stored_first m queue) (omega arith) ∙ stored_first_bounded n
 
 -- a record that is stored among the words of a queue is stored among its records
 pub records_in_stored_in : (ws : List ℕ) (at : ℕ) (r : Request) → length ws ≡ 192
@@ -77,3 +81,6 @@ module _ (queue : List Request) where
       ext_get_or no_request (take n rs) (take n queue) (front ∙ sym (length-take-le n queue (omega arith)))
       (λ i l. let k : i < n = omega arith in get_or-take n rs i no_request k ∙ records_in_stored_first n i k (omega arith)
       ∙ sym (get_or-take n queue i no_request k))
+
+-- of no record, of one more, and of all
+pub ruleset copying = (stored_first_start, stored_first_next, stored_first_all)

@@ -1,66 +1,95 @@
--- A record put in before others of a row, which move up one by one, the last first.
---     Moving                       the records from a place on have moved up, up to place w, and the one at that place stands there still
---     moving_none, moving_more     none has, and one more has
---     moving_done                  the new record is stored at the place that is free
+-- A record put in before others of a row, which move up.
+--     inserted_record      the words have moved up by one record from its place on, and it is stored at its place
 -- Assumes nothing.
-use mathlib.Core.Path.{◌≡◌, sym, ◌∙◌, ap, ap₂, subst}
-use Prim.Native.Nat.{ℕ, suc, ◌-◌, ◌<◌, ◌≤◌}
+use mathlib.Core.Path.{◌≡◌, refl, sym, ◌∙◌, ap}
+use mathlib.Core.Logic.{◌≢◌, ◌⊎◌, inl, inr, ⊎_elim}
+use Prim.Native.Nat.{ℕ, ◌+◌, ◌-◌, ◌*◌, ◌<◌, ◌≤◌}
 use native.Mathlib.Omega.{arith}
 use mathlib.Core.List.{List}
-use lib.ListN.{length, get_or, set, take}
-use lib.Seq.{get_or-take, length-take-le}
+use lib.ListN.{length, get_or, set, take, drop, length-set, get_or-append}
+use lib.Seq.{ext_get_or, get_or-take, get_or-drop, get_or-set_same, get_or-set_other, length-take-le}
+use Rattle.std.specs.List.{CopiedTo, SameBelow, SameFrom}
+use Rattle.std.proofs.lemmas.List.{get_or-append_right}
+use Rattle.std.proofs.lemmas.List.Edits.{length-insert, get_or-insert_below, get_or-insert_at, get_or-insert_above}
 use Rattle.lists.specs.Lists.{inserted, overwritten}
-use Rattle.lists.proofs.Laws.{length_tabulate, get_or_tabulate, set_inserted, get_or_inserted_before, inserted_again, inserted_own}
+use Rattle.lists.proofs.Laws.{by_same, by_less, length_tabulate, get_or_tabulate, overwritten_length}
 use Rattle.queue.specs.declared.record.Request.{Request}
 use Rattle.queue.specs.Queue.{no_request, record_at}
 use Rattle.queue.specs.Words.{record_in, records_in, stored_in}
 use Rattle.queue.proofs.Copying.{records_in_stored_in}
-use Rattle.queue.proofs.Rows.{stored_in_length}
+use Rattle.queue.proofs.Rows.{by_words}
 
--- the words are those of ws, where the records from place `at` on have moved up
-pub record Moving (ws : List ℕ) (w at : ℕ) (row : List ℕ) : Type 0 where
-  pub long : length row ≡ 192
-  pub moved : records_in row ≡ overwritten (inserted at (record_at (records_in ws) at) (take w (records_in ws))) (records_in ws)
+-- the words vs are those of ws, where the records from place p up to place w have moved up
+module _ (ws vs : List ℕ) (p w : ℕ) (low : p ≤ w) (high : w < 32) (long : length ws ≡ 192) (same : length vs ≡ length ws)
+    (moved : CopiedTo ws vs (p * 6) ((p + 1) * 6) (w * 6 - p * 6)) (below : SameBelow ws vs ((p + 1) * 6))
+    (behind : SameFrom ws vs ((p + 1) * 6 + (w * 6 - p * 6))) where
+  moved_record : (b : ℕ) → p < b → b ≤ w → record_in vs b ≡ record_in ws (b - 1)
+  moved_record b l u =
+      by_words vs ws b (b - 1)
+      (λ k h. moved (b * 6 + k) 0 (omega arith) (omega arith) ∙ ap (λ (n : ℕ). get_or ws n 0) (omega arith))
 
-module _ (ws : List ℕ) (w : ℕ) (h : w < 32) where
-  abbrev rs : List Request
-  rs = records_in ws
+  kept_record : (b : ℕ) → (b ≤ p) ⊎ (w < b) → record_in vs b ≡ record_in ws b
+  kept_record b o =
+      by_words vs ws b b
+      (λ k h. ⊎_elim (λ (l : b ≤ p). below (b * 6 + k) 0 (omega arith)) (λ (u : w < b). behind (b * 6 + k) 0 (omega arith)) o)
 
-  pub moving_none : length ws ≡ 192 → Moving ws w w ws
-  moving_none e = record { long = e; moved = sym (inserted_own rs w no_request (omega (arith, length_tabulate 32 (record_in ws)))) }
+  module _ (r : Request) where
+    abbrev old : List Request
+    old = records_in ws
 
-  -- the records that are to stay or to move up
-  size : length (take w rs) ≡ w
-  size = length-take-le w rs (omega (arith, length_tabulate 32 (record_in ws)))
+    -- the records that wait, with the new one, and behind them the others
+    abbrev front : List Request
+    front = inserted p r (take w old)
 
-  module _ (at : ℕ) (row : List ℕ) (p : Moving ws w at row) (below : at ≤ w) where
-    -- with a record stored at the place
-    stored : (r : Request) → records_in (stored_in row at r) ≡ overwritten (inserted at r (take w rs)) rs
-    stored r =
-        records_in_stored_in row at r p.long ∙ ap (λ (l : List Request). set l at r) p.moved
-        ∙ set_inserted (take w rs) at rs (record_at rs at) r (omega (arith, size))
+    abbrev new : List Request
+    new = overwritten front old
 
-    -- the record before the place is still the old one
-    before : 0 < at → record_in row (at - 1) ≡ record_at rs (at - 1)
-    before l =
-        sym (get_or_tabulate 32 (record_in row) (at - 1) no_request (omega arith))
-        ∙ ap (λ (rows : List Request). record_at rows (at - 1)) p.moved
-        ∙ get_or_inserted_before (take w rs) at rs (record_at rs at) (at - 1) no_request (omega (arith, size)) (omega arith)
-        ∙ get_or-take w rs (at - 1) no_request (omega arith)
+    waiting : length (take w old) ≡ w
+    waiting = length-take-le w old (omega (arith, length_tabulate 32 (record_in ws)))
 
-    pub moving_more : 0 < at → (r : Request) → r ≡ record_in row (at - 1) → Moving ws w (at - 1) (stored_in row at r)
-    moving_more l r e =
-        let next : at ≡ suc (at - 1) = omega arith in
-        let old : r ≡ get_or (take w rs) (at - 1) no_request = e ∙ before l ∙ sym (get_or-take w rs (at - 1) no_request (omega arith)) in
-        record {
-          long = stored_in_length row at r ∙ p.long;
-          moved = stored r
-              ∙ ap₂ (λ (i : ℕ) (x : Request). overwritten (inserted i x (take w rs)) rs) next old
-              ∙ ap (λ (t : List Request). overwritten t rs) (inserted_again (take w rs) (at - 1) no_request (omega (arith, size)))
-              ∙ ap (λ (x : Request). overwritten (inserted (at - 1) x (take w rs)) rs)
-              (get_or-take w rs (at - 1) no_request (omega arith));
-        }
+    size : length front ≡ w + 1
+    size = length-insert (take w old) p r (omega (arith, waiting)) ∙ ap (λ (n : ℕ). n + 1) waiting
 
-    pub moving_done : (place : ℕ) → at ≡ place → (r : Request)
-        → records_in (stored_in row place r) ≡ overwritten (inserted place r (take w rs)) rs
-    moving_done place e r = subst (λ (i : ℕ). records_in (stored_in row i r) ≡ overwritten (inserted i r (take w rs)) rs) e (stored r)
+    in_front : (b : ℕ) → b ≤ w → record_at new b ≡ record_at front b
+    in_front b u = get_or-append front (drop (length front) old) no_request b (omega (arith, size))
+
+    record_before : (b : ℕ) → b < p → record_at new b ≡ record_in vs b
+    record_before b l =
+        in_front b (omega arith) ∙ get_or-insert_below (take w old) p r no_request b l (omega (arith, waiting))
+        ∙ get_or-take w old b no_request (omega arith) ∙ get_or_tabulate 32 (record_in ws) b no_request (omega arith)
+        ∙ sym (kept_record b (inl (omega arith)))
+
+    record_up : (b : ℕ) → p < b → b ≤ w → record_at new b ≡ record_in vs b
+    record_up b l u =
+        in_front b u ∙ ap (record_at front) (omega arith)
+        ∙ get_or-insert_above (take w old) p r no_request (b - 1) (omega arith) (omega (arith, waiting))
+        ∙ get_or-take w old (b - 1) no_request (omega arith)
+        ∙ get_or_tabulate 32 (record_in ws) (b - 1) no_request (omega arith) ∙ sym (moved_record b l u)
+
+    record_behind : (b : ℕ) → w < b → b < 32 → record_at new b ≡ record_in vs b
+    record_behind b l h =
+        get_or-append_right front (drop (length front) old) (length front) b no_request refl (omega (arith, size))
+        ∙ get_or-drop (length front) old (b - length front) no_request ∙ ap (record_at old) (omega (arith, size))
+        ∙ get_or_tabulate 32 (record_in ws) b no_request h ∙ sym (kept_record b (inr l))
+
+    record_other : (b : ℕ) → b ≢ p → b < 32 → record_at new b ≡ record_in vs b
+    record_other b n h =
+        by_less b p (record_before b)
+        (λ l. by_less w b (λ u. record_behind b u h) (λ u. record_up b (omega (arith, n)) u))
+
+    each : (b : ℕ) → b < 32 → record_at (set (records_in vs) p r) b ≡ record_at new b
+    each b h =
+        by_same b p
+        (λ s. ap (record_at (set (records_in vs) p r)) s
+        ∙ get_or-set_same (records_in vs) p r no_request (omega (arith, length_tabulate 32 (record_in vs)))
+        ∙ sym (ap (record_at new) s ∙ in_front p low ∙ get_or-insert_at (take w old) p r no_request (omega (arith, waiting))))
+        (λ n. get_or-set_other (records_in vs) p b r no_request n ∙ get_or_tabulate 32 (record_in vs) b no_request h
+        ∙ sym (record_other b n h))
+
+    pub inserted_record : records_in (stored_in vs p r) ≡ overwritten (inserted p r (take w (records_in ws))) (records_in ws)
+    inserted_record =
+        let stored = length-set (records_in vs) p r ∙ length_tabulate 32 (record_in vs) in
+        let whole = overwritten_length front old (omega (arith, size, length_tabulate 32 (record_in ws))) in
+        records_in_stored_in vs p r (same ∙ long)
+        ∙ ext_get_or no_request (set (records_in vs) p r) new (stored ∙ sym (whole ∙ length_tabulate 32 (record_in ws)))
+        (λ b l. each b (omega (arith, stored)))

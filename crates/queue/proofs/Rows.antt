@@ -4,18 +4,23 @@
 --     queue_of_row, queue_of_blank, length_queue_of     the queue of words handed over with its length, which is its length
 --     words_of_short, lent_row, lent_none               at most 192 of the words are its own; these stand for the same queue, or for none
 --     queue_in_stored_in                                a record stored among the words is stored in the queue
---     stored_in_length                                  no word is added or lost
+--     words_stored                                      the six words of a record written at once
+--     by_words                                          a record in a row, by its words
+--     stored_in_length, stored_in_past                  no word is added or lost, and past the end nothing is stored
 -- Assumes nothing.
 use mathlib.Core.Path.{◌≡◌, refl, sym, ◌∙◌, ap}
 use mathlib.Core.Logic.{◌≢◌, ◌⊎◌, inl, inr}
-use Prim.Native.Nat.{ℕ, ◌+◌, ◌*◌, ◌<◌, ◌≤◌}
+use Prim.Native.Nat.{ℕ, suc, ◌+◌, ◌-◌, ◌*◌, ◌<◌, ◌≤◌}
 use native.Mathlib.Omega.{arith}
 use mathlib.Core.Bool.{Bool, true, false, cond, ◌&&◌}
-use mathlib.Core.List.{List, []}
+use mathlib.Core.List.{List, [], ◌∷◌}
 use lib.Dec.{eqb, ltb}
 use lib.ListN.{length, get_or, set, take, replicate, length-set, length-replicate}
 use lib.Seq.{ext_get_or, get_or-set_same, get_or-set_other, set_out, take_all}
-use borrow.Author.Tests.{eqb-true, ltb-true, ltb-false, eq-eqb, ne_eqb, lt-ltb, le-ltb}
+use borrow.Author.Tests.{eqb-true, ltb-true, ltb-false, eq-eqb, ne_eqb, le-ltb}
+use Rattle.std.proofs.lemmas.List.Edits.{sets, sets-eq}
+use Rattle.std.proofs.lemmas.Slice.{put_mid-paste}
+use borrow.Rule.Slice.PartMut.{put_mid}
 use Rattle.lists.proofs.Laws.{by_same, by_less, length_tabulate, get_or_tabulate}
 use Rattle.queue.specs.declared.record.Request.{Request}
 use Rattle.queue.specs.Queue.{no_request}
@@ -151,10 +156,32 @@ module _ (ws : List ℕ) (i : ℕ) (r : Request) where
   over_p3 : i + 5 < length ws → get_or (over_record ws i r) (i + 5) 0 ≡ r.p3
   over_p3 h = get_or-set_same over₅ (i + 5) r.p3 0 (omega (arith, over₅_length))
 
+-- the six words written at once
+pub words_stored : (ws vs : List ℕ) (i : ℕ) (r : Request) → i + 6 ≤ length ws
+    → vs ≡ r.client ∷ r.transaction ∷ r.p0 ∷ r.p1 ∷ r.p2 ∷ r.p3 ∷ [] → put_mid i (i + 6 - i) ws vs ≡ over_record ws i r
+words_stored ws vs i r h e =
+    let words : List ℕ = r.client ∷ r.transaction ∷ r.p0 ∷ r.p1 ∷ r.p2 ∷ r.p3 ∷ [] in
+    let one : suc i ≡ i + 1 = omega arith in
+    let two : suc (suc i) ≡ i + 2 = omega arith in
+    let three : suc (suc (suc i)) ≡ i + 3 = omega arith in
+    let four : suc (suc (suc (suc i))) ≡ i + 4 = omega arith in
+    let five : suc (suc (suc (suc (suc i)))) ≡ i + 5 = omega arith in
+    let by_steps : sets ws i words ≡ over_record ws i r = cc in
+    put_mid-paste i (i + 6 - i) ws vs words 6 e (omega arith) refl ∙ sym (sets-eq words ws i h) ∙ by_steps
+
 -- a record, by its fields
-pub by_fields : (a b : Request) → a.client ≡ b.client → a.transaction ≡ b.transaction → a.p0 ≡ b.p0 → a.p1 ≡ b.p1 → a.p2 ≡ b.p2
+by_fields : (a b : Request) → a.client ≡ b.client → a.transaction ≡ b.transaction → a.p0 ≡ b.p0 → a.p1 ≡ b.p1 → a.p2 ≡ b.p2
     → a.p3 ≡ b.p3 → a ≡ b
 by_fields a b c t p q r s = λ i. record { client = c i; transaction = t i; p0 = p i; p1 = q i; p2 = r i; p3 = s i }
+
+-- a record in a row, by its words
+pub by_words : (ws vs : List ℕ) (a b : ℕ) → ((k : ℕ) → k < 6 → get_or ws (a * 6 + k) 0 ≡ get_or vs (b * 6 + k) 0)
+    → record_in ws a ≡ record_in vs b
+by_words ws vs a b h =
+    let first : get_or ws (a * 6) 0 ≡ get_or vs (b * 6) 0 =
+    ap (λ (i : ℕ). get_or ws i 0) (omega arith) ∙ h 0 (omega arith) ∙ ap (λ (i : ℕ). get_or vs i 0) (omega arith) in
+    by_fields (record_in ws a) (record_in vs b) first (h 1 (omega arith)) (h 2 (omega arith)) (h 3 (omega arith)) (h 4 (omega arith))
+    (h 5 (omega arith))
 
 module _ (ws : List ℕ) (at : ℕ) (r : Request) where
   -- the record itself
@@ -165,19 +192,12 @@ module _ (ws : List ℕ) (at : ℕ) (r : Request) where
       (over_p2 ws (at * 6) r (omega arith)) (over_p3 ws (at * 6) r h)
 
   -- a word of another record is away from this one's
-  apart : (b j : ℕ) → b ≢ at → b * 6 ≤ j → j < b * 6 + 6 → (j < at * 6) ⊎ (at * 6 + 6 ≤ j)
-  apart b j s l u = by_less j (at * 6) inl (λ h. inr (omega (arith, s)))
-
-  other_word : (b j : ℕ) → b ≢ at → b * 6 ≤ j → j < b * 6 + 6 → get_or (over_record ws (at * 6) r) j 0 ≡ get_or ws j 0
-  other_word b j s l u = over_away ws (at * 6) r j (apart b j s l u)
+  apart : (b k : ℕ) → b ≢ at → k < 6 → (b * 6 + k < at * 6) ⊎ (at * 6 + 6 ≤ b * 6 + k)
+  apart b k s l = by_less (b * 6 + k) (at * 6) inl (λ h. inr (omega (arith, s)))
 
   -- another record is as before
   other_record : (b : ℕ) → b ≢ at → record_in (over_record ws (at * 6) r) b ≡ record_in ws b
-  other_record b s =
-      by_fields (record_in (over_record ws (at * 6) r) b) (record_in ws b) (other_word b (b * 6) s (omega arith) (omega arith))
-      (other_word b (b * 6 + 1) s (omega arith) (omega arith)) (other_word b (b * 6 + 2) s (omega arith) (omega arith))
-      (other_word b (b * 6 + 3) s (omega arith) (omega arith)) (other_word b (b * 6 + 4) s (omega arith) (omega arith))
-      (other_word b (b * 6 + 5) s (omega arith) (omega arith))
+  other_record b s = by_words (over_record ws (at * 6) r) ws b b (λ k l. over_away ws (at * 6) r (b * 6 + k) (apart b k s l))
 
   -- the records, one by one
   stored_at : length ws ≡ 192 → at < 32 → (b : ℕ) → b < 32
@@ -225,15 +245,7 @@ module _ (ws : List ℕ) (at : ℕ) (r : Request) where
       by_test true = over_length ws (at * 6) r
       by_test false = refl
 
-  -- the three cases of storing
-  pub stored_in_within : length ws ≡ 192 → at < 32 → over_record ws (at * 6) r ≡ stored_in ws at r
-  unfolding stored_in
-  stored_in_within e h = sym (simp (eq-eqb (length ws) 192 e, lt-ltb at 32 h))
-
+  -- past the end of a row nothing is stored
   pub stored_in_past : length ws ≡ 192 → 32 ≤ at → ws ≡ stored_in ws at r
   unfolding stored_in
   stored_in_past e h = sym (simp (eq-eqb (length ws) 192 e, le-ltb at 32 h))
-
-  pub stored_in_none : (length ws ≡ 192 → ⊥) → ws ≡ stored_in ws at r
-  unfolding stored_in
-  stored_in_none n = sym (simp (ne_eqb (length ws) 192 n))

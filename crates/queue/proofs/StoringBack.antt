@@ -4,11 +4,12 @@
 --     get_or_stored_back_within, get_or_stored_back_outside     the same, where the place is one of those, and where it is not
 --     stored_back_empty                                         of no places
 --     stored_back_next                                          of one place more
---     stored_back_bounded                                       no record past the 32nd is stored
+--     stored_back_all                                           at the last place all is stored
+--     storing_back                                              these three, which the loop rests on
 -- Assumes nothing.
 use mathlib.Core.Path.{◌≡◌, sym, ◌∙◌, ap}
 use mathlib.Core.Logic.{◌≢◌, ◌⊎◌, inl, inr, ⊎_elim}
-use Prim.Native.Nat.{ℕ, ◌+◌, ◌<◌, ◌≤◌, min}
+use Prim.Native.Nat.{ℕ, ◌+◌, ◌<◌, ◌≤◌, min, max}
 use native.Mathlib.Nat.{min-eq_left, min-le_right}
 use native.Mathlib.Omega.{arith}
 use mathlib.Core.Bool.{cond, ◌&&◌}
@@ -60,11 +61,18 @@ module _ (queue : List Request) (ws : List ℕ) (from end : ℕ) where
       ext_get_or no_request (stored_back queue ws from end) queue length_stored_back (λ i h.
       get_or_stored_back_outside i (by_less i from inl (λ l. inr (omega arith))))
 
-  pub stored_back_bounded : stored_back queue ws from (min end 32) ≡ stored_back queue ws from end
+  stored_back_bounded : stored_back queue ws from (min end 32) ≡ stored_back queue ws from end
   unfolding stored_back
   stored_back_bounded =
       ap (λ (m : ℕ). tabulate (length queue) (λ i. cond (leb from i && ltb i m) (record_in ws i) (record_at queue i)))
       (min-eq_left (min-le_right end 32))
+
+-- at the last place all is stored, also where the first is past it
+pub stored_back_all : (queue : List Request) (ws : List ℕ) (from end at : ℕ) → from ≤ at → min end 32 ≤ at → at ≤ max from (min end 32)
+    → stored_back queue ws from at ≡ stored_back queue ws from end
+stored_back_all queue ws from end at begins last ends =
+    by_less from (min end 32) (λ l. ap (stored_back queue ws from) (omega arith) ∙ stored_back_bounded queue ws from end)
+    (λ none. stored_back_empty queue ws from at (omega arith) ∙ sym (stored_back_empty queue ws from end none))
 
 -- one record more
 module _ (queue : List Request) (ws : List ℕ) (from i : ℕ) (starts : from ≤ i) (ends : i < 32) where
@@ -114,3 +122,6 @@ module _ (queue : List Request) (ws : List ℕ) (from i : ℕ) (starts : from �
       length-set old i (record_in ws i) ∙ length_stored_back queue ws from i in
       ext_get_or no_request (set old i (record_in ws i)) new (size ∙ sym (length_stored_back queue ws from (i + 1)))
       (λ j h. each_place j (omega arith))
+
+-- at no place, at one more, and at all
+pub ruleset storing_back = (stored_back_empty, stored_back_next, stored_back_all)

@@ -1,13 +1,14 @@
 // A waiting record: the client's word, the transaction and four parameters.
 ghost use Rattle.std.specs.Prelude.{◌≡◌};
-ghost use Rattle.queue.specs.Queue.{no_request, params_of};
+ghost use Rattle.queue.specs.Queue.{params_of};
 
 // The records of a queue, and as many as may wait.
 pub const QUEUE_SIZE: usize = 32;
 
 pub const MOST_WAITING: u32 = QUEUE_SIZE as u32;
 
-#[derive(Clone, Copy)]
+// The default one is of zeros, which stands for none.
+#[derive(Clone, Copy, Default)]
 pub struct Request {
     pub client: u32,
     pub transaction: u32,
@@ -22,18 +23,4 @@ pub fn params(request: Request) -> [u32; 4]
     ensures { result ≡ params_of request }
 {
     [request.p0, request.p1, request.p2, request.p3]
-}
-
-// The record of zeros, which stands for none.
-pub fn blank() -> Request
-    ensures { result ≡ no_request }
-{
-    Request {
-        client: 0,
-        transaction: 0,
-        p0: 0,
-        p1: 0,
-        p2: 0,
-        p3: 0,
-    }
 }

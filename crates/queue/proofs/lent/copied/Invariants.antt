@@ -1,10 +1,7 @@
 -- `queue::lent::copied`: the words are those of the queue's first records, as many as were read, and zeros behind them.
-use Rattle.std.proofs.Common.{◌≡◌, ◌-◌, ◌≤◌}
+use Rattle.std.proofs.Common.{◌≡◌}
 use Rattle.queue.specs.Words.{stored_first}
 use Rattle.queue.proofs.lent.copied.Given as goal
 
 abbrev pub invariant-loop-at : goal.invariant-loop-at
-invariant-loop-at l = record { within : l.at ≤ l.count; copied : l.row ≡ stored_first l.at l.queue }
-
-abbrev pub decreases-loop-at : goal.decreases-loop-at
-decreases-loop-at l = l.count - l.at
+invariant-loop-at l = l.row ≡ stored_first l.at l.queue
