@@ -2,4 +2,3 @@ pub mod Asked
 pub mod Priority
 pub mod QuestionSix
 pub mod SameWaiting
-pub mod WaitingRecords

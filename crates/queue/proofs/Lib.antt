@@ -3,3 +3,4 @@ pub mod Inserting
 pub mod Rows
 pub mod RowsLeft
 pub mod StoringBack
+pub mod WaitingRecords

@@ -4,8 +4,12 @@
 
 mod lent;
 mod record;
+mod records;
+mod waiting;
 mod words;
 
 pub use lent::{copied, store_back};
 pub use record::{MOST_WAITING, QUEUE_SIZE, Request, params};
+pub use records::waiting_records;
+pub use waiting::Waiting;
 pub use words::{QUEUE_WORDS, insert_in, record_in, words_of};

@@ -8,7 +8,7 @@ use Rattle.plan.specs.Decode.{plan_of}
 use Rattle.queue.specs.Words.{records_in}
 use Rattle.desk.specs.Queueing.{is_urgent}
 use Rattle.desk.specs.Priority.{join_place}
-use Rattle.desk.proofs.WaitingRecords.{waiting_length}
+use Rattle.queue.proofs.WaitingRecords.{waiting_length}
 use Rattle.desk.proofs.urgent.join_place.Goals as goal
 
 pub returns-then-is_urgent : goal.returns-then-is_urgent

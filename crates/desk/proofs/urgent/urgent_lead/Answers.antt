@@ -10,7 +10,7 @@ use Rattle.queue.specs.Words.{record_in, records_in}
 use Rattle.desk.specs.Queueing.{is_urgent}
 use Rattle.desk.specs.Priority.{urgent_lead}
 use Rattle.desk.proofs.Priority.{lead_behind, lead_behind_lem, lead_broken, lead_behind_none}
-use Rattle.desk.proofs.WaitingRecords.{waiting_here, waiting_past}
+use Rattle.queue.proofs.WaitingRecords.{waiting_here, waiting_past}
 use borrow.Author.Rules.{rules}
 use Rattle.desk.proofs.urgent.urgent_lead.Goals as goal
 

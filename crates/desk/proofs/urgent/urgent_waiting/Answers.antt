@@ -12,7 +12,7 @@ use Rattle.plan.specs.Decode.{plan_of}
 use Rattle.queue.specs.declared.record.Request.{Request}
 use Rattle.queue.specs.Words.{record_in, records_in}
 use Rattle.desk.specs.Queueing.{is_urgent}
-use Rattle.desk.proofs.WaitingRecords.{waiting_here, waiting_past}
+use Rattle.queue.proofs.WaitingRecords.{waiting_here, waiting_past}
 use borrow.Author.Rules.{rules}
 use Rattle.desk.proofs.urgent.urgent_waiting.Goals as goal
 

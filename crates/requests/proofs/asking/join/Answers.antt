@@ -7,7 +7,7 @@ use Rattle.plan.specs.Decode.{plan_of}
 use Rattle.queue.specs.Words.{records_in}
 use Rattle.desk.specs.Queueing.{is_urgent}
 use Rattle.desk.proofs.Priority.{join_place_fits}
-use Rattle.desk.proofs.WaitingRecords.{waiting_length}
+use Rattle.queue.proofs.WaitingRecords.{waiting_length}
 use Rattle.requests.proofs.asking.join.Goals as goal
 
 pub join_place-place-requires : goal.join_place-place-requires
