@@ -4,15 +4,15 @@
 
 mod engine;
 
-pub use conflict::{Cause, ClassAnswer, classify};
-pub use desk::{Desk, DeskAnswer, new_desk};
+pub use conflict::{Cause, Class, classify};
+pub use desk::{Desk, new_desk};
 pub use engine::{request, visit};
 pub use execution::Reply;
-pub use frame::{FrameAnswer, frame_visit, read_frame};
-pub use partitioning::{Choice, choose};
+pub use frame::{frame_visit, read_frame};
+pub use partitioning::choose;
 pub use plan::read_plan;
 pub use queue::Request;
 pub use requests::{RequestAnswer, RequestResult, request_on_words};
 pub use token::starting_frame;
-pub use verdict::Verdict;
-pub use visits::{VisitAnswer, VisitResult, visit_on_words};
+pub use verdict::Refusal;
+pub use visits::{Forwarded, VisitResult, visit_on_words};

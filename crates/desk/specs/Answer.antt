@@ -1,20 +1,19 @@
 -- What the answer to the new desk call says in the paper's numbers and values, and what it is.
-use Rattle.std.specs.Prelude.{ℕ, List, ltb}
-use Rattle.verdict.specs.Verdict.{ask, ◌then◌, if_accepted}
+use Rattle.std.specs.Prelude.{ℕ, List, ltb, Result, Ok, Err}
+use Rattle.verdict.specs.Verdict.{ask, ◌then◌, if_accepted, question_of}
 use Rattle.plan.specs.Decode.{plan_of}
 use Rattle.plan.specs.Admission.{plan_verdict}
 use Rattle.desk.specs.declared.state.Desk.{Desk}
-use Rattle.desk.specs.declared.state.DeskAnswer.{DeskAnswer}
-use Rattle.desk.specs.declared.state.DeskAnswer.TheVariants as desk
+use Rattle.verdict.specs.declared.Refusal.{Refusal}
 
 -- a new desk, or the number of the question whose answer is no
 pub data Opened : Type 0 where
   opened : Desk → Opened
   opening_refused : ℕ → Opened
 
-abbrev pub opened_of : DeskAnswer → Opened
-opened_of (desk.Opened d) = opened d
-opened_of (desk.Refused question) = opening_refused question
+abbrev pub opened_of : Result Desk Refusal → Opened
+opened_of (Ok d) = opened d
+opened_of (Err r) = opening_refused (question_of r)
 
 -- "A new desk p awaits p with none waiting"
 abbrev pub new_desk : ℕ → Desk

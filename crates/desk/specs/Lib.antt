@@ -2,5 +2,5 @@ pub mod Queueing
 pub mod Priority
 pub mod Holding
 pub mod Admission
-pub mod Place
+pub mod Asked
 pub mod Answer

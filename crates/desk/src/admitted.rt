@@ -1,65 +1,48 @@
-// The operation that a request asks for: questions 7 and 8, the place of its transaction, and there its desk and its run.
-ghost use Rattle.std.specs.Prelude.{◌≡◌};
-ghost use Rattle.verdict.specs.Verdict.{accepted};
-ghost use Rattle.plan.specs.Decode.{plan_of};
-ghost use Rattle.plan.specs.Admission.{plan_verdict};
-ghost use Rattle.plan.specs.Place.{transaction_place, transaction_places};
-ghost use Rattle.operation.specs.Operation.{desk_of};
+// The operation that a request asks for: questions 7 and 8, and its run.
+ghost use Rattle.std.specs.Prelude.{◌≡◌, IfOk};
+ghost use Rattle.verdict.specs.Verdict.{accepted, verdict_of};
+ghost use Rattle.plan.specs.Accepted.{the_plan};
+ghost use Rattle.plan.specs.Transaction.{the_transaction};
 ghost use Rattle.operation.specs.Admission.{operation_verdict};
 ghost use Rattle.operation.specs.Store.{apply_update};
-ghost use Rattle.execution.specs.Run.{run as run_of};
+ghost use Rattle.execution.specs.Run.{run_transaction};
 ghost use Rattle.desk.specs.Queueing.{operation_of};
-ghost use Rattle.desk.specs.Place.{place_of, place_by, Placed};
+ghost use Rattle.desk.specs.Asked.{IsAsked};
 
 use execution::Reply;
+use operation::Operation;
+use plan::Plan;
 use queue::Request;
-use word::fields;
+use verdict::Refusal;
 
-// The place of the transaction's word, or refused with 7 or 8.
-#[derive(Clone, Copy)]
-pub enum Located {
-    At(usize),
-    Refused(u32),
-}
-
-// Questions 7 and 8. The place is looked up in the table of places; desk, class and run are asked there.
-pub fn locate(plan: &[u32], places: &[usize], request: Request) -> Located
-    requires { (plan_verdict plan.now ≡ accepted) × (places.now ≡ transaction_places plan.now) }
-    ensures { place_of result ≡ place_by (operation_verdict (plan_of plan.now) (operation_of request))
-        (transaction_place plan.now request.transaction) }
+// Questions 7 and 8.
+pub fn admit<'a>(plan: &Plan<'a>, request: Request) -> Result<Operation<'a>, Refusal>
+    ensures verdict { verdict_of result ≡ operation_verdict (the_plan plan.now) (operation_of request) }
+    ensures asked { IfOk result (IsAsked (the_plan plan.now) request) }
 {
-    let transaction = request.transaction;
-    if !operation::transaction_exists(plan, transaction) {
-        return Located::Refused(7);
-    }
-    let at = places[transaction as usize];
-    if !operation::parameters_pass(plan, at, queue::params(request)) {
-        return Located::Refused(8);
-    }
-    Located::At(at)
-}
-
-// The desk of the operation.
-pub fn operation_desk(plan: &[u32], at: usize, request: Request) -> u32
-    requires { Placed plan.now request at }
-    ensures { result ≡ desk_of (plan_of plan.now) (operation_of request) }
-{
-    operation::desk(
-        plan[at],
-        plan[0] / fields::DESKS % 16,
-        queue::params(request),
-    )
+    Operation::admit(plan, request.transaction, queue::params(request))
 }
 
 // Runs the operation, and applies its update.
-pub fn run_operation(plan: &[u32], at: usize, request: Request, cells: &mut [u32]) -> Reply
-    requires { Placed plan.now request at }
-    ensures replied { result ≡ (run_of (plan_of plan.now) (operation_of request) cells.old).reply }
-    ensures applied { cells.new
-        ≡ apply_update (run_of (plan_of plan.now) (operation_of request) cells.old).update cells.old }
+pub fn run_operation(operation: &Operation, cells: &mut [u32]) -> Reply
+    ensures replied { result
+        ≡ (run_transaction (the_transaction operation.now.transaction) operation.now.params cells.old).reply }
+    ensures applied { cells.new ≡ apply_update
+        (run_transaction (the_transaction operation.now.transaction) operation.now.params cells.old).update cells.old }
 {
-    let outcome = execution::run(plan, at, queue::params(request), cells);
-    let update = outcome.update;
-    execution::apply(cells, update);
+    let outcome = execution::run(operation, cells);
+    execution::apply(cells, &outcome.update);
     outcome.reply
+}
+
+// The operation of a request that passes questions 7 and 8.
+pub fn admitted<'a>(plan: &Plan<'a>, request: Request) -> Operation<'a>
+    requires { operation_verdict (the_plan plan.now) (operation_of request) ≡ accepted }
+    ensures { IsAsked (the_plan plan.now) request result }
+{
+    let transaction = plan.transaction(request.transaction).unwrap();
+    Operation {
+        transaction,
+        params: queue::params(request),
+    }
 }

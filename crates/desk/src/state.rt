@@ -2,38 +2,29 @@
 ghost use Rattle.std.specs.Prelude.{◌≡◌};
 ghost use Rattle.desk.specs.Answer.{opened_of, new_desk_result};
 
-use verdict::Verdict;
-use word::fields;
+use plan::Plan;
+use verdict::Refusal;
 
 // Which desk it is, how many requests wait, and the number of the visit that it awaits, which can pass a word.
-#[derive(Clone, Copy)]
+#[derive(Clone, Copy, Debug, PartialEq, Eq)]
 pub struct Desk {
     pub desk: u32,
     pub waiting: u32,
     pub awaited: u64,
 }
 
-// The state of a new desk, or refused with the number of the question whose answer is no.
-#[derive(Clone, Copy)]
-pub enum DeskAnswer {
-    Opened(Desk),
-    Refused(u32),
-}
-
 // A new desk: the verdict on the plan, and question 6 for its desk. It awaits its own number, with none waiting.
-pub fn new_desk(plan: &[u32], desk: u32) -> DeskAnswer
-    ensures { opened_of result ≡ new_desk_result plan.now desk }
+#[tactic(auto, unfolding(crate::specs::Answer::new_desk_result))]
+pub fn new_desk(words: &[u32], desk: u32) -> Result<Desk, Refusal>
+    ensures { opened_of result ≡ new_desk_result words.now desk }
 {
-    if let Verdict::Refused(question) = plan::read_plan(plan) {
-        return DeskAnswer::Refused(question);
+    let plan = Plan::read(words)?;
+    if plan.desks() <= desk {
+        return Err(Refusal::MisfitState);
     }
-    if plan[0] / fields::DESKS % 16 <= desk {
-        return DeskAnswer::Refused(6);
-    }
-    let state = Desk {
-        desk: desk,
+    Ok(Desk {
+        desk,
         waiting: 0,
         awaited: desk as u64,
-    };
-    DeskAnswer::Opened(state)
+    })
 }

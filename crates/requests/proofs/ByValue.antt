@@ -23,7 +23,7 @@ use Rattle.desk.specs.declared.state.Desk.{Desk}
 use Rattle.desk.specs.Holding.{holding}
 use Rattle.desk.specs.Queueing.{waiting_in}
 use Rattle.desk.proofs.SameWaiting.{lent_same}
-use Rattle.requests.specs.declared.asking.RequestResult.{RequestResult}
+use Rattle.requests.specs.declared.answer.RequestResult.{RequestResult}
 use Rattle.requests.specs.Request.{is_waits, Requested, request_result}
 use Rattle.requests.specs.Answer.{response_of, requested_of}
 use Rattle.requests.specs.Step.{place_in, store_from, without_queue}

@@ -39,7 +39,7 @@ use Rattle.desk.specs.Admission.{desk_buffers_fit, desk_fits}
 use Rattle.desk.proofs.Priority.{join_place_fits}
 use Rattle.desk.proofs.QuestionSix.{fits_ordered}
 use Rattle.desk.proofs.SameWaiting.{SameWaiting, same_buffers, same_fits, copied_same}
-use Rattle.requests.specs.declared.asking.RequestResult.{RequestResult}
+use Rattle.requests.specs.declared.answer.RequestResult.{RequestResult}
 use Rattle.requests.specs.Request.{
   Response,
   is_waits,

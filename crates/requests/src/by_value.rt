@@ -7,8 +7,8 @@ ghost use Rattle.requests.specs.Request.{record_of, request_result};
 ghost use Rattle.requests.specs.Answer.{response_of, requested_of};
 ghost use Rattle.requests.specs.Step.{store_from};
 
+use crate::answer::RequestResult;
 use crate::asking;
-use crate::asking::RequestResult;
 use desk::Desk;
 use queue::QUEUE_WORDS;
 

@@ -1,59 +1,55 @@
-// Where a request's operation goes, by its class and its desk. The table of masks is filled only where the answer hangs on it: for an
-// own operation that writes, unless question 6 has filled it.
+// Where a request's operation goes, by its class and its desk. A table of masks is filled only where the answer hangs on it: for an own
+// operation that writes, unless question 6 has filled one.
 //     is_global    whether the operation is global
 //     route_of     where it goes
-ghost use Rattle.std.specs.Prelude.{◌≡◌};
-ghost use Rattle.plan.specs.Decode.{plan_of};
-ghost use Rattle.conflict.specs.Class.{is_global, class_of};
-ghost use Rattle.desk.specs.Queueing.{operation_of};
-ghost use Rattle.desk.specs.Place.{Placed, masks_if};
+ghost use Rattle.std.specs.Prelude.{◌≡◌, IfSome};
+ghost use Rattle.plan.specs.Accepted.{the_plan};
+ghost use Rattle.plan.specs.Transaction.{the_transaction};
+ghost use Rattle.conflict.specs.Class.{is_global, class_by};
 ghost use Rattle.requests.specs.Route.{way_of, way_by};
 
-use queue::Request;
+use conflict::MaskTable;
+use operation::Operation;
+use plan::Plan;
 
 // It runs at once, waits at this desk, or is another desk's.
-#[derive(Clone, Copy)]
+#[derive(Clone, Copy, Debug, PartialEq, Eq)]
 pub enum Route {
     Runs,
     Waits,
     Elsewhere,
 }
 
-// Whether the operation is global, by the table of masks: where it is not filled, it is filled here if the operation writes.
-fn is_global(plan: &[u32], at: usize, request: Request, filled: bool, masks: &mut [u8]) -> bool
-    requires { Placed plan.now request at × (masks.old ≡ masks_if filled (plan_of plan.now)) }
-    ensures { result ≡ is_global (class_of (plan_of plan.now) (operation_of request)) }
+// Whether the operation is global, by the plan's table of masks: where there is none, one is filled here if the operation writes.
+fn is_global(plan: &Plan, operation: &Operation, masks: Option<&MaskTable>) -> bool
+    requires { IfSome masks (λ t. t.now.plan.words.now ≡ plan.now.words.now) }
+    ensures { result ≡ is_global (class_by (the_plan plan.now) (the_transaction operation.now.transaction) operation.now.params) }
 {
-    let params = queue::params(request);
-    if filled {
-        return conflict::is_global(plan, at, params, masks);
+    match masks {
+        Some(table) => table.is_global(operation),
+        None => conflict::has_write(&operation.transaction)
+            && MaskTable::fill(*plan).is_global(operation),
     }
-    if !conflict::has_write(plan, at) {
-        return false;
-    }
-    conflict::fill_masks(plan, masks);
-    conflict::is_global(plan, at, params, masks)
 }
 
-// Where the operation goes. `own` says whether this desk is its own, `filled` whether the table is filled.
+// Where the operation goes. `own` says whether this desk is its own.
 pub(crate) fn route_of(
-    plan: &[u32],
-    at: usize,
-    request: Request,
+    plan: &Plan,
+    operation: &Operation,
     own: bool,
-    filled: bool,
-    masks: &mut [u8],
+    masks: Option<&MaskTable>,
 ) -> Route
-    requires { Placed plan.now request at × (masks.old ≡ masks_if filled (plan_of plan.now)) }
-    ensures { way_of result ≡ way_by (class_of (plan_of plan.now) (operation_of request)) own }
+    requires { IfSome masks (λ t. t.now.plan.words.now ≡ plan.now.words.now) }
+    ensures { way_of result
+        ≡ way_by (class_by (the_plan plan.now) (the_transaction operation.now.transaction) operation.now.params) own }
 {
     if own {
-        if is_global(plan, at, request, filled, masks) {
+        if is_global(plan, operation, masks) {
             return Route::Waits;
         }
         return Route::Runs;
     }
-    if conflict::is_free(plan, at, queue::params(request)) {
+    if conflict::is_free(plan, operation) {
         return Route::Runs;
     }
     Route::Elsewhere

@@ -6,8 +6,8 @@ ghost use Rattle.desk.specs.Holding.{holding};
 ghost use Rattle.requests.specs.Request.{record_of, request_result};
 ghost use Rattle.requests.specs.Answer.{requested_of};
 
+use crate::answer::RequestResult;
 use crate::asking;
-use crate::asking::RequestResult;
 use desk::Desk;
 
 // The request. If it waits its record is put in at its place, and those behind it move up.

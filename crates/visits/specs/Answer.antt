@@ -1,15 +1,16 @@
 -- What each answer to a visit says in the paper's numbers and values, and what an accepted visit leaves, in these terms.
-use Rattle.std.specs.Prelude.{ℕ, ◌≡◌, List}
+use Rattle.std.specs.Prelude.{ℕ, ◌≡◌, List, Result, Ok, Err}
 use Rattle.plan.specs.Plan.{Plan}
 use Rattle.desk.specs.Holding.{Holding}
-use Rattle.visits.specs.declared.visiting.VisitAnswer.{VisitAnswer}
-use Rattle.visits.specs.declared.visiting.VisitAnswer.TheVariants as visit
-use Rattle.visits.specs.declared.visiting.VisitResult.{VisitResult}
+use Rattle.verdict.specs.Verdict.{question_of}
+use Rattle.verdict.specs.declared.Refusal.{Refusal}
+use Rattle.visits.specs.declared.answer.Forwarded.{Forwarded}
+use Rattle.visits.specs.declared.answer.VisitResult.{VisitResult}
 use Rattle.visits.specs.Visit as visiting
 
-abbrev pub forwarding_of : VisitAnswer → visiting.Forwarding
-forwarding_of (visit.Forwarded words replies) = visiting.forwarded words replies
-forwarding_of (visit.Refused question) = visiting.visit_refused question
+abbrev pub forwarding_of : Result Forwarded Refusal → visiting.Forwarding
+forwarding_of (Ok f) = visiting.forwarded f.words f.replies
+forwarding_of (Err r) = visiting.visit_refused (question_of r)
 
 -- a visit's result with the store, the snapshot, the outgoing words and the reply words that it left
 abbrev pub visited_of : VisitResult → List ℕ → List ℕ → List ℕ → List ℕ → visiting.Visited

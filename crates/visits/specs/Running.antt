@@ -8,37 +8,38 @@ use Rattle.plan.specs.Decode.{plan_of}
 use Rattle.plan.specs.Admission.{plan_verdict}
 use Rattle.operation.specs.Admission.{operation_verdict}
 use Rattle.operation.specs.Store.{Store, apply_update}
-use Rattle.execution.specs.Run.{run}
+use Rattle.execution.specs.Run.{Outcome, run_transaction}
+use Rattle.plan.specs.Transaction.{the_transaction}
+use Rattle.operation.specs.declared.operation.Operation.{Operation}
 use Rattle.frame.specs.Frame.{sent, update_words, updates_words}
 use Rattle.queue.specs.declared.record.Request.{Request}
 use Rattle.desk.specs.Queueing.{operation_of}
-use Rattle.desk.specs.Place.{Placed}
 use Rattle.visits.specs.Waiting.{run_all, updates_of, Answered, answered, replies_of, reply_size, reply_words, replies_words}
 
 -- a record's operation passes questions 7 and 8
 abbrev pub is_operation : Plan → Request → Bool
 is_operation p r = is_accepted (operation_verdict p (operation_of r))
 
--- ---- one request
+-- ---- one request's operation
 
--- the words of the update that it makes, and the reply with its client's word
-abbrev pub made_words : Plan → ℕ → Request → Store → List ℕ
-made_words p desk r s = update_words (sent desk (run p (operation_of r) s).update)
+-- the run of an operation
+abbrev pub run_of : Operation → Store → Outcome
+run_of o s = run_transaction (the_transaction o.transaction) o.params s
 
-abbrev pub reply_to : Plan → Request → Store → Answered
-reply_to p r s = answered r.client (run p (operation_of r) s).reply
+-- the words of the update that it makes
+abbrev pub made_words : Operation → ℕ → Store → List ℕ
+made_words o desk s = update_words (sent desk (run_of o s).update)
 
-pub record Runs (ws : List ℕ) (at : ℕ) (r : Request) (desk : ℕ) (cells out replies : List ℕ) : Type 0 where
-  pub placed : Placed ws r at
-  pub room : length (made_words (plan_of ws) desk r cells) ≤ length out
+pub record Runs (o : Operation) (desk : ℕ) (cells out replies : List ℕ) : Type 0 where
+  pub room : length (made_words o desk cells) ≤ length out
   pub reply_room : reply_size ≤ length replies
 
 -- `words` outgoing words are written
-pub record Ran (p : Plan) (r : Request) (desk : ℕ) (cells out replies : List ℕ) (words : ℕ) (cells' out' replies' : List ℕ) : Type 0 where
-  pub count : words ≡ length (made_words p desk r cells)
-  pub store : cells' ≡ apply_update (run p (operation_of r) cells).update cells
-  pub update : out' ≡ overwritten (made_words p desk r cells) out
-  pub reply : replies' ≡ overwritten (reply_words (reply_to p r cells)) replies
+pub record Ran (o : Operation) (client desk : ℕ) (cells out replies : List ℕ) (words : ℕ) (cells' out' replies' : List ℕ) : Type 0 where
+  pub count : words ≡ length (made_words o desk cells)
+  pub store : cells' ≡ apply_update (run_of o cells).update cells
+  pub update : out' ≡ overwritten (made_words o desk cells) out
+  pub reply : replies' ≡ overwritten (reply_words (answered client (run_of o cells).reply)) replies
 
 -- ---- all of them, in order
 

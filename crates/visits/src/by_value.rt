@@ -5,8 +5,8 @@ ghost use Rattle.desk.specs.Holding.{holding};
 ghost use Rattle.visits.specs.Visit.{visit_result};
 ghost use Rattle.visits.specs.Answer.{visited_of};
 
+use crate::answer::VisitResult;
 use crate::visiting;
-use crate::visiting::VisitResult;
 use desk::Desk;
 use queue::QUEUE_WORDS;
 

@@ -3,10 +3,13 @@
 #![tactic(auto)]
 
 mod accepted;
+mod answer;
 mod by_value;
+mod questions;
 mod running;
 mod snapshot;
 mod visiting;
 
+pub use answer::{Forwarded, VisitResult};
 pub use by_value::visit_by_value;
-pub use visiting::{VisitAnswer, VisitResult, visit_on_words};
+pub use visiting::visit_on_words;

@@ -4,15 +4,16 @@
 //     run_one, run_waiting         one request; the first of a row, which is lent as plain words
 ghost use Rattle.std.specs.Prelude.{◌≡◌, ◌≤◌, length, take};
 ghost use Rattle.lists.specs.Lists.{overwritten};
-ghost use Rattle.plan.specs.Decode.{plan_of};
-ghost use Rattle.plan.specs.Place.{transaction_places};
+ghost use Rattle.plan.specs.Accepted.{the_plan};
 ghost use Rattle.visits.specs.Waiting.{reply_head, reply_size, answered, reply_words};
 ghost use Rattle.visits.specs.Running.{Runs, Ran, AllRun, AllRan};
 ghost use Rattle.queue.specs.Queue.{queue_size};
 ghost use Rattle.queue.specs.Words.{records_in};
 
 use execution::Reply;
-use queue::{QUEUE_SIZE, Request};
+use operation::Operation;
+use plan::Plan;
+use queue::QUEUE_SIZE;
 
 // The words of a reply, and of the replies to as many requests as may wait.
 const REPLY_SIZE: usize = 7;
@@ -40,34 +41,28 @@ fn write_reply(replies: &mut [u32], client: u32, reply: Reply)
     replies[6] = reply.told3;
 }
 
-// Runs one request, whose transaction stands at this place: its update goes to the front of what is left of the outgoing words, its
-// reply to the front of what is left of the reply words. Answers how many outgoing words it wrote.
+// Runs one request's operation: its update goes to the front of what is left of the outgoing words, its reply to the front of what is left
+// of the reply words. Answers how many outgoing words it wrote.
 fn run_one(
-    plan: &[u32],
-    at: usize,
-    request: Request,
+    operation: &Operation,
+    client: u32,
     desk: u32,
     cells: &mut [u32],
     out: &mut [u32],
     replies: &mut [u32],
 ) -> usize
-    requires { Runs plan.now at request desk cells.old out.old replies.old }
-    ensures { Ran (plan_of plan.now) request desk cells.old out.old replies.old
-        result cells.new out.new replies.new }
+    requires { Runs operation.now desk cells.old out.old replies.old }
+    ensures { Ran operation.now client desk cells.old out.old replies.old result cells.new out.new replies.new }
 {
-    let params = queue::params(request);
-    let outcome = execution::run(plan, at, params, cells);
-    let update = outcome.update;
-    let reply = outcome.reply;
-    write_reply(replies, request.client, reply);
-    execution::apply(cells, update);
-    token::write_update(out, desk, update)
+    let outcome = execution::run(operation, cells);
+    write_reply(replies, client, outcome.reply);
+    execution::apply(cells, &outcome.update);
+    token::write_update(out, desk, &outcome.update)
 }
 
 // Runs the first `waiting` requests of the row in order, and answers how many outgoing words their updates have.
 pub(crate) fn run_waiting(
-    plan: &[u32],
-    places: &[usize],
+    plan: &Plan,
     waiting: usize,
     row: &[u32],
     desk: u32,
@@ -75,28 +70,25 @@ pub(crate) fn run_waiting(
     out: &mut [u32],
     replies: &mut [u32],
 ) -> usize
-    requires { (waiting ≤ queue_size) × (places.now ≡ transaction_places plan.now)
-        × AllRun plan.now (take waiting (records_in row.now)) desk cells.old out.old replies.old }
-    ensures { AllRan (plan_of plan.now) (take waiting (records_in row.now)) desk cells.old
+    requires { (waiting ≤ queue_size)
+        × AllRun plan.now.words.now (take waiting (records_in row.now)) desk cells.old out.old replies.old }
+    ensures { AllRan (the_plan plan.now) (take waiting (records_in row.now)) desk cells.old
         out.old replies.old result cells.new out.new replies.new }
 {
     let mut end: usize = 0;
-    let mut at: usize = 0;
-    while at < waiting {
+    for at in 0..waiting {
         let request = queue::record_in(row, at);
-        let place = places[request.transaction as usize];
+        let operation = desk::admitted(plan, request);
         let answered = at * REPLY_SIZE;
         end = end
             + run_one(
-                plan,
-                place,
-                request,
+                &operation,
+                request.client,
                 desk,
                 cells,
                 &mut out[end..],
                 &mut replies[answered..],
             );
-        at = at + 1;
     }
     end
 }
