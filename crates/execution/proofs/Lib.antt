@@ -1,7 +1,6 @@
 pub mod Updates
 pub mod Running
 pub mod Runs
-pub mod ToldNumbers
 pub mod RunAppend
 pub mod Telling
 pub mod Actions

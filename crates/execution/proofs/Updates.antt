@@ -1,15 +1,15 @@
--- Updates: applying one after another, and the pairs that a run or an update's arrays hold, one more at a time.
+-- Updates: applying one after another, and a cell behind one.
 -- Assumes nothing.
-use mathlib.Core.Path.{◌≡◌, refl, ◌∙◌, sym, ap}
-use mathlib.Core.List.{List, [], ◌∷◌, ◌++◌}
-use Prim.Native.Nat.{ℕ, zero, suc, ◌+◌, ◌≤◌, ◌<◌}
-use native.Mathlib.Nat.{not-suc-le-zero, le_of_suc-le-suc}
-use native.Mathlib.Numerals.{add-one}
-use native.Mathlib.Omega.{arith}
-use lib.ListN.{length, get_or, set, length-set}
-use lib.Seq.{set_out, get_or-set_same, get_or-set_other}
+use Rattle.std.proofs.Common.{ℕ, ◌+◌, ◌≤◌, ◌<◌, ◌≡◌, refl, ◌∙◌, sym, ap, Bool, true, false, cond, Option, Some, None, [], ◌∷◌, ◌++◌, length, get_or, set, drop, eqb, arith}
+use mathlib.Core.Bool.{false≢true}
+use mathlib.Core.List.{reverse}
+use lib.ListN.{length-set, get_or-eq_default, drop_of_length-le}
+use lib.Seq.{get_or-set_same, get_or-set_other}
+use borrow.Author.Tests.{eq-eqb, eqb-true}
+use Rattle.std.specs.List.{find}
+use Rattle.std.proofs.lemmas.List.{drop_more}
+use Rattle.std.proofs.lemmas.Grind.{reverse_onto}
 use Rattle.operation.specs.Store.{Store, Update, apply_update}
-use Rattle.execution.specs.Answer.{pairs}
 
 pub apply_append : (u v : Update) (s : Store) → apply_update (u ++ v) s ≡ apply_update v (apply_update u s)
 unfolding apply_update
@@ -26,74 +26,58 @@ pub apply_one_more : (u : Update) (c v : ℕ) (s : Store) → apply_update (u ++
 unfolding apply_update
 apply_one_more u c v s = apply_append u ((c, v) ∷ []) s
 
--- ---- the first n cells, each with the value beside it
+-- ---- the store, pair by pair
 
-suc_pairs : (n : ℕ) (cs vs : List ℕ) → n < length cs → n < length vs
-    → pairs (suc n) cs vs ≡ pairs n cs vs ++ ((get_or cs n 0, get_or vs n 0) ∷ [])
-unfolding pairs
-suc_pairs n [] vs h k = absurd (not-suc-le-zero h)
-suc_pairs n (c ∷ cs) [] h k = absurd (not-suc-le-zero k)
-suc_pairs zero (c ∷ cs) (v ∷ vs) h k = refl
-suc_pairs (suc n) (c ∷ cs) (v ∷ vs) h k =
-    ap (λ (u : Update). (c, v) ∷ u) (suc_pairs n cs vs (le_of_suc-le-suc h) (le_of_suc-le-suc k))
+-- pair i is written, and those behind it are still to come
+pub apply_next : (i : ℕ) (u : Update) (s t r : Store) → i < length u → t ≡ set s (get_or u i (0, 0)).0 (get_or u i (0, 0)).1
+    → apply_update (drop i u) s ≡ r → apply_update (drop (i + 1) u) t ≡ r
+unfolding apply_update
+apply_next i u s t r h e q = rw e (rw (drop_more u i (0, 0) h) at q)
 
-pub pairs_next : (n : ℕ) (cs vs : List ℕ) → n < length cs → n < length vs
-    → pairs (n + 1) cs vs ≡ pairs n cs vs ++ ((get_or cs n 0, get_or vs n 0) ∷ [])
-pairs_next n cs vs h k = rw add-one (suc_pairs n cs vs h k)
+pub apply_done : (i : ℕ) (u : Update) (s r : Store) → length u ≤ i → apply_update (drop i u) s ≡ r → s ≡ r
+unfolding apply_update
+apply_done i u s r h q = rw (drop_of_length-le u h) at q
 
-suc_pairs_set : (n : ℕ) (cs vs : List ℕ) (c v : ℕ) → n < length cs → n < length vs
-    → pairs (suc n) (set cs n c) (set vs n v) ≡ pairs n cs vs ++ ((c, v) ∷ [])
-unfolding pairs
-suc_pairs_set n [] vs c v h k = absurd (not-suc-le-zero h)
-suc_pairs_set n (d ∷ cs) [] c v h k = absurd (not-suc-le-zero k)
-suc_pairs_set zero (d ∷ cs) (w ∷ vs) c v h k = refl
-suc_pairs_set (suc n) (d ∷ cs) (w ∷ vs) c v h k =
-    ap (λ (u : Update). (d, w) ∷ u) (suc_pairs_set n cs vs c v (le_of_suc-le-suc h) (le_of_suc-le-suc k))
+-- ---- a cell behind an update: the value of its last pair for this cell, else that of the store
 
--- a pair stored behind the first n joins them
-pub pairs_store : (n : ℕ) (cs vs : List ℕ) (c v : ℕ) → n < length cs → n < length vs
-    → pairs (n + 1) (set cs n c) (set vs n v) ≡ pairs n cs vs ++ ((c, v) ∷ [])
-pairs_store n cs vs c v h k = rw add-one (suc_pairs_set n cs vs c v h k)
+abbrev pub value_or : ℕ → Option (ℕ × ℕ) → ℕ
+value_or x None = x
+value_or x (Some w) = w.1
 
--- there are no more pairs than cells
-pub pairs_past : (n : ℕ) (cs vs : List ℕ) → length cs ≤ n → pairs n cs vs ≡ pairs (length cs) cs vs
-unfolding pairs
-pairs_past zero [] vs h = refl
-pairs_past zero (c ∷ cs) vs h = absurd (not-suc-le-zero h)
-pairs_past (suc n) [] vs h = refl
-pairs_past (suc n) (c ∷ cs) [] h = refl
-pairs_past (suc n) (c ∷ cs) (v ∷ vs) h = ap (λ (u : Update). (c, v) ∷ u) (pairs_past n cs vs (le_of_suc-le-suc h))
+abbrev pub latest : ℕ → Update → Option (ℕ × ℕ)
+latest c u = find (λ w. eqb w.0 c) (reverse u)
 
-pub pairs_none : (cs vs : List ℕ) → pairs 0 cs vs ≡ []
-unfolding pairs
-pairs_none cs vs = refl
+value_behind : (c x : ℕ) (w : ℕ × ℕ) (u : Update)
+    → value_or x (find (λ v. eqb v.0 c) (u ++ w ∷ [])) ≡ value_or (cond (eqb w.0 c) w.1 x) (find (λ v. eqb v.0 c) u)
+value_behind c x w [] = go (eqb w.0 c)
+  where
+    go : (b : Bool) → value_or x (cond b (Some w) None) ≡ cond b w.1 x
+    go true = refl
+    go false = refl
+value_behind c x w (v ∷ u) = go (eqb v.0 c) (value_behind c x w u)
+  where
+    go : (b : Bool)
+        → value_or x (find (λ v. eqb v.0 c) (u ++ w ∷ [])) ≡ value_or (cond (eqb w.0 c) w.1 x) (find (λ v. eqb v.0 c) u)
+        → value_or x (cond b (Some v) (find (λ v. eqb v.0 c) (u ++ w ∷ [])))
+        ≡ value_or (cond (eqb w.0 c) w.1 x) (cond b (Some v) (find (λ v. eqb v.0 c) u))
+    go true e = refl
+    go false e = e
 
--- ---- the store behind the first n pairs
+value_set : (s : Store) (c d v : ℕ) → c < length s → cond (eqb d c) v (get_or s c 0) ≡ get_or (set s d v) c 0
+value_set s c d v h = go (eqb d c) refl
+  where
+    go : (b : Bool) → eqb d c ≡ b → cond b v (get_or s c 0) ≡ get_or (set s d v) c 0
+    go true e = rw (eqb-true d c e) (sym (get_or-set_same s c v 0 h))
+    go false e = sym (get_or-set_other s d c v 0 (λ q. false≢true (sym e ∙ eq-eqb d c (sym q))))
 
-pub apply_none : (cs vs : List ℕ) (s : Store) → apply_update (pairs 0 cs vs) s ≡ s
-unfolding pairs apply_update
-apply_none cs vs s = refl
+pub seen_latest : (c : ℕ) (u : Update) (s : Store) → c < length s → value_or (get_or s c 0) (latest c u) ≡ get_or (apply_update u s) c 0
+unfolding apply_update
+seen_latest c [] s h = refl
+seen_latest c (w ∷ u) s h =
+    ap (λ t. value_or (get_or s c 0) (find (λ v. eqb v.0 c) t)) (reverse_onto u w [])
+    ∙ value_behind c (get_or s c 0) w (reverse u)
+    ∙ ap (λ x. value_or x (latest c u)) (value_set s c w.0 w.1 h)
+    ∙ seen_latest c u (set s w.0 w.1) (omega (arith, length-set s w.0 w.1))
 
-module _ (n : ℕ) (cs vs : List ℕ) (s : Store) (h : n < length cs) (k : n < length vs) where
-  apply_next : apply_update (pairs (n + 1) cs vs) s ≡ set (apply_update (pairs n cs vs) s) (get_or cs n 0) (get_or vs n 0)
-  apply_next = rw (pairs_next n cs vs h k) (apply_one_more (pairs n cs vs) (get_or cs n 0) (get_or vs n 0) s)
-
-  -- writing pair n, or passing it over if its cell lies past the end
-  pub apply_written : (t : Store) → t ≡ apply_update (pairs n cs vs) s
-      → set t (get_or cs n 0) (get_or vs n 0) ≡ apply_update (pairs (n + 1) cs vs) s
-  apply_written t e = rw e (sym apply_next)
-
-  pub apply_passed : (t : Store) → t ≡ apply_update (pairs n cs vs) s → length t ≤ get_or cs n 0
-      → t ≡ apply_update (pairs (n + 1) cs vs) s
-  apply_passed t e l = sym (set_out t (get_or cs n 0) (get_or vs n 0) l) ∙ apply_written t e
-
-  -- a later write to the cell overrides, one to another cell does not
-  pub seen_override : (i : ℕ) → i < length s → get_or cs n 0 ≡ i → get_or vs n 0 ≡ get_or (apply_update (pairs (n + 1) cs vs) s) i 0
-  seen_override i l e =
-      rw (apply_next, e)
-      (sym (get_or-set_same (apply_update (pairs n cs vs) s) i (get_or vs n 0) 0 (omega (arith, l, apply_length (pairs n cs vs) s))))
-
-  pub seen_keep : (i : ℕ) → (get_or cs n 0 ≡ i → ⊥)
-      → get_or (apply_update (pairs n cs vs) s) i 0 ≡ get_or (apply_update (pairs (n + 1) cs vs) s) i 0
-  seen_keep i d = rw apply_next (sym (get_or-set_other (apply_update (pairs n cs vs) s) (get_or cs n 0) i (get_or vs n 0) 0 (λ e. d
-      (sym e))))
+pub unseen : (c : ℕ) (u : Update) (s : Store) → length s ≤ c → 0 ≡ get_or (apply_update u s) c 0
+unseen c u s h = sym (get_or-eq_default (apply_update u s) 0 (omega (arith, h, apply_length u s)))

@@ -3,7 +3,7 @@ use Rattle.std.specs.Prelude.{ℕ, ◌+◌, ◌-◌, Bool, true, false, cond, Li
 use Rattle.plan.specs.Plan.{reads, writes, Action, sets, adds, needs, takes, Step, cell, operand, tells, Transaction, Plan}
 use Rattle.operation.specs.Operation.{Operation, transaction_of, value_of, cell_number}
 use Rattle.operation.specs.Store.{Store, Update}
-use Rattle.execution.specs.declared.execution.Reply as code
+use Rattle.execution.specs.declared.outcome.Reply as code
 
 -- "The reply is done or declined, with the working number at the end or stop."; "A reply gains four words, the told numbers": the code's
 -- own struct

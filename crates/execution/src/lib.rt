@@ -2,6 +2,7 @@
 #![tactic(auto)]
 
 mod execution;
-mod told;
+mod outcome;
 
-pub use execution::{Outcome, Reply, Update, apply, run};
+pub use execution::{apply, run};
+pub use outcome::{Outcome, Reply, Update};

@@ -1,12 +1,11 @@
 -- A run along the steps: what is still to run gives the whole outcome.
 -- Assumes nothing.
-use Prim.Native.Nat.{◌-◌}
+use Rattle.plan.specs.Transaction.{the_transaction, the_steps}
+use Rattle.execution.specs.Run.{run_transaction}
 use Rattle.execution.proofs.Running.{Running}
 use Rattle.execution.proofs.execution.run.Given as goal
 
-abbrev pub invariant-loop-s : goal.invariant-loop-s
-invariant-loop-s l =
-    Running l.plan l.at l.params l.store l.s l.cells l.values l.count l.number l.told
-
-abbrev pub decreases-loop-s : goal.decreases-loop-s
-decreases-loop-s l = l.steps - l.s
+abbrev pub invariant-loop-step : goal.invariant-loop-step
+invariant-loop-step l =
+    let outcome = run_transaction (the_transaction l.operation.transaction) l.params l.store in
+    Running l.params outcome l.store (the_steps l.step-iterator) l.number l.told.items l.update.items
