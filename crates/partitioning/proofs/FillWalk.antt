@@ -1,66 +1,92 @@
 -- The open fields of a plan, filled one after the other where they stand.
 -- Assumes nothing.
-use mathlib.Core.Path.{◌≡◌, refl, ◌∙◌, sym, ap}
+use mathlib.Core.Path.{◌≡◌, ◌∙◌, sym, ap, ap₂}
 use mathlib.Core.Bool.{true, false}
 use mathlib.Core.List.{List, [], ◌∷◌, ◌++◌, append_assoc, append-nil}
 use Prim.Native.Nat.{ℕ, ◌+◌, ◌/◌, ◌%◌, ◌≤◌, ◌<◌}
 use native.Mathlib.Numerals.{add-one}
+use native.Mathlib.Nat.{mul-div_right}
 use native.Mathlib.Omega.{arith}
-use lib.ListN.{length, get_or, set, take, drop, drop_of_length-le}
+use lib.ListN.{length, get_or, set, take, drop, length-set, drop_of_length-le}
 use lib.Seq.{take-suc, take-suc-set, drop-set-lt, take_all}
 use Rattle.lists.proofs.Laws.{drop_here}
 use Rattle.plan.specs.Decode.{is_open}
 use Rattle.partitioning.specs.Filling.{fill, with_field}
-use Rattle.partitioning.specs.Best.{open_words, candidate, filling_count, filling, filled_by}
-use Rattle.partitioning.proofs.OpenWordsFrom.{open_words_from}
+use Rattle.partitioning.specs.Best.{open_words, candidate, candidate_count, filling_count, filling, filled_by}
+use Rattle.partitioning.proofs.Counts.{count_pos}
 
 -- ---- one word
 
 module _ (w : ℕ) (ws : List ℕ) (r : ℕ) where
   fill_open : is_open w ≡ true → (n : ℕ) → n ≡ filling_count (open_words ws)
       → filled_by (w ∷ ws) r ≡ with_field (candidate w (r / n)) w ∷ filled_by ws (r % n)
-  unfolding open_words filling fill
+  unfolding filling fill
   fill_open e n f = rw (e, f)
 
   fill_not : is_open w ≡ false → filled_by (w ∷ ws) r ≡ w ∷ filled_by ws r
-  unfolding open_words filling fill
+  unfolding filling fill
   fill_not e = rw e
 
 -- ---- by the place in the plan
 
--- the words before the place as they are, those from it on filled
-pub filled_from : List ℕ → ℕ → ℕ → List ℕ
-filled_from ws i r = take i ws ++ filled_by (drop i ws) r
-
-pub filled_start : (ws : List ℕ) (r : ℕ) → filled_by ws r ≡ filled_from ws 0 r
-unfolding filled_from
-filled_start ws r = refl
-
 module _ (ws : List ℕ) (i : ℕ) where
-  behind_store : (x : ℕ) (l : List ℕ) → i < length ws → take (i + 1) (set ws i x) ++ l ≡ take i ws ++ (x ∷ l)
-  behind_store x l h = rw (add-one i, take-suc-set ws i x h) (append_assoc (take i ws) (x ∷ []) l)
+  -- how many fillings the words from this place on have
+  abbrev pub fillings_from : ℕ
+  fillings_from = filling_count (open_words (drop i ws))
 
-  behind_word : (l : List ℕ) → i < length ws → take (i + 1) ws ++ l ≡ take i ws ++ (get_or ws i 0 ∷ l)
-  behind_word l h = rw (add-one i, take-suc ws i 0 h) (append_assoc (take i ws) (get_or ws i 0 ∷ []) l)
+-- what is left of so many fillings behind an open word
+pub fillings_behind : (ws : List ℕ) (i n : ℕ) → i < length ws → is_open (get_or ws i 0) ≡ true → n ≡ fillings_from ws i
+    → n / candidate_count (get_or ws i 0) ≡ fillings_from ws (i + 1)
+unfolding filling_count
+fillings_behind ws i n h e f =
+    ap (λ (m : ℕ). m / candidate_count (get_or ws i 0)) (f ∙ ap (λ (l : List ℕ). filling_count (open_words l)) (drop_here ws i 0 h) ∙ rw e)
+    ∙ mul-div_right (fillings_from ws (i + 1)) (omega arith)
 
-  pub filled_open : (r n x : ℕ) → i < length ws → is_open (get_or ws i 0) ≡ true → n ≡ filling_count (open_words_from ws (i + 1))
-      → x ≡ with_field (candidate (get_or ws i 0) (r / n)) (get_or ws i 0) → filled_from ws i r ≡ filled_from (set ws i x) (i + 1) (r % n)
-  unfolding filled_from open_words_from
-  filled_open r n x h e f g =
-      ap (λ (l : List ℕ). take i ws ++ filled_by l r) (drop_here ws i 0 h)
-      ∙ ap (λ (l : List ℕ). take i ws ++ l) (fill_open (get_or ws i 0) (drop (i + 1) ws) r e n f)
-      ∙ ap (λ (y : ℕ). take i ws ++ (y ∷ filled_by (drop (i + 1) ws) (r % n))) (sym g)
-      ∙ sym (behind_store x (filled_by (drop (i + 1) ws) (r % n)) h)
-      ∙ ap (λ (l : List ℕ). take (i + 1) (set ws i x) ++ filled_by l (r % n)) (sym (drop-set-lt (i + 1) ws i x (omega arith)))
+pub some_behind : (ws : List ℕ) (i n : ℕ) → i < length ws → is_open (get_or ws i 0) ≡ true → n ≡ fillings_from ws i
+    → 1 ≤ n / candidate_count (get_or ws i 0)
+some_behind ws i n h e f = rw (fillings_behind ws i n h e f) (count_pos (open_words (drop (i + 1) ws)))
 
-  pub filled_not : (r : ℕ) → i < length ws → is_open (get_or ws i 0) ≡ false → filled_from ws i r ≡ filled_from ws (i + 1) r
-  unfolding filled_from
-  filled_not r h e =
-      ap (λ (l : List ℕ). take i ws ++ filled_by l r) (drop_here ws i 0 h)
-      ∙ ap (λ (l : List ℕ). take i ws ++ l) (fill_not (get_or ws i 0) (drop (i + 1) ws) r e)
-      ∙ sym (behind_word (filled_by (drop (i + 1) ws) r) h)
+pub fillings_past : (ws : List ℕ) (i : ℕ) → i < length ws → is_open (get_or ws i 0) ≡ false → fillings_from ws i ≡ fillings_from ws (i + 1)
+fillings_past ws i h e = ap (λ (l : List ℕ). filling_count (open_words l)) (drop_here ws i 0 h) ∙ rw e
 
-  pub filled_done : (r : ℕ) → length ws ≤ i → filled_from ws i r ≡ ws
-  unfolding filled_from fill
-  filled_done r h =
-      ap (λ (l : List ℕ). take i ws ++ filled_by l r) (drop_of_length-le ws h) ∙ append-nil (take i ws) ∙ take_all i ws h
+-- of m words, those before place i are filled, and by number r of n those still to come, which makes `whole` of them
+pub record FilledTo (m : ℕ) (whole ws : List ℕ) (i n r : ℕ) : Type 0 where
+  pub long : length ws ≡ m
+  pub left : n ≡ fillings_from ws i
+  pub filled : take i ws ++ filled_by (drop i ws) r ≡ whole
+
+module _ (m : ℕ) (whole ws : List ℕ) (i n r : ℕ) (p : FilledTo m whole ws i n r) where
+  pub filled_open : (vs : List ℕ) (x k s : ℕ) → i < length ws → is_open (get_or ws i 0) ≡ true → k ≡ n / candidate_count (get_or ws i 0)
+      → x ≡ with_field (candidate (get_or ws i 0) (r / k)) (get_or ws i 0) → vs ≡ set ws i x → s ≡ r % k → FilledTo m whole vs (i + 1) k s
+  filled_open vs x k s h e a b c d =
+      let behind : k ≡ fillings_from ws (i + 1) = a ∙ fillings_behind ws i n h e p.left in
+      let same : drop (i + 1) vs ≡ drop (i + 1) ws = ap (drop (i + 1)) c ∙ drop-set-lt (i + 1) ws i x (omega arith) in
+      record {
+        long = ap length c ∙ length-set ws i x ∙ p.long;
+        left = behind ∙ ap (λ (l : List ℕ). filling_count (open_words l)) (sym same);
+        filled =
+            ap₂ (λ (l f : List ℕ). l ++ f) (ap (take (i + 1)) c ∙ ap (λ (j : ℕ). take j (set ws i x)) (add-one i) ∙ take-suc-set ws i x h)
+            (ap₂ filled_by same d)
+            ∙ append_assoc (take i ws) (x ∷ []) (filled_by (drop (i + 1) ws) (r % k))
+            ∙ ap (λ (y : ℕ). take i ws ++ (y ∷ filled_by (drop (i + 1) ws) (r % k))) b
+            ∙ ap (λ (l : List ℕ). take i ws ++ l) (sym (fill_open (get_or ws i 0) (drop (i + 1) ws) r e k behind))
+            ∙ ap (λ (l : List ℕ). take i ws ++ filled_by l r) (sym (drop_here ws i 0 h))
+            ∙ p.filled;
+      }
+
+  pub filled_not : i < length ws → is_open (get_or ws i 0) ≡ false → FilledTo m whole ws (i + 1) n r
+  filled_not h e = record {
+    long = p.long;
+    left = p.left ∙ fillings_past ws i h e;
+    filled =
+        ap (λ (l : List ℕ). l ++ filled_by (drop (i + 1) ws) r) (ap (λ (j : ℕ). take j ws) (add-one i) ∙ take-suc ws i 0 h)
+        ∙ append_assoc (take i ws) (get_or ws i 0 ∷ []) (filled_by (drop (i + 1) ws) r)
+        ∙ ap (λ (l : List ℕ). take i ws ++ l) (sym (fill_not (get_or ws i 0) (drop (i + 1) ws) r e))
+        ∙ ap (λ (l : List ℕ). take i ws ++ filled_by l r) (sym (drop_here ws i 0 h))
+        ∙ p.filled;
+  }
+
+  pub filled_done : length ws ≤ i → ws ≡ whole
+  unfolding fill
+  filled_done h =
+      sym (ap (λ (l : List ℕ). take i ws ++ filled_by l r) (drop_of_length-le ws h) ∙ append-nil (take i ws) ∙ take_all i ws h) ∙ p.filled

@@ -40,7 +40,6 @@ unfolding fill
 fill_closed fs w ws e = rw e
 
 open_words_closed : (w : ℕ) (ws : List ℕ) → is_open w ≡ false → open_words (w ∷ ws) ≡ open_words ws
-unfolding open_words
 open_words_closed w ws e = rw e
 
 -- where no word is open, none is filled
@@ -77,11 +76,9 @@ behind_by false w os fs c i h = c i h
 
 module _ (w : ℕ) (ws fs : List ℕ) (c : Candidates (w ∷ ws) fs) where
   pub candidate_here : is_open w ≡ true → Candidate (parameter_count w) (get_or fs 0 0)
-  unfolding open_words
   candidate_here = here_by (is_open w) w (open_words ws) fs c
 
   pub candidates_behind : Candidates ws (fields_behind fs w)
-  unfolding open_words
   candidates_behind = behind_by (is_open w) w (open_words ws) fs c
 
 -- ---- the steps' words are as they were

@@ -44,7 +44,7 @@ module _ (k r : ℕ) where
   pub filled_puts : (ws : List ℕ) (i q q₁ q₂ : ℕ) → Joins q q₁ q₂
       → closed_puts k r q (fill (filling (open_words ws) i) ws)
       ≡ (closed_puts k r q₁ ws || open_puts k r q₂ (filling_count (open_words ws)) i ws)
-  unfolding fill open_words filling filling_count closed_puts open_puts
+  unfolding fill filling filling_count closed_puts open_puts
   filled_puts [] i q q₁ q₂ j = refl
   filled_puts (w ∷ ws) i q q₁ q₂ j = go (is_open w) (is_transaction w) refl refl (filled_puts ws)
     where
@@ -82,7 +82,7 @@ module _ (k r : ℕ) where
 
 -- the walk for the cost meets the same weights and steps
 pub filled_cost : (s ws : List ℕ) (i g c : ℕ) → cost_from s g c (fill (filling (open_words ws) i) ws) ≡ cost_from s g c ws
-unfolding fill open_words filling cost_from
+unfolding fill filling cost_from
 filled_cost s [] i g c = refl
 filled_cost s (w ∷ ws) i g c = go (is_open w) (is_transaction w) (word_shares s w) refl refl refl (filled_cost s ws)
   where

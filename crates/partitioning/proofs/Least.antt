@@ -3,12 +3,18 @@
 use mathlib.Core.Path.{◌≡◌, refl}
 use mathlib.Core.Bool.{Bool, true, false, cond}
 use mathlib.Core.Logic.{◌⊎◌, inl, inr}
-use Prim.Native.Nat.{ℕ, zero, suc, ◌≤◌, ◌<◌}
+use Prim.Native.Nat.{ℕ, zero, suc, ◌+◌, ◌≤◌, ◌<◌}
+use native.Mathlib.Numerals.{add-one}
 use native.Mathlib.Nat.{not-suc-le-zero, le_of_suc-le-suc, eq-or-lt_of_le}
 use native.Mathlib.Omega.{arith}
 use lib.Dec.{ltb}
 use borrow.Author.Tests.{ltb-true, ltb-false}
 use Rattle.partitioning.specs.Best.{least_at}
+
+-- one number more, as a loop counts
+pub least_next : (f : ℕ → ℕ) (n : ℕ) → least_at f (n + 1) ≡ cond (ltb (f n) (f (least_at f n))) n (least_at f n)
+unfolding least_at
+least_next f n = rw (add-one n)
 
 module _ (f : ℕ → ℕ) where
   -- number n is less than all before it, or the first least below n stays

@@ -2,7 +2,6 @@ pub mod Least
 pub mod Counts
 pub mod Numbers
 pub mod FirstLeast
-pub mod OpenWordsFrom
 pub mod Fields
 pub mod FillWords
 pub mod OpenTransactions
@@ -11,16 +10,12 @@ pub mod Filled
 pub mod FilledPlan
 pub mod RowSets
 pub mod Marking
-pub mod ClosedMarks
-pub mod OpenMarks
 pub mod RowsPut
 pub mod FilledRows
 pub mod TouchedRows
 pub mod DeskCounts
 pub mod SharedRows
-pub mod CostWalk
 pub mod FillingCost
 pub mod Globals
-pub mod SearchWalk
 pub mod Chosen
 pub mod Choosing

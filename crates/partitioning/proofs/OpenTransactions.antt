@@ -25,7 +25,7 @@ params t = t.params
 
 formed_params : (n : ℕ) (ws : List ℕ) → well_formed n ws ≡ true
     → map parameter_count (open_words ws) ≡ map params (open_transactions (transactions_of n ws))
-unfolding well_formed transactions_of open_words open_transactions
+unfolding well_formed transactions_of open_transactions
 formed_params zero [] e = refl
 formed_params zero (w ∷ ws) e = absurd (false≢true e)
 formed_params (suc n) [] e = absurd (false≢true e)

@@ -2,11 +2,11 @@
 -- Assumes nothing.
 use mathlib.Core.Path.{◌≡◌, refl, ◌∙◌, ap}
 use mathlib.Core.Bool.{Bool, true, false, not, ◌||◌, cond}
-use Prim.Native.Nat.{ℕ, zero, suc, ◌+◌, ◌-◌, ◌*◌, ◌%◌, ◌^◌, ◌<◌}
-use native.Mathlib.Nat.{zero-add, zero-mul, one-mul, mod-eq_of_lt}
+use Prim.Native.Nat.{ℕ, zero, suc, ◌+◌, ◌-◌, ◌*◌, ◌^◌, ◌<◌}
+use native.Mathlib.Nat.{zero-add, zero-mul}
 use native.Mathlib.Omega.{arith}
 use lib.Dec.{eqb, eqb→eq}
-use lib.Pow.{pow_pos, pow-lt}
+use lib.Pow.{pow_pos}
 use borrow.Author.Tests.{ne_eqb}
 use Rattle.lists.specs.Lists.{some_below}
 use Rattle.lists.proofs.Laws.{below_at}
@@ -46,7 +46,3 @@ rows_mask_lem w = go (eqb (row_source w) 7)
     go : (b : Bool) → cond b (2 ^ fixed_row w) (2 ^ 32 - 1) ≡ mask_of 32 (row_given (cond b (fixed (fixed_row w)) (param (row_source w))))
     go true = one_row (fixed_row w) (omega arith)
     go false = all_rows
-
--- one row's bit, shifted
-pub row_bit : (r : ℕ) → r < 32 → 1 * 2 ^ r % 2 ^ 32 ≡ 2 ^ r
-row_bit r h = ap (λ (n : ℕ). n % 2 ^ 32) (one-mul (2 ^ r)) ∙ mod-eq_of_lt (pow-lt h)

@@ -1,15 +1,15 @@
 -- The fillings by number, smallest fields first, and the best of them: how the choice is computed. That it is the one that 02 asks for is
 -- stated in Choosing.
 use Rattle.std.specs.Prelude.{ℕ, zero, suc, ◌+◌, ◌*◌, ◌/◌, ◌%◌, cond, List, [], ◌∷◌, ltb}
+use Rattle.std.specs.List.{filter}
 use Rattle.word.specs.Field.{parameter_count}
 use Rattle.plan.specs.Decode.{none_field, is_open, plan_of}
 use Rattle.partitioning.specs.Filling.{fill}
 use Rattle.partitioning.specs.Cost.{cost_of}
 
 -- the words of the transactions whose field is open, in plan order
-unfoldable pub open_words : List ℕ → List ℕ
-open_words [] = []
-open_words (w ∷ ws) = cond (is_open w) (w ∷ open_words ws) (open_words ws)
+abbrev pub open_words : List ℕ → List ℕ
+open_words ws = filter is_open ws
 
 -- how many candidates an open transaction has, and the i-th: its parameters in order, then 15
 abbrev pub candidate_count : ℕ → ℕ

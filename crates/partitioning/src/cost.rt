@@ -2,8 +2,9 @@
 ghost use Rattle.std.specs.Prelude.{◌≡◌, ◌≤◌, length};
 ghost use Rattle.plan.specs.Admission.{longest_plan};
 ghost use Rattle.partitioning.specs.Shared.{rows_off_desk0, rows_if_many, shared_rows, word_shares, cost_from};
+ghost use Rattle.partitioning.specs.Sets.{sets_of};
 
-use crate::touched;
+use crate::touched::{self, Touched};
 use word::fields;
 
 // All rows with two desks or more, none with one.
@@ -13,6 +14,7 @@ fn rows_if_many(desks: u32) -> u32
     if desks == 1 { 0 } else { 0xffff_ffff }
 }
 
+#[tactic(auto, unfolding(conflict::specs::Mask::mask_of))]
 // The rows that are not desk 0's.
 fn rows_off_desk_0(desks: u32) -> u32
     requires { (1 ≤ desks) × (desks ≤ 8) }
@@ -30,49 +32,41 @@ fn rows_off_desk_0(desks: u32) -> u32
     }
 }
 
+#[tactic(auto, using(lists::proofs::Laws::tabling_done))]
 // The rows of each table column that two desks or more touch.
-pub(crate) fn shared_rows(touched: &[u32], desks: u32) -> [u32; 32]
-    requires { (length touched.now ≡ 96) × (1 ≤ desks) × (desks ≤ 8) }
-    ensures { result ≡ shared_rows desks touched.now }
+pub(crate) fn shared_rows(touched: &Touched, desks: u32) -> [u32; 32]
+    requires { (1 ≤ desks) × (desks ≤ 8) }
+    ensures { result ≡ shared_rows desks (sets_of touched.now) }
 {
     let many = rows_if_many(desks);
     let off = rows_off_desk_0(desks);
-    let mut shared = [0u32; 32];
-    let mut a: usize = 0;
-    while a < 32 {
-        shared[a] = touched[a] & many
-            | touched[touched::OWN_DESK + a] & touched[touched::DESK_0 + a] & off;
-        a = a + 1;
+    let mut shared = [0; 32];
+    for a in 0..32 {
+        shared[a] = touched.every[a] & many | touched.own[a] & touched.desk_0[a] & off;
     }
     shared
 }
 
 // Whether the step in this word may write a row that is shared.
-fn word_shares(shared: &[u32], word: u32) -> bool
-    requires { length shared.now ≡ 32 }
+fn word_shares(shared: &[u32; 32], word: u32) -> bool
     ensures { result ≡ word_shares shared.now word }
 {
-    if word / fields::KIND != 4 {
-        return false;
-    }
-    shared[touched::table_column(word)] & touched::rows(word) != 0
+    word / fields::KIND == 4 && shared[touched::table_column(word)] & touched::rows(word) != 0
 }
 
 // The sum of the weights of the transactions that may write a shared row. Each counts once: then its weight at hand is 0.
-pub(crate) fn plan_cost(plan: &[u32], shared: &[u32]) -> u32
-    requires { (length plan.now ≤ longest_plan) × (length shared.now ≡ 32) }
+#[tactic(auto, unfolding(crate::specs::Shared::cost_from))]
+pub(crate) fn plan_cost(plan: &[u32], shared: &[u32; 32]) -> u32
+    requires { length plan.now ≤ longest_plan }
     ensures { result ≡ cost_from shared.now 0 0 plan.now }
 {
-    let mut cost: u32 = 0;
-    let mut weight: u32 = 0;
-    let mut i: usize = 0;
-    while i < plan.len() {
-        let word = plan[i];
-        i = i + 1;
+    let mut cost = 0;
+    let mut weight = 0;
+    for word in plan {
         if word / fields::KIND == 2 {
             weight = word / fields::WEIGHT % 256;
-        } else if word_shares(shared, word) {
-            cost = cost + weight;
+        } else if word_shares(shared, *word) {
+            cost += weight;
             weight = 0;
         }
     }

@@ -3,7 +3,7 @@
 //     open_count       how many fields are open
 //     filling_count    how many fillings there are
 //     fill             fills the plan
-ghost use Rattle.std.specs.Prelude.{◌≡◌, ◌<◌, ◌≤◌, length};
+ghost use Rattle.std.specs.Prelude.{◌≡◌, ◌<◌, ◌≤◌, ◌/◌, ◌%◌, length};
 ghost use Rattle.partitioning.specs.Filling.{with_field};
 ghost use Rattle.partitioning.specs.Best.{open_words, candidate_count, candidate, filling_count, filled_by};
 ghost use Rattle.partitioning.specs.Answer.{most_open};
@@ -35,16 +35,7 @@ pub(crate) fn candidate(word: u32, number: u32) -> u32
 pub(crate) fn open_count(plan: &[u32]) -> usize
     ensures { result ≡ length (open_words plan.now) }
 {
-    let mut count: usize = 0;
-    let mut i: usize = 0;
-    while i < plan.len() {
-        let word = plan[i];
-        i = i + 1;
-        if plan::is_open(word) {
-            count = count + 1;
-        }
-    }
-    count
+    plan.iter().filter(|word| plan::is_open(**word)).count()
 }
 
 // How many fillings there are.
@@ -52,16 +43,10 @@ pub(crate) fn filling_count(plan: &[u32]) -> u32
     requires { length (open_words plan.now) ≤ most_open }
     ensures { result ≡ filling_count (open_words plan.now) }
 {
-    let mut count: u32 = 1;
-    let mut i: usize = 0;
-    while i < plan.len() {
-        let word = plan[i];
-        i = i + 1;
-        if plan::is_open(word) {
-            count = count * candidate_count(word);
-        }
-    }
-    count
+    plan.iter()
+        .filter(|word| plan::is_open(**word))
+        .map(|word| candidate_count(*word))
+        .product()
 }
 
 // The word with this in its partitioning field.
@@ -74,23 +59,37 @@ fn with_field(word: u32, field: u32) -> u32
         + word % fields::PARTITIONING
 }
 
-// Fills the open fields by filling number `number` of so many. The words behind the one at hand have `below` fillings, of which theirs is
-// number `rest`.
+// A filling by its number, of so many: what is left of it for the open words still to come.
+#[derive(Clone, Copy)]
+pub(crate) struct FillingNumber {
+    pub(crate) fillings: u32,
+    pub(crate) number: u32,
+}
+
+impl FillingNumber {
+    // The field that it gives the next of these words. Those behind it have the fillings divided by the candidates of this one.
+    pub(crate) fn next_field(&mut self, word: u32) -> u32
+        requires { 1 ≤ self.old.fillings / candidate_count word }
+        ensures { (result ≡ candidate word (self.old.number / (self.old.fillings / candidate_count word)))
+            × (self.new.fillings ≡ self.old.fillings / candidate_count word)
+            × (self.new.number ≡ self.old.number % (self.old.fillings / candidate_count word)) }
+    {
+        self.fillings /= candidate_count(word);
+        let field = candidate(word, self.number / self.fillings);
+        self.number %= self.fillings;
+        field
+    }
+}
+
+// Fills the open fields by filling number `number` of so many.
 pub(crate) fn fill(plan: &mut [u32], fillings: u32, number: u32)
     requires { fillings ≡ filling_count (open_words plan.old) }
     ensures { plan.new ≡ filled_by plan.old number }
 {
-    let mut below = fillings;
-    let mut rest = number;
-    let mut i: usize = 0;
-    while i < plan.len() {
-        let at = i;
-        let word = plan[at];
-        i = i + 1;
-        if plan::is_open(word) {
-            below = below / candidate_count(word);
-            plan[at] = with_field(word, candidate(word, rest / below));
-            rest = rest % below;
+    let mut left = FillingNumber { fillings, number };
+    for word in plan.iter_mut() {
+        if plan::is_open(*word) {
+            *word = with_field(*word, left.next_field(*word));
         }
     }
 }

@@ -13,14 +13,10 @@ bounds-plan-0 c =
 pub shared_rows-shared-requires : goal.shared_rows-shared-requires
 shared_rows-shared-requires c =
     let a = open_accepted_gives _ c.requires.0 in
-    let low = a.desks_low in
-    let high = a.desks_high in
-    (search rules, low, high)
+    (a.desks_low, a.desks_high)
 
 pub plan_cost-requires : goal.plan_cost-requires
-plan_cost-requires c =
-    let a = open_accepted_gives _ c.requires.0 in
-    (a.words_high, search rules)
+plan_cost-requires c = (open_accepted_gives _ c.requires.0).words_high
 
 pub returns : goal.returns
 returns c =

@@ -1,12 +1,9 @@
--- The first of the fillings that cost least: after i turns it is the first of those below i.
+-- The first of the fillings that cost least: after so many turns it is the first of those below `number`.
 -- Assumes nothing.
-use Prim.Native.Nat.{◌-◌, ◌≤◌}
-use Rattle.partitioning.specs.Best.{cost_by}
-use Rattle.partitioning.proofs.SearchWalk.{Least}
+use mathlib.Core.Path.{◌≡◌}
+use Rattle.partitioning.specs.Best.{least_at, cost_by}
 use Rattle.partitioning.proofs.search.search.Given as goal
 
-abbrev pub invariant-loop-i : goal.invariant-loop-i
-invariant-loop-i l = (l.i ≤ l.fillings) × Least (cost_by l.plan) l.i l.number l.least
-
-abbrev pub decreases-loop-i : goal.decreases-loop-i
-decreases-loop-i l = l.fillings - l.i
+abbrev pub invariant-loop-number : goal.invariant-loop-number
+invariant-loop-number l =
+    (l.best.number ≡ least_at (cost_by l.plan) l.number) × (l.best.cost ≡ cost_by l.plan l.best.number)
