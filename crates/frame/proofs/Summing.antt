@@ -1,26 +1,24 @@
 -- The two sums, one word after another; the first sum is the words' total modulo 2^32.
 -- Assumes nothing.
-use Rattle.std.proofs.Common.{◌≡◌, ℕ, ◌+◌, ◌-◌, ◌%◌, ◌^◌, ◌<◌, ◌≤◌, false, eqb, List}
-use Rattle.std.proofs.Common.{length, get_or, take, drop, refl, add-one, arith, drop_of_length-le, drop-cons, eq-eqb, ne_eqb}
+use Rattle.std.proofs.Common.{◌≡◌, ℕ, ◌+◌, ◌-◌, ◌%◌, ◌^◌, ◌≤◌, false, eqb, List, [], ◌∷◌}
+use Rattle.std.proofs.Common.{◌∙◌, length, get_or, take, ap, arith, eq-eqb, ne_eqb}
+use Rattle.std.specs.List.{fold}
+use Rattle.frame.specs.declared.sums.Sums.{Sums}
 use Rattle.frame.specs.Frame.{sums_from, sums_of}
 use Rattle.frame.specs.Admission.{sums_right}
 
--- the sums of the words from a place on, in the loop's own variables
-pub sums_at : ℕ → ℕ → List ℕ → ℕ → ℕ × ℕ
-sums_at a b ws i = sums_from a b (drop i ws)
+-- both sums with one word more
+abbrev pub with_word : Sums → ℕ → Sums
+with_word s w = record { first = (s.first + w) % 2 ^ 32; second = (s.second + (s.first + w) % 2 ^ 32) % 2 ^ 32 }
 
-pub sums_start : (ws : List ℕ) → sums_at 0 0 ws 0 ≡ sums_of ws
-unfolding sums_at
-sums_start ws = refl
+sums_folded : (ws : List ℕ) (s t : Sums) → t ≡ fold with_word s ws → ◌≡◌ {A = ℕ × ℕ} (t.first, t.second) (sums_from s.first s.second ws)
+unfolding sums_from
+sums_folded [] s t e = ap (λ (u : Sums). (u.first, u.second)) e
+sums_folded (w ∷ ws) s t e = sums_folded ws (with_word s w) t e
 
-pub sums_next : (a b : ℕ) (ws : List ℕ) (i : ℕ) → i < length ws
-    → sums_at a b ws i ≡ sums_at ((a + get_or ws i 0) % 2 ^ 32) ((b + (a + get_or ws i 0) % 2 ^ 32) % 2 ^ 32) ws (i + 1)
-unfolding sums_at sums_from
-sums_next a b ws i h = rw (add-one, drop-cons ws i 0 h)
-
-pub sums_end : (a b : ℕ) (ws : List ℕ) (i : ℕ) → length ws ≤ i → sums_at a b ws i ≡ (a, b)
-unfolding sums_at sums_from
-sums_end a b ws i h = rw (drop_of_length-le ws h)
+pub sums_by_fold : (ws : List ℕ) (s t : Sums) → s ≡ record { first = 0; second = 0 } → t ≡ fold with_word s ws
+    → ◌≡◌ {A = ℕ × ℕ} (t.first, t.second) (sums_of ws)
+sums_by_fold ws s t z e = sums_folded ws s t e ∙ ap (λ (u : Sums). sums_from u.first u.second ws) z
 
 -- ---- question 11, one sum before the other
 

@@ -2,9 +2,9 @@
 -- Assumes nothing.
 use Rattle.std.proofs.Common.{◌≡◌, ℕ, zero, suc, ◌+◌, ◌-◌, ◌<◌, ◌≤◌, Bool, true, false, ◌&&◌, eqb, ltb, leb, List, []}
 use Rattle.std.proofs.Common.{◌∷◌, length, get_or, drop, set, replicate, sym, refl}
-use Rattle.std.proofs.Common.{ap, ◌∙◌, arith, length-set, drop_of_length-le, ltb-true, le-ltb, lt-ltb, ne_eqb}
-use mathlib.Core.Bool.{and_assoc}
-use Rattle.lists.proofs.Laws.{drop_here, and_fst, and_snd, every_same}
+use Rattle.std.proofs.Common.{ap, ◌∙◌, arith, length-set, ltb-true, lt-ltb, ne_eqb}
+use mathlib.Core.Bool.{and_assoc, and-false}
+use Rattle.lists.proofs.Laws.{and_fst, and_snd, every_same}
 use Rattle.word.specs.Field.{kind_of, update_desk, cell_count}
 use Rattle.word.specs.Reserved.{reserved_zero}
 use Rattle.frame.specs.Frame.{SentUpdate, sent}
@@ -25,64 +25,47 @@ rest n s (suc left) [] = false
 rest n s (suc left) (w ∷ []) = false
 rest n s (suc left) (w ∷ v ∷ ws) = cell_formed w && rest n s left ws
 
--- the same in the walk's own variables. It is shut, so that antt reads its arguments off a goal
-pub rest_at : ℕ → List ℕ → ℕ → List ℕ → ℕ → Bool
-rest_at n s left ws i = rest n s left (drop i ws)
-
 -- what question 12 says of an update's word
 pub formed_desk : (n w : ℕ) → update_formed n w ≡ true → update_desk w < n
 unfolding update_formed
 formed_desk n w e =
     ltb-true (update_desk w) n (and_fst (ltb (update_desk w) n) _ (and_snd (reserved_zero w) _ (and_snd (eqb (kind_of w) 10) _ e)))
 
+-- the desk of a well-formed update is one of at most 8
+pub desk_below : (n w : ℕ) → n ≤ 8 → update_formed n w ≡ true → update_desk w < 8
+desk_below n w few formed = omega (arith, formed_desk n w formed)
+
 -- ---- one word or two at a time
 
-cell_fault : (n : ℕ) (s : List ℕ) (left w : ℕ) (ws : List ℕ) → cell_formed w ≡ false → rest n s (suc left) (w ∷ ws) ≡ false
-unfolding rest
-cell_fault n s left w [] e = refl
-cell_fault n s left w (v ∷ ws) e = simp e
+module _ (n : ℕ) (s : List ℕ) (left : ℕ) where
+  pub rest_update : (w : ℕ) (ws : List ℕ) → left ≡ 0 → rest n s left (w ∷ ws)
+      ≡ (update_formed n w && (ltb (get_or s (update_desk w) 0) 32 && rest n (counted s (update_desk w)) (cell_count w) ws))
+  unfolding rest
+  rest_update w ws z = rw z
 
-module _ (n : ℕ) (s : List ℕ) (left : ℕ) (ws : List ℕ) (i : ℕ) (h : i < length ws) where
-  pub at_update_fault : left ≡ 0 → update_formed n (get_or ws i 0) ≡ false → rest_at n s left ws i ≡ false
-  unfolding rest_at rest
-  at_update_fault z e = rw (z, drop_here ws i 0 h) (simp e)
-
-  pub at_update_many : left ≡ 0 → update_formed n (get_or ws i 0) ≡ true → 32 ≤ get_or s (update_desk (get_or ws i 0)) 0
-      → rest_at n s left ws i ≡ false
-  unfolding rest_at rest
-  at_update_many z e m = rw (z, drop_here ws i 0 h) (simp (e, le-ltb (get_or s (update_desk (get_or ws i 0)) 0) 32 m))
-
-  pub at_update : left ≡ 0 → update_formed n (get_or ws i 0) ≡ true → get_or s (update_desk (get_or ws i 0)) 0 < 32
-      → rest_at n s left ws i ≡ rest_at n (counted s (update_desk (get_or ws i 0))) (cell_count (get_or ws i 0)) ws (i + 1)
-  unfolding rest_at rest
-  at_update z e m = rw (z, drop_here ws i 0 h) (simp (e, lt-ltb (get_or s (update_desk (get_or ws i 0)) 0) 32 m))
-
-  pub at_cell_fault : (left ≡ 0 → ⊥) → cell_formed (get_or ws i 0) ≡ false → rest_at n s left ws i ≡ false
-  unfolding rest_at
-  at_cell_fault z e =
+  pub rest_cell : (w : ℕ) (ws : List ℕ) → (left ≡ 0 → ⊥)
+      → rest n s left (w ∷ ws) ≡ (cell_formed w && (ltb 0 (length ws) && rest n s (left - 1) (drop 1 ws)))
+  unfolding rest
+  rest_cell w ws z =
       let k : left ≡ suc (left - 1) = omega arith in
-      rw (k, drop_here ws i 0 h) (cell_fault n s (left - 1) (get_or ws i 0) (drop (i + 1) ws) e)
+      ap (λ (x : ℕ). rest n s x (w ∷ ws)) k ∙ go ws
+    where
+      go : (ws : List ℕ) → rest n s (suc (left - 1)) (w ∷ ws) ≡ (cell_formed w && (ltb 0 (length ws) && rest n s (left - 1) (drop 1 ws)))
+      go [] = sym (and-false (cell_formed w))
+      go (v ∷ ws) = rw (lt-ltb 0 (suc (length ws)) (omega arith))
 
-  pub at_cell_last : (left ≡ 0 → ⊥) → i + 1 ≡ length ws → rest_at n s left ws i ≡ false
-  unfolding rest_at rest
-  at_cell_last z e =
-      let k : left ≡ suc (left - 1) = omega arith in
-      let l : length ws ≤ i + 1 = omega arith in
-      rw (k, drop_here ws i 0 h, drop_of_length-le ws l)
+  pub rest_end : (ws : List ℕ) → length ws ≡ 0 → rest n s left ws ≡ eqb left 0
+  unfolding rest
+  rest_end [] e = go left
+    where
+      go : (k : ℕ) → rest n s k [] ≡ eqb k 0
+      go zero = refl
+      go (suc k) = sym (ne_eqb (suc k) 0 (λ e. omega arith))
+  rest_end (w ∷ ws) e = absurd (omega arith)
 
-  pub at_cell : (left ≡ 0 → ⊥) → cell_formed (get_or ws i 0) ≡ true → i + 1 < length ws
-      → rest_at n s left ws i ≡ rest_at n s (left - 1) ws (i + 1 + 1)
-  unfolding rest_at rest
-  at_cell z e l =
-      let k : left ≡ suc (left - 1) = omega arith in
-      ap (λ (x : ℕ). rest n s x (drop i ws)) k
-      ∙ ap (rest n s (suc (left - 1))) (drop_here ws i 0 h ∙ ap (λ (t : List ℕ). get_or ws i 0 ∷ t) (drop_here ws (i + 1) 0 l))
-      ∙ simp e
-
-pub at_end : (n : ℕ) (s : List ℕ) (left : ℕ) (ws : List ℕ) (i : ℕ) → length ws ≤ i → rest_at n s left ws i ≡ eqb left 0
-unfolding rest_at rest
-at_end n s zero ws i h = rw (drop_of_length-le ws h)
-at_end n s (suc left) ws i h = rw (drop_of_length-le ws h) (sym (ne_eqb (suc left) 0 (λ e. omega arith)))
+  pub rest_counted : (w : ℕ) (ws : List ℕ) → left ≡ 0 → update_formed n w ≡ true → get_or s (update_desk w) 0 < 32
+      → rest n s left (w ∷ ws) ≡ rest n (counted s (update_desk w)) (cell_count w) ws
+  rest_counted w ws z e m = rest_update w ws z ∙ rw (e, lt-ltb (get_or s (update_desk w) 0) 32 m)
 
 -- ---- the whole answer
 
@@ -132,6 +115,7 @@ none_counted us = every_same _ (λ u. leb (desk_count u.desk us) 32) us (λ u m.
     from_zero : (d : ℕ) → get_or (no_counts 8) d 0 + desk_count d us ≡ desk_count d us
     from_zero d = omega (arith, no_count 8 d)
 
-pub walk_start : (n : ℕ) (ws : List ℕ) → n ≤ 8 → rest_at n (no_counts 8) 0 ws 0 ≡ updates_admitted n ws
-unfolding rest_at
+pub walk_start : (n : ℕ) (ws : List ℕ) → n ≤ 8 → rest n (no_counts 8) 0 ws ≡ updates_admitted n ws
 walk_start n ws h = whole n (no_counts 8) 0 ws h ∙ ap (λ (b : Bool). well_formed n 0 ws && b) (none_counted (updates_from 0 ws))
+
+pub ruleset walking = (rest_update, rest_cell, rest_end, rest_counted, desk_below, walk_start)

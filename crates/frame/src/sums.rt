@@ -1,28 +1,29 @@
 // The two sums of a frame.
-ghost use Rattle.std.specs.Prelude.{◌≡◌};
+ghost use Rattle.std.specs.Prelude.{◌≡◌, ◌+◌, ◌%◌, ◌^◌};
 ghost use Rattle.frame.specs.Frame.{sums_of};
 
-#[derive(Clone, Copy)]
+#[derive(Clone, Copy, Debug, Default, PartialEq, Eq)]
 pub struct Sums {
     pub first: u32,
     pub second: u32,
 }
 
-// Both sums over all the words: the first adds each word, the second adds the first after each word.
+impl Sums {
+    // Both with one word more: the first adds the word, the second adds the first after it.
+    fn with(self, word: u32) -> Sums
+        ensures { (result.first ≡ (self.first + word) % 2 ^ 32) × (result.second ≡ (self.second + result.first) % 2 ^ 32) }
+    {
+        let first = self.first.wrapping_add(word);
+        let second = self.second.wrapping_add(first);
+        Sums { first, second }
+    }
+}
+
+// Both sums over all the words.
 pub fn frame_sums(words: &[u32]) -> Sums
     ensures { (result.first, result.second) ≡ sums_of words.now }
 {
-    let mut first: u32 = 0;
-    let mut second: u32 = 0;
-    let mut at: usize = 0;
-    while at < words.len() {
-        let word = words[at];
-        at = at + 1;
-        first = first.wrapping_add(word);
-        second = second.wrapping_add(first);
-    }
-    Sums {
-        first: first,
-        second: second,
-    }
+    words
+        .iter()
+        .fold(Sums::default(), |sums, word| sums.with(*word))
 }
