@@ -52,6 +52,7 @@ fn read_transactions(plan: &[u32], transactions: u32) -> Result<(), Refusal>
     let mut at: usize = 1;
     let mut t: u32 = 0;
     let mut missing = false;
+    // No `for`: behind the loop `t` tells whether a fault ended it.
     'transactions: while t < transactions {
         if !transaction_at(plan, at) {
             break 'transactions;
