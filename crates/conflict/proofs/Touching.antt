@@ -188,6 +188,9 @@ module _ (ws : List ℕ) (e : plan_verdict ws ≡ accepted) where
   pub few_desks : (plan_of ws).desks ≤ 8
   few_desks = omega (arith, desk_count_lem ws, (accepted_gives ws e).desks_high)
 
+  pub few_transactions : length (plan_of ws).transactions ≤ 32
+  few_transactions = omega (arith, transaction_count ws e, (accepted_gives ws e).transactions_high)
+
   module _ (d c : ℕ) where
     -- of one transaction
     pub touched_by_gives : (k : ℕ) → k < length (plan_of ws).transactions → touched_by (plan_of ws) k c d ≡ true

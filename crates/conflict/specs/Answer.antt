@@ -1,9 +1,11 @@
 -- What the classifier answers, in the paper's classes, desks, causes and numbers.
---     Classified, classified_of     the answer, and what each case of the code's enum stands for
+--     Classified                    the answer
+--     classified, classified_of     what the code's classes, and its results, stand for
 --     classify_result               the answer to any words, transaction and parameters
 --     AnswersGlobal                 it answers with this desk and this cause exactly if the operation is global and they are its own
-use Rattle.std.specs.Prelude.{ℕ, ◌^◌, ◌<◌, ◌≡◌, List, ◌↔◌, length, get_or}
-use Rattle.verdict.specs.Verdict.{accepted, ◌then◌, if_accepted}
+use Rattle.std.specs.Prelude.{ℕ, ◌^◌, ◌<◌, ◌≡◌, List, Result, Ok, Err, ◌↔◌, length, get_or}
+use Rattle.verdict.specs.Verdict.{accepted, ◌then◌, if_accepted, question_of}
+use Rattle.verdict.specs.declared.Refusal.{Refusal}
 use Rattle.plan.specs.Plan.{Transaction, Plan}
 use Rattle.plan.specs.Decode.{plan_of}
 use Rattle.plan.specs.Admission.{plan_verdict}
@@ -13,8 +15,8 @@ use Rattle.conflict.specs.Class as class
 use Rattle.conflict.specs.Class.{Class, free, local, global, class_by, class_of}
 use Rattle.conflict.specs.Cause.{IsCause, cause_by, cause_of}
 use Rattle.conflict.specs.declared.cause.Cause.{Cause}
-use Rattle.conflict.specs.declared.class.ClassAnswer.{ClassAnswer}
-use Rattle.conflict.specs.declared.class.ClassAnswer.TheVariants.{Free, Local, Global, Refused}
+use Rattle.conflict.specs.declared.class.Class as declared
+use Rattle.conflict.specs.declared.class.Class.TheVariants.{Free, Local, Global}
 
 -- a class with its desk and, of a global one, its cause; or a question's number
 pub data Classified : Type 0 where
@@ -23,11 +25,14 @@ pub data Classified : Type 0 where
   classed_global : ℕ → Cause → Classified
   class_refused : ℕ → Classified
 
-abbrev pub classified_of : ClassAnswer → Classified
-classified_of Free = classed_free
-classified_of (Local desk) = classed_local desk
-classified_of (Global desk x) = classed_global desk x
-classified_of (Refused question) = class_refused question
+abbrev pub classified : declared.Class → Classified
+classified Free = classed_free
+classified (Local desk) = classed_local desk
+classified (Global desk x) = classed_global desk x
+
+abbrev pub classified_of : Result declared.Class Refusal → Classified
+classified_of (Ok c) = classified c
+classified_of (Err r) = class_refused (question_of r)
 
 -- "Beside the class, give for a global operation" its cause; "Free and local operations carry none."
 abbrev pub with_cause : Class → ℕ → Cause → Classified

@@ -2,12 +2,14 @@
 -- such desk, then the lowest transaction of that desk with such an operation. Free and local operations carry none."
 --     cause                  its three numbers, as the code's struct `Cause` holds them
 --     TouchedBy, IsCause     these are the cause, over all operations: "each named touch real and each lower one absent"
+--     if_below               a number that stands for none from a bound on
 --     cause_of               the cause, computed
+--     cause_found            the same, with none where no cell has another desk
 --     CauseMeans             an operation is global with this computed cause exactly if this is its cause
 --     GlobalHasCause         an operation is global exactly if it has a cause
 --     FreeOrLocalHasNone     a free or local one has none
 --     CauseUnique            no operation has two
-use Rattle.std.specs.Prelude.{ℕ, ◌<◌, ◌≡◌, Bool, not, ◌&&◌, List, ◌↔◌, ◌⊎◌, ltb, eqb, length}
+use Rattle.std.specs.Prelude.{ℕ, ◌<◌, ◌≡◌, Bool, not, ◌&&◌, cond, List, Option, Some, None, option_map, ◌↔◌, ◌⊎◌, ltb, eqb, length}
 use Rattle.verdict.specs.Verdict.{accepted}
 use Rattle.std.specs.List.{list_any}
 use Rattle.lists.specs.Lists.{lowest_below}
@@ -44,6 +46,10 @@ pub record IsCause (p : Plan) (o : Operation) (x : Cause) : Type 0 where
 
 -- ---- computed
 
+-- v, if it is below n: n stands for none
+abbrev pub if_below : ℕ → ℕ → Option ℕ
+if_below n v = cond (ltb v n) (Some v) None
+
 -- desk e is in the mask and is another than d
 unfoldable pub is_other : ℕ → ℕ → ℕ → Bool
 is_other mask d e = not (eqb e d) && in_mask mask e
@@ -68,6 +74,10 @@ cause_transaction p c d =
 -- the cause by its cell, of an operation of desk d
 abbrev pub cause_at : Plan → ℕ → ℕ → Cause
 cause_at p d c = cause c (cause_desk (desk_mask p c) d) (cause_transaction p c (cause_desk (desk_mask p c) d))
+
+-- the cause of an operation of desk d that may write these cells, if it has one
+abbrev pub cause_found : Plan → ℕ → List ℕ → Option Cause
+cause_found p d cs = option_map (cause_at p d) (if_below store_size (cause_cell p d cs))
 
 abbrev pub cause_by : Plan → Transaction → List ℕ → Cause
 cause_by p t ps = cause_at p (desk_by p.desks t.part ps) (cause_cell p (desk_by p.desks t.part ps) (cells_named writes ps t.steps))

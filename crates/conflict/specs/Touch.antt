@@ -43,6 +43,12 @@ desk_mask p c = mask_of p.desks (transactions_touch p.desks p.transactions c)
 abbrev pub mask_table : Plan → List ℕ
 mask_table p = tabulate store_size (desk_mask p)
 
+-- the table and the column of a step keep within their bits, as those that a word has do
+abbrev pub InBits : Step → Type 0
+InBits (cell a table column row) = (table < 8) × (column < 4)
+InBits (operand f v) = Unit {0}
+InBits tells = Unit {0}
+
 -- the table l is l₀ with the mask m of each cell joined to it
 pub record Joined (l₀ l : List ℕ) (m : ℕ → ℕ) : Type 0 where
   pub long : length l ≡ store_size

@@ -4,24 +4,25 @@
 //     cause_desk           the lowest desk in a mask but one
 //     cause_transaction    the lowest transaction with an operation of a desk that may touch a cell
 // The cells are looked up in the table of masks; only for the transaction the plan is walked again.
-ghost use Rattle.std.specs.Prelude.{◌≡◌, true, ◌&&◌, cond, ◌≤◌, ◌<◌, ltb, length, get_or};
-ghost use Rattle.verdict.specs.Verdict.{accepted};
+ghost use Rattle.std.specs.Prelude.{◌≡◌, ◌≤◌, ◌<◌, length};
 ghost use Rattle.plan.specs.Plan.{writes};
-ghost use Rattle.plan.specs.Decode.{plan_of, step_of, part_by};
-ghost use Rattle.plan.specs.Admission.{plan_verdict};
-ghost use Rattle.plan.specs.Place.{StandsAt, transaction_from};
+ghost use Rattle.plan.specs.Accepted.{the_plan};
+ghost use Rattle.plan.specs.Step.{part_from, step_from};
+ghost use Rattle.plan.specs.Transaction.{the_transaction};
 ghost use Rattle.operation.specs.Operation.{cells_named};
-ghost use Rattle.operation.specs.Admission.{parameters_pass};
 ghost use Rattle.operation.specs.Store.{store_size};
-ghost use Rattle.conflict.specs.Touch.{step_touches, steps_touch, mask_table};
-ghost use Rattle.conflict.specs.Cause.{is_other, cause_desk, has_other, cause_cell, cause_transaction, cause_at};
+ghost use Rattle.conflict.specs.Touch.{step_touches, steps_touch};
+ghost use Rattle.conflict.specs.Cause.{if_below, is_other, cause_desk, has_other, cause_cell, cause_transaction};
+ghost use Rattle.conflict.specs.Cause.{cause_found};
 
+use crate::mask_table::MaskTable;
 use crate::{mask, row, written};
-use word::fields;
+use operation::Operation;
+use plan::{Access, Partitioning, Plan, Step, Transaction};
 
 // What makes an operation global: the lowest cell that it may write and another desk may touch, the lowest such desk, and the lowest
 // transaction with an operation of that desk that may touch the cell.
-#[derive(Clone, Copy)]
+#[derive(Clone, Copy, Debug, PartialEq, Eq)]
 pub struct Cause {
     pub cell: u32,
     pub desk: u32,
@@ -29,139 +30,89 @@ pub struct Cause {
 }
 
 // Whether the desk `other` is in this mask and is not `desk`.
+#[tactic(auto, unfolding(crate::specs::Cause::is_other))]
 fn is_other(mask: u8, desk: u32, other: u32) -> bool
     requires { other < 8 }
     ensures { result ≡ is_other mask desk other }
 {
-    if other == desk {
-        return false;
-    }
-    mask::in_mask(mask, other)
+    other != desk && mask::in_mask(mask, other)
 }
 
-// The lowest desk in this mask but this one; 8 if it has no other.
-fn cause_desk(mask: u8, desk: u32) -> u32
-    ensures { result ≡ cause_desk mask desk }
+// The lowest desk in this mask but this one.
+fn cause_desk(mask: u8, desk: u32) -> Option<u32>
+    ensures { result ≡ if_below 8 (cause_desk mask desk) }
 {
-    let mut other: u32 = 0;
-    while other < 8 {
-        if is_other(mask, desk, other) {
-            return other;
-        }
-        other = other + 1;
-    }
-    8
+    (0..8).find(|other| is_other(mask, desk, *other))
 }
 
-// This cell, if it is lower than the lowest so far and a desk other than this one may touch it; else the lowest so far.
-fn lower_cell(lowest: u32, cell: u32, desk: u32, masks: &[u8]) -> u32
-    requires { (cell < store_size) × (length masks.now ≡ store_size) }
-    ensures { result ≡ cond (ltb cell lowest && has_other (get_or masks.now cell 0) desk) cell lowest }
+// Whether a desk other than this one is in this mask.
+#[tactic(auto, unfolding(crate::specs::Cause::has_other))]
+fn has_other(mask: u8, desk: u32) -> bool
+    ensures { result ≡ has_other mask desk }
 {
-    if lowest <= cell {
-        return lowest;
-    }
-    if cause_desk(masks[cell as usize], desk) < 8 {
-        return cell;
-    }
-    lowest
+    cause_desk(mask, desk).is_some()
 }
 
-// The lowest cell that an operation of this desk, of the transaction at this place, may write and that another desk may touch; 1,024 if
-// there is none.
-fn cause_cell(plan: &[u32], at: usize, params: [u32; 4], desk: u32, masks: &[u8]) -> u32
-    requires { StandsAt plan.now at × (parameters_pass (transaction_from plan.now at) params ≡ true)
-        × (masks.now ≡ mask_table (plan_of plan.now)) }
-    ensures { result ≡ cause_cell (plan_of plan.now) desk
-        (cells_named writes params (transaction_from plan.now at).steps) }
+// The lowest cell that the operation may write and that a desk other than this one may touch.
+fn cause_cell(masks: &MaskTable, operation: &Operation, desk: u32) -> Option<u32>
+    ensures { result ≡ if_below store_size (cause_cell (the_plan masks.now.plan) desk
+        (cells_named writes operation.now.params (the_transaction operation.now.transaction).steps)) }
 {
-    let steps = plan::step_count(plan, at);
-    let mut lowest: u32 = 1024;
-    let mut s: usize = 0;
-    while s < steps {
-        let word = plan::step_word(plan, at, s);
-        s = s + 1;
-        if word / fields::KIND == 4 {
-            lowest = lower_cell(lowest, operation::cell_named(word, params), desk, masks);
-        }
-    }
-    lowest
+    operation
+        .cells(Access::Write)
+        .filter(|cell| has_other(masks.mask(*cell), desk))
+        .min()
 }
 
-// Whether some operation of this desk makes this cell the one of the step in this word.
-fn step_touches(word: u32, cell: u32, desk: u32, partitioning: u32, desks: u32) -> bool
+// Whether some operation of this desk makes this cell the one of the step.
+fn step_touches(step: Step, cell: u32, desk: u32, partitioning: Partitioning, desks: u32) -> bool
     requires { (desk < desks) × (desks ≤ 8) }
-    ensures { result ≡ step_touches desks (part_by partitioning) (step_of word) cell desk }
+    ensures { result ≡ step_touches desks (part_from partitioning) (step_from step) cell desk }
 {
-    if 4 < word / fields::KIND {
-        return false;
-    }
-    if !written::cell_given(word, cell) {
-        return false;
-    }
-    mask::in_mask(
-        row::row_mask(word, cell / 4 % 32, partitioning, desks),
-        desk,
-    )
-}
-
-// Whether some operation of this desk, of the transaction at this place, may touch this cell.
-fn transaction_touches(plan: &[u32], at: usize, cell: u32, desk: u32) -> bool
-    requires { (plan_verdict plan.now ≡ accepted) × StandsAt plan.now at × (desk < (plan_of plan.now).desks) }
-    ensures { result ≡ steps_touch (plan_of plan.now).desks (transaction_from plan.now at).part
-        (transaction_from plan.now at).steps cell desk }
-{
-    let desks = plan[0] / fields::DESKS % 16;
-    let partitioning = plan[at] / fields::PARTITIONING % 16;
-    let steps = plan::step_count(plan, at);
-    let mut s: usize = 0;
-    while s < steps {
-        if step_touches(
-            plan::step_word(plan, at, s),
-            cell,
-            desk,
-            partitioning,
-            desks,
-        ) {
-            return true;
+    match step {
+        Step::Cell(_, table, column, source) => {
+            written::cell_given(table, column, source, cell)
+                && mask::in_mask(
+                    row::row_mask(source, cell / 4 % 32, partitioning, desks),
+                    desk,
+                )
         }
-        s = s + 1;
+        _ => false,
     }
-    false
 }
 
-// The lowest transaction with an operation of this desk that may touch this cell; the number of transactions if there is none.
-fn cause_transaction(plan: &[u32], cell: u32, desk: u32) -> u32
-    requires { (plan_verdict plan.now ≡ accepted) × (desk < (plan_of plan.now).desks) }
-    ensures { result ≡ cause_transaction (plan_of plan.now) cell desk }
+// Whether some operation of this desk, of this transaction, may touch this cell.
+fn transaction_touches(transaction: &Transaction, cell: u32, desk: u32, desks: u32) -> bool
+    requires { (desk < desks) × (desks ≤ 8) }
+    ensures { result ≡ steps_touch desks (the_transaction transaction.now).part
+        (the_transaction transaction.now).steps cell desk }
 {
-    let transactions = plan[0] / fields::TRANSACTIONS % 256;
-    let mut at: usize = 1;
-    let mut t: u32 = 0;
-    while t < transactions {
-        if transaction_touches(plan, at, cell, desk) {
-            return t;
-        }
-        at = at + 1 + plan::step_count(plan, at);
-        t = t + 1;
-    }
-    transactions
+    let partitioning = transaction.partitioning();
+    transaction
+        .steps()
+        .any(|step| step_touches(step, cell, desk, partitioning, desks))
 }
 
-// The cause of an operation of this desk, of the transaction at this place, that has one.
-pub(crate) fn cause_of(plan: &[u32], at: usize, params: [u32; 4], desk: u32, masks: &[u8]) -> Cause
-    requires { (plan_verdict plan.now ≡ accepted) × StandsAt plan.now at
-        × (parameters_pass (transaction_from plan.now at) params ≡ true) × (masks.now ≡ mask_table (plan_of plan.now))
-        × (cause_cell (plan_of plan.now) desk (cells_named writes params (transaction_from plan.now at).steps) < store_size) }
-    ensures { result ≡ cause_at (plan_of plan.now) desk
-        (cause_cell (plan_of plan.now) desk (cells_named writes params (transaction_from plan.now at).steps)) }
+// The lowest transaction with an operation of this desk that may touch this cell.
+fn cause_transaction(plan: &Plan, cell: u32, desk: u32) -> Option<usize>
+    requires { desk < (the_plan plan.now).desks }
+    ensures { result ≡ if_below (length (the_plan plan.now).transactions) (cause_transaction (the_plan plan.now) cell desk) }
 {
-    let cell = cause_cell(plan, at, params, desk, masks);
-    let other = cause_desk(masks[cell as usize], desk);
-    let transaction = cause_transaction(plan, cell, other);
-    Cause {
+    let desks = plan.desks();
+    plan.transactions().position(|transaction| transaction_touches(&transaction, cell, desk, desks))
+}
+
+// The cause of an operation of this desk, if it has one.
+pub(crate) fn cause_of(masks: &MaskTable, operation: &Operation, desk: u32) -> Option<Cause>
+    ensures { result ≡ cause_found (the_plan masks.now.plan) desk
+        (cells_named writes operation.now.params (the_transaction operation.now.transaction).steps) }
+{
+    let cell = cause_cell(masks, operation, desk)?;
+    let other = cause_desk(masks.mask(cell), desk)?;
+    let transaction = cause_transaction(&masks.plan, cell, other)?;
+    Some(Cause {
         cell,
         desk: other,
-        transaction,
-    }
+        transaction: transaction as u32,
+    })
 }

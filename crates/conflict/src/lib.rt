@@ -4,11 +4,12 @@
 mod cause;
 mod class;
 mod mask;
+mod mask_table;
 mod row;
 mod shared;
 mod written;
 
 pub use cause::Cause;
-pub use class::{ClassAnswer, classify, has_write, is_free, is_global};
-pub use mask::fill_masks;
+pub use class::{Class, classify, has_write, is_free};
+pub use mask_table::MaskTable;
 pub use shared::is_shared;

@@ -1,10 +1,11 @@
 // The desks that a step's row stands for.
 ghost use Rattle.std.specs.Prelude.{◌≡◌, ◌≤◌};
-ghost use Rattle.plan.specs.Decode.{row_of, part_by};
+ghost use Rattle.plan.specs.Step.{part_from, source_from};
 ghost use Rattle.conflict.specs.Mask.{mask_of};
 ghost use Rattle.conflict.specs.Touch.{row_touched};
+ghost use Rattle.conflict.specs.Written.{row_given};
 
-use word::fields;
+use plan::{Partitioning, Source};
 
 // One desk.
 const DESK: [u8; 8] = [1, 2, 4, 8, 16, 32, 64, 128];
@@ -12,26 +13,29 @@ const DESK: [u8; 8] = [1, 2, 4, 8, 16, 32, 64, 128];
 // All desks, by their number.
 const ALL: [u8; 9] = [0, 1, 3, 7, 15, 31, 63, 127, 255];
 
-// The desks with an operation that gives this row to the step in this word.
-pub(crate) fn row_mask(word: u32, row: u32, partitioning: u32, desks: u32) -> u8
-    requires { (1 ≤ desks) × (desks ≤ 8) }
-    ensures { result ≡ mask_of desks (row_touched desks (part_by partitioning) (row_of word) row) }
+// Whether some operation gives this row to the source.
+pub(crate) fn row_given(source: Source, row: u32) -> bool
+    ensures { result ≡ row_given (source_from source) row }
 {
-    let source = word / fields::ROW_SOURCE % 8;
-    if source == 7 {
-        if row != word % 32 {
-            return 0;
+    match source {
+        Source::Parameter(_) => true,
+        Source::Fixed(fixed) => row == fixed,
+    }
+}
+
+// The desks with an operation that gives this row to the source.
+pub(crate) fn row_mask(source: Source, row: u32, partitioning: Partitioning, desks: u32) -> u8
+    requires { (1 ≤ desks) × (desks ≤ 8) }
+    ensures { result ≡ mask_of desks (row_touched desks (part_from partitioning) (source_from source) row) }
+{
+    if !row_given(source, row) {
+        return 0;
+    }
+    match partitioning {
+        Partitioning::Unpartitioned | Partitioning::Open => 1,
+        Partitioning::Parameter(i) if source == Source::Parameter(i) => {
+            DESK[(row % desks) as usize]
         }
-        if plan::names_no_parameter(partitioning) {
-            return 1;
-        }
-        return ALL[desks as usize];
+        Partitioning::Parameter(_) => ALL[desks as usize],
     }
-    if plan::names_no_parameter(partitioning) {
-        return 1;
-    }
-    if source == partitioning {
-        return DESK[(row % desks) as usize];
-    }
-    ALL[desks as usize]
 }

@@ -1,12 +1,8 @@
 -- One step's cells, joined row by row into the table.
 -- Assumes nothing.
-use Prim.Native.Nat.{◌-◌}
-use Rattle.plan.specs.Decode.{part_by}
+use Rattle.plan.specs.Step.{part_from, source_from}
 use Rattle.conflict.proofs.Marks.{Marked}
 use Rattle.conflict.proofs.mask.mark.Given as goal
 
 abbrev pub invariant-loop-row : goal.invariant-loop-row
-invariant-loop-row l = Marked l.initial.table l.table l.desks (part_by l.partitioning) l.word l.row
-
-abbrev pub decreases-loop-row : goal.decreases-loop-row
-decreases-loop-row l = 32 - l.row
+invariant-loop-row l = Marked l.desks (part_from l.partitioning) l.table l.column (source_from l.source) l.initial.masks l.masks l.row

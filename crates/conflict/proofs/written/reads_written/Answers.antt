@@ -1,32 +1,21 @@
--- Whether some operation may write a cell that one operation may read: what the words still to come say is the whole answer.
+-- The walk over the plan asks of each step what the definition asks of each cell.
 -- Assumes nothing.
-use mathlib.Core.Path.{◌∙◌, sym}
-use native.Mathlib.Omega.{arith}
-use Rattle.conflict.proofs.WriteWords.{written_start, written_here, written_other, written_done}
+use Rattle.std.proofs.Common.{◌∙◌, rules, tests}
+use Rattle.std.specs.List.{list_any}
+use Rattle.std.proofs.lemmas.Iterator.Consumers.{YieldsList-from_first}
+use Rattle.std.proofs.lemmas.Iterator.Search.{any_from_yields_List}
+use Rattle.plan.specs.Plan.{reads}
+use Rattle.plan.specs.Accepted.{the_plan}
+use Rattle.plan.specs.Transaction.{the_transaction, the_transactions}
+use Rattle.operation.specs.Operation.{cells_named}
+use Rattle.conflict.specs.Written.{step_writes}
+use Rattle.conflict.proofs.WriteSteps.{walk_written}
 use Rattle.conflict.proofs.written.reads_written.Goals as goal
 
-pub loop-i-init : goal.loop-i-init
-loop-i-init c = written_start _ _ c.requires.0
-
-pub returns-then-writes_read : goal.returns-then-writes_read
-returns-then-writes_read c =
-    sym (c.loop-i.invariant ∙ written_here _ _ c.loop-i.i (omega arith) c.if-word-eq4.true
-    ∙ rw (← c.writes_read.ensures, c.if-writes_read.true))
-
-pub loop-i-smaller-else-writes_read : goal.loop-i-smaller-else-writes_read
-loop-i-smaller-else-writes_read c = omega arith
-
-pub loop-i-preserved-else-writes_read : goal.loop-i-preserved-else-writes_read
-loop-i-preserved-else-writes_read c =
-    c.loop-i.invariant ∙ written_here _ _ c.loop-i.i (omega arith) c.if-word-eq4.true
-    ∙ rw (← c.writes_read.ensures, c.if-writes_read.false)
-
-pub loop-i-smaller : goal.loop-i-smaller
-loop-i-smaller c = omega arith
-
-pub loop-i-preserved : goal.loop-i-preserved
-loop-i-preserved c =
-    c.loop-i.invariant ∙ written_other _ _ c.loop-i.i (omega arith) c.if-word-eq4.false
-
 pub returns : goal.returns
-returns c = sym (c.loop-i.invariant ∙ written_done _ _ c.loop-i.i (omega arith))
+returns c =
+    let o = c.args.operation.now in
+    let cs = cells_named reads o.params (the_transaction o.transaction).steps in
+    any_from_yields_List (λ t. list_any (λ s. list_any (step_writes s) cs) t.steps) c.any.new.self _ c.any.result c.any.ensures.ran
+    (YieldsList-from_first the_transaction the_transactions _ c.transactions.ensures) (λ x b q k. search (rules, tests))
+    ∙ walk_written (the_plan c.args.plan.now) cs

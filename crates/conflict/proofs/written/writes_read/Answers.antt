@@ -1,45 +1,26 @@
--- Whether a write step may write a cell that an operation may read: what the reads still to come say is the whole answer.
+-- Whether a step may write a cell that an operation reads: of a write step the test of each cell, and else no.
 -- Assumes nothing.
-use mathlib.Core.Path.{◌∙◌, sym, ap}
-use mathlib.Core.List.{List}
-use native.Mathlib.Omega.{arith}
-use Rattle.std.specs.List.{list_any}
-use Rattle.plan.specs.Plan.{reads, Step}
-use Rattle.plan.specs.Decode.{step_of}
-use Rattle.plan.proofs.StepWords.{steps_all}
-use Rattle.operation.specs.Operation.{cells_named}
-use Rattle.conflict.specs.Written.{step_writes}
-use Rattle.conflict.proofs.Named.{row_passes, read_found, read_other, read_done}
-use Rattle.conflict.proofs.WriteWords.{writes_here}
+use Rattle.std.proofs.Common.{rules, tests}
+use Rattle.std.proofs.lemmas.Iterator.Consumers.{YieldsList-from_first}
+use Rattle.std.proofs.lemmas.Iterator.Search.{any_from_yields_List}
+use Rattle.plan.specs.Step.{source_from}
+use Rattle.operation.specs.Cells.{the_cells}
+use Rattle.conflict.specs.Written.{cell_given}
+use Rattle.conflict.proofs.WriteSteps.{writes_given, writes_none}
 use Rattle.conflict.proofs.written.writes_read.Goals as goal
 
-pub loop-s-init : goal.loop-s-init
-loop-s-init c =
-    let a = c.args in
-    ap (λ (ss : List Step). list_any (step_writes (step_of a.word)) (cells_named reads a.params ss))
-    (sym (steps_all a.plan.now a.at))
+pub returns-in-Cell-Write-default-default-default : goal.returns-in-Cell-Write-default-default-default
+returns-in-Cell-Write-default-default-default c =
+    let i = c.in-Cell-Write-default-default-default in
+    writes_given _ i.table i.column i.source (search rules) _ _
+    (any_from_yields_List (cell_given i.table i.column (source_from i.source)) c.any.new.self _ c.any.result c.any.ensures.ran
+    (YieldsList-from_first (λ x. x) the_cells _ c.cells.ensures) (λ x b q k. search (rules, tests)))
 
-pub cell_named-requires : goal.cell_named-requires
-cell_named-requires c =
-    row_passes _ _ c.requires.1 _ (omega arith) _ c.step_word-step.ensures _ c.requires.2 (omega arith)
+pub returns-in-Cell-Read-default-default-default : goal.returns-in-Cell-Read-default-default-default
+returns-in-Cell-Read-default-default-default c = writes_none _ _ (λ t k r e. search rules)
 
-pub returns-then-cell_given : goal.returns-then-cell_given
-returns-then-cell_given c =
-    sym (c.loop-s.invariant
-    ∙ read_found _ _ c.requires.1 _ (omega arith) _ c.step_word-step.ensures _ _ c.if-step-eq3.true _ _ c.cell_named.ensures
-    (c.cell_given.ensures ∙ sym (writes_here _ _ c.requires.0))
-    ∙ rw c.if-cell_given.true)
+pub returns-in-Operand : goal.returns-in-Operand
+returns-in-Operand c = writes_none _ _ (λ t k r e. search rules)
 
-pub loop-s-preserved-else-cell_given : goal.loop-s-preserved-else-cell_given
-loop-s-preserved-else-cell_given c =
-    c.loop-s.invariant
-    ∙ read_found _ _ c.requires.1 _ (omega arith) _ c.step_word-step.ensures _ _ c.if-step-eq3.true _ _ c.cell_named.ensures
-    (c.cell_given.ensures ∙ sym (writes_here _ _ c.requires.0))
-    ∙ rw c.if-cell_given.false
-
-pub loop-s-preserved : goal.loop-s-preserved
-loop-s-preserved c =
-    c.loop-s.invariant ∙ read_other _ _ c.requires.1 _ (omega arith) _ c.step_word-step.ensures _ _ c.if-step-eq3.false
-
-pub returns : goal.returns
-returns c = sym (c.loop-s.invariant ∙ read_done _ _ c.requires.1 _ (omega arith) _ _)
+pub returns-in-Tell : goal.returns-in-Tell
+returns-in-Tell c = writes_none _ _ (λ t k r e. search rules)

@@ -1,0 +1,21 @@
+-- The fields of a step that a word stands for keep within their bits.
+-- Assumes nothing.
+use mathlib.Core.Path.{◌≡◌, subst}
+use mathlib.Core.List.{List, [], ◌∷◌, map}
+use mathlib.Core.Logic.{⊎_elim}
+use Prim.Native.Nat.{ℕ}
+use Rattle.plan.specs.Plan.{Source, param, fixed, Step, cell, operand, tells}
+use Rattle.plan.specs.Decode.{step_of}
+use Rattle.operation.proofs.Bounds.{FieldsFit, decoded_fits}
+use Rattle.conflict.specs.Touch.{InBits}
+
+fits : (s : Step) → FieldsFit s → InBits s
+fits (cell a t k (param i)) f = f
+fits (cell a t k (fixed v)) f = (f.0, f.1)
+fits (operand f v) h = tt
+fits tells h = tt
+
+-- the first of the steps that words stand for
+pub first_in_bits : (ws : List ℕ) (s : Step) (ss : List Step) → map step_of ws ≡ s ∷ ss → InBits s
+first_in_bits [] s ss e = absurd (cc)
+first_in_bits (w ∷ ws) s ss e = subst InBits (cc) (fits (step_of w) (decoded_fits w))
