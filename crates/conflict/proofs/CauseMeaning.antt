@@ -92,7 +92,7 @@ module _ (p : Plan) (c d : ℕ) where
   unfolding cause_transaction
   cause_transaction_least k = lowest_below_least (length p.transactions) (λ k. touched_by p k c d) k
 
-  cause_transaction_found : touched p c d ≡ true
+  pub cause_transaction_found : touched p c d ≡ true
       → (cause_transaction p c d < length p.transactions) × (touched_by p (cause_transaction p c d) c d ≡ true)
   unfolding cause_transaction
   cause_transaction_found h =

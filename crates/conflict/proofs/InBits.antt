@@ -1,12 +1,12 @@
--- The fields of a step that a word stands for keep within their bits.
+-- The fields of steps that words stand for keep within their bits.
 -- Assumes nothing.
 use mathlib.Core.Path.{◌≡◌, subst}
+use mathlib.Core.List.Memᴰ
 use mathlib.Core.List.{List, [], ◌∷◌, map}
-use mathlib.Core.Logic.{⊎_elim}
 use Prim.Native.Nat.{ℕ}
 use Rattle.plan.specs.Plan.{Source, param, fixed, Step, cell, operand, tells}
 use Rattle.plan.specs.Decode.{step_of}
-use Rattle.operation.proofs.Bounds.{FieldsFit, decoded_fits}
+use Rattle.operation.proofs.Bounds.{FieldsFit, AllFit, decoded_fits}
 use Rattle.conflict.specs.Touch.{InBits}
 
 fits : (s : Step) → FieldsFit s → InBits s
@@ -19,3 +19,6 @@ fits tells h = tt
 pub first_in_bits : (ws : List ℕ) (s : Step) (ss : List Step) → map step_of ws ≡ s ∷ ss → InBits s
 first_in_bits [] s ss e = absurd (cc)
 first_in_bits (w ∷ ws) s ss e = subst InBits (cc) (fits (step_of w) (decoded_fits w))
+
+pub steps_fit : (ws : List ℕ) → AllFit (map step_of ws)
+steps_fit ws s m = let w = Memᴰ.of_map step_of ws m in subst FieldsFit w.2 (decoded_fits w.0)

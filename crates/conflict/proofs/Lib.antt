@@ -7,7 +7,6 @@ pub mod InBits
 pub mod Filling
 pub mod Lowest
 pub mod Tabled
-pub mod Answers
 pub mod Witness
 pub mod Touching
 pub mod OtherDesks
@@ -17,3 +16,5 @@ pub mod WrittenMeaning
 pub mod WriteSteps
 pub mod Classes
 pub mod CauseMeaning
+pub mod Found
+pub mod Answers

@@ -3,9 +3,10 @@
 --     cause_desk_low …       the lowest desk but d: in the mask, another than d, and at most any such
 --     cause_cell_found …     the lowest cell with another desk: one of the cells, and at most any such
 --     none_one_desk          if there is none, each of the cells has one desk
+--     some_many_desks        if there is one, not each of them has
 -- Assumes nothing.
 use mathlib.Core.Path.{◌≡◌, refl, ◌∙◌, sym, ap, subst}
-use mathlib.Core.Bool.{true, not, ◌&&◌, false≢true}
+use mathlib.Core.Bool.{Bool, true, false, not, ◌&&◌, false≢true}
 use mathlib.Core.List.{List, Memᴰ}
 use Prim.Native.Nat.{ℕ, ◌≤◌, ◌<◌}
 use native.Mathlib.Omega.{arith}
@@ -13,7 +14,7 @@ use lib.Count.{ones}
 use lib.Dec.{eqb}
 use borrow.Author.Tests.{eq-eqb, ne_eqb, lt-ltb, eqb-true, eqb-false, ltb-true, not-true}
 use Rattle.std.specs.List.{list_any}
-use Rattle.lists.proofs.Laws.{and_fst, and_snd, and_true, by_same, by_less, eqb_self, member_every}
+use Rattle.lists.proofs.Laws.{and_fst, and_snd, and_true, by_same, by_less, eqb_self, member_every, every_member}
 use Rattle.lists.proofs.Laws.{member_some, some_member, lowest_below_le, lowest_below_passes, lowest_below_least}
 use Rattle.plan.specs.Plan.{Access, Transaction, Plan}
 use Rattle.operation.specs.Operation.{desk_by, cells_named}
@@ -23,9 +24,9 @@ use Rattle.operation.proofs.Bounds.{AllFit}
 use Rattle.conflict.specs.Mask.{in_mask}
 use Rattle.conflict.specs.Touch.{steps_touch, desk_mask}
 use Rattle.conflict.specs.Class.{one_desk_each}
-use Rattle.conflict.specs.Cause.{cause, is_other, cause_desk, has_other, cause_cell, cause_transaction, cause_at}
+use Rattle.conflict.specs.Cause.{is_other, cause_desk, has_other, cause_cell}
 use Rattle.conflict.proofs.Masks.{in_mask_of, in_mask_past}
-use Rattle.conflict.proofs.Ones.{ones_mask, count_of_one}
+use Rattle.conflict.proofs.Ones.{ones_mask, one_of_count, count_of_one}
 use Rattle.conflict.proofs.Touching.{touched, names_found}
 
 -- ---- the desks in a mask
@@ -60,7 +61,7 @@ module _ (p : Plan) (c d : ℕ) where
     unfolding is_other
     other_in_mask = and_snd (not (eqb (cause_desk (desk_mask p c) d) d)) _ is_other_lem
 
-    cause_desk_low : cause_desk (desk_mask p c) d < p.desks
+    pub cause_desk_low : cause_desk (desk_mask p c) d < p.desks
     cause_desk_low = in_mask_low p c (cause_desk (desk_mask p c) d) other_in_mask
 
     pub cause_desk_differs : cause_desk (desk_mask p c) d ≡ d → ⊥
@@ -99,6 +100,17 @@ module _ (p : Plan) (d : ℕ) (below : d < p.desks) (few : p.desks ≤ 8) (c : �
         λ e l t. by_same e d (λ q. q) (λ q. absurd (none (touched_has_other p c d e l q t few))),
       ))
 
+-- ---- two desks in the mask: if d is in it, and another is
+
+other_not_one : (p : Plan) (d : ℕ) → d < p.desks → (c : ℕ) → touched p c d ≡ true → has_other (desk_mask p c) d ≡ true
+    → ones (desk_mask p c) ≡ 1 → ⊥
+unfolding desk_mask
+other_not_one p d below c own other one =
+    let k = one_of_count p.desks (touched p c) (sym (ones_mask p.desks (touched p c)) ∙ one) in
+    let e = cause_desk (desk_mask p c) d in
+    cause_desk_differs p c d other
+    (k.3 e (cause_desk_low p c d other) (cause_desk_touched p c d other) ∙ sym (k.3 d below own))
+
 -- ---- the lowest cell with another desk
 
 module _ (p : Plan) (d : ℕ) (cs : List ℕ) where
@@ -121,18 +133,20 @@ module _ (p : Plan) (d : ℕ) (cs : List ℕ) where
   unfolding cause_cell
   cause_cell_high = lowest_below_le store_size (λ c. list_any (eqb c) cs && has_other (desk_mask p c) d)
 
-  -- the cause by its cell c, its desk o and its transaction k
-  pub found_desk_low : cause_cell p d cs < store_size → (c : ℕ) → c ≡ cause_cell p d cs → (o : ℕ) → o ≡ cause_desk (desk_mask p c) d
-      → o < p.desks
-  found_desk_low h c i o j = rw (j, i) (cause_desk_low p (cause_cell p d cs) d (cause_cell_found h).1)
-
-  pub cause_at_found : (c : ℕ) → c ≡ cause_cell p d cs → (o : ℕ) → o ≡ cause_desk (desk_mask p c) d → (k : ℕ) → k ≡ cause_transaction p c o
-      → cause c o k ≡ cause_at p d (cause_cell p d cs)
-  cause_at_found c i o j k l = rw (l, j, i)
-
   -- of cells that desk d may touch
   module _ (below : d < p.desks) (few : p.desks ≤ 8) (own : (c : ℕ) → Memᴰ c cs → (c < store_size) × (touched p c d ≡ true)) where
     pub none_one_desk : cause_cell p d cs ≡ store_size → one_desk_each (desk_mask p) cs ≡ true
     none_one_desk z =
         member_every (λ c. eqb (ones (desk_mask p c)) 1) cs
         (λ c m. no_other_one p d below few c (own c m).1 (λ h. omega (arith, z, (own c m).0, cause_cell_least c m h)))
+
+    pub some_many_desks : cause_cell p d cs < store_size → one_desk_each (desk_mask p) cs ≡ false
+    some_many_desks l = go (one_desk_each (desk_mask p) cs) refl
+      where
+        go : (b : Bool) → one_desk_each (desk_mask p) cs ≡ b → b ≡ false
+        go true e =
+            let f = cause_cell_found l in
+            let c = cause_cell p d cs in
+            let i : eqb (ones (desk_mask p c)) 1 ≡ true = every_member (λ c. eqb (ones (desk_mask p c)) 1) cs c e f.0 in
+            absurd (other_not_one p d below c (own c f.0).1 f.1 (eqb-true (ones (desk_mask p c)) 1 i))
+        go false e = refl

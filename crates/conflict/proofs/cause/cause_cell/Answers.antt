@@ -16,4 +16,4 @@ returns c =
     ∙ min_from_yields_List _ c.min.result c.min.ensures.ran
     (YieldsList-from_filter _ test (YieldsList-at c.filter.ensures.source (YieldsList-from_first (λ x. x) the_cells _ c.cells.ensures)) c.filter.ensures.closure
     (λ x r q k. search (rules, tests)))
-    ∙ cause_cell_tabled _ _ _ _ c.args.masks.now.filled _ c.args.operation.now.passes
+    ∙ cause_cell_tabled c.args.operation.now.transaction _ c.args.operation.now.passes _ _ c.args.masks.now.filled _
