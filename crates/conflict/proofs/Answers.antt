@@ -7,24 +7,27 @@ use Prim.Native.Nat.{ℕ, ◌<◌}
 use native.Mathlib.Omega.{arith}
 use Rattle.std.proofs.Common.{Option, Some, None}
 use Rattle.std.proofs.lemmas.Option.{none-some, same_Some}
-use borrow.Author.Tests.{lt-ltb, le-ltb}
-use Rattle.verdict.specs.Verdict.{accepted}
+use lib.Dec.{ltb}
+use lib.ListN.{length}
+use borrow.Author.Tests.{lt-ltb, le-ltb, ltb-true}
+use Rattle.verdict.specs.Verdict.{accepted, refused}
+use Rattle.verdict.proofs.Verdicts.{ask_then_accepted}
 use Rattle.std.specs.List.{list_any}
-use Rattle.lists.proofs.Laws.{by_less}
-use Rattle.plan.specs.Plan.{reads, writes, Transaction, Plan}
+use Rattle.lists.proofs.Laws.{by_less, get_or_member}
+use Rattle.plan.specs.Plan.{reads, writes, Transaction, no_transaction, Plan, transaction_at}
 use Rattle.plan.specs.Decode.{plan_of}
 use Rattle.plan.specs.Admission.{plan_verdict}
 use Rattle.plan.specs.Transaction.{the_transaction}
 use Rattle.plan.specs.declared.transaction.Transaction as declared
-use Rattle.operation.specs.Operation.{desk_by, cells_named}
-use Rattle.operation.specs.Admission.{parameters_pass}
+use Rattle.operation.specs.Operation.{operation, desk_by, cells_named}
+use Rattle.operation.specs.Admission.{transaction_exists, parameters_pass, operation_verdict}
 use Rattle.operation.specs.Store.{store_size}
 use Rattle.conflict.specs.Touch.{desk_mask}
 use Rattle.conflict.specs.Written.{written}
 use Rattle.conflict.specs.Class.{Class, is_write, one_desk_each, free, local, global, is_free, class_by}
 use Rattle.conflict.specs.declared.cause.Cause.{Cause}
 use Rattle.conflict.specs.Cause.{cause_cell, cause_at, cause_by, cause_found}
-use Rattle.conflict.specs.Answer.{classed_free, classed_local, classed_global, with_cause, classified_by}
+use Rattle.conflict.specs.Answer.{Classified, classed_free, classed_local, classed_global, class_refused, with_cause, classified_by, classify_result}
 use Rattle.conflict.proofs.InBits.{steps_fit}
 use Rattle.conflict.proofs.Tabled.{operation_low}
 use Rattle.conflict.proofs.Touching.{touched, some_desk, few_desks}
@@ -87,3 +90,29 @@ module _ (ws : List ℕ) (e : plan_verdict ws ≡ accepted) (t : declared.Transa
       (λ l. rw (w, some_many_desks (plan_of ws) d cells low (few_desks ws e) own l, ← q)
       (ap (classed_global d) (sym (same_Some _ x (rw (lt-ltb (cause_cell (plan_of ws) d cells) store_size l) at n)))))
       (λ g. absurd (none-some x (rw (le-ltb (cause_cell (plan_of ws) d cells) store_size g) at n)))
+
+-- ---- the classifier, by what its questions found
+
+module _ (ws : List ℕ) (k : ℕ) (ps : List ℕ) where
+  pub plan_refused : (q : ℕ) → refused q ≡ plan_verdict ws → class_refused q ≡ classify_result ws k ps
+  unfolding classify_result
+  plan_refused q e = rw (← e)
+
+  -- by the words of the plan that was read
+  module _ (e : accepted ≡ plan_verdict ws) (vs : List ℕ) (i : vs ≡ ws) where
+    pub operation_refused : (q : ℕ) → refused q ≡ operation_verdict (plan_of vs) (operation k ps) → class_refused q ≡ classify_result ws k ps
+    unfolding classify_result
+    operation_refused q f = rw (← e, ← i, ← f)
+
+    module _ (f : accepted ≡ operation_verdict (plan_of vs) (operation k ps)) (t : Transaction) (j : t ≡ transaction_at (plan_of vs) k) where
+      -- the transaction is one of the plan's
+      pub belongs : Memᴰ t (plan_of vs).transactions
+      unfolding operation_verdict transaction_exists
+      belongs =
+          rw j (get_or_member (plan_of vs).transactions k no_transaction
+          (ltb-true k (length (plan_of vs).transactions)
+          (ask_then_accepted 7 (ltb k (length (plan_of vs).transactions)) _ (sym f)).0))
+
+      pub answered : (qs : List ℕ) → qs ≡ ps → (r : Classified) → r ≡ classified_by (plan_of vs) t qs → r ≡ classify_result ws k ps
+      unfolding classify_result
+      answered qs h r g = rw (← e, ← i, ← f) (g ∙ rw (j, h))
