@@ -49,6 +49,8 @@ some_behind ws i n h e f = rw (fillings_behind ws i n h e f) (count_pos (open_wo
 pub fillings_past : (ws : List ℕ) (i : ℕ) → i < length ws → is_open (get_or ws i 0) ≡ false → fillings_from ws i ≡ fillings_from ws (i + 1)
 fillings_past ws i h e = ap (λ (l : List ℕ). filling_count (open_words l)) (drop_here ws i 0 h) ∙ rw e
 
+pub ruleset walk_fillings = (some_behind, fillings_behind, fillings_past)
+
 -- of m words, those before place i are filled, and by number r of n those still to come, which makes `whole` of them
 pub record FilledTo (m : ℕ) (whole ws : List ℕ) (i n r : ℕ) : Type 0 where
   pub long : length ws ≡ m

@@ -14,8 +14,8 @@ fn rows_if_many(desks: u32) -> u32
     if desks == 1 { 0 } else { 0xffff_ffff }
 }
 
-#[tactic(auto, unfolding(conflict::specs::Mask::mask_of))]
 // The rows that are not desk 0's.
+#[tactic(auto, unfolding(conflict::specs::Mask::mask_of))]
 fn rows_off_desk_0(desks: u32) -> u32
     requires { (1 ≤ desks) × (desks ≤ 8) }
     ensures { result ≡ rows_off_desk0 desks }
@@ -32,8 +32,8 @@ fn rows_off_desk_0(desks: u32) -> u32
     }
 }
 
-#[tactic(auto, using(lists::proofs::Laws::tabling_done))]
 // The rows of each table column that two desks or more touch.
+#[tactic(auto, using(lists::proofs::Laws::tabling_done))]
 pub(crate) fn shared_rows(touched: &Touched, desks: u32) -> [u32; 32]
     requires { (1 ≤ desks) × (desks ≤ 8) }
     ensures { result ≡ shared_rows desks (sets_of touched.now) }

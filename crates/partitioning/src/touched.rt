@@ -87,8 +87,9 @@ impl Touched {
         }
     }
 
-    #[tactic(auto, using(crate::proofs::FillWalk::some_behind, crate::proofs::FillWalk::fillings_behind, crate::proofs::FillWalk::fillings_past), unfolding(crate::specs::Touched::mark_open))]
-    // Joins the rows of the open ones, as filling number `number` of so many fills them.
+    // Joins the rows of the open ones, as filling number `number` of so many fills them. The walk is not one with mark_closed's: a closure that
+    // gives each transaction's field would change what it holds, and what its division needs goes by the place in the plan.
+    #[tactic(auto, using(crate::proofs::FillWalk::walk_fillings), unfolding(crate::specs::Touched::mark_open))]
     pub(crate) fn mark_open(&mut self, plan: &[u32], fillings: u32, number: u32)
         requires { fillings ≡ filling_count (open_words plan.now) }
         ensures { sets_of self.new ≡ mark_open open_field fillings number plan.now (sets_of self.old) }
