@@ -48,8 +48,8 @@ unfolding fill
 fill_nothing_open fs [] e = refl
 fill_nothing_open fs (w ∷ ws) e = go (is_open w) refl e (fill_nothing_open fs ws)
   where
-    go : (b : Bool) → is_open w ≡ b → (b || list_any is_open ws) ≡ false → (list_any is_open ws ≡ false → fill fs ws ≡ ws) → fill fs (w ∷ ws)
-        ≡ w ∷ ws
+    go : (b : Bool) → is_open w ≡ b → (b || list_any is_open ws) ≡ false → (list_any is_open ws ≡ false → fill fs ws ≡ ws)
+        → fill fs (w ∷ ws) ≡ w ∷ ws
     go true q h rest = absurd (false≢true (sym h))
     go false q h rest = fill_closed fs w ws q ∙ ap (λ (l : List ℕ). w ∷ l) (rest h)
 

@@ -178,12 +178,13 @@ module _ (n q r a c d : ℕ) (i : InTableColumn a r c) where
 module _ (n r a c d : ℕ) (i : InTableColumn a r c) where
   steps_touched : (q : ℕ) → Decided q → (ws : List ℕ)
       → list_any (λ s. step_touches n (part_by q) s c d) (map step_of ws)
-      ≡ touched_by n (r % n) (list_any (λ w. puts a q w r) ws) (list_any (λ w. puts (32 + a) q w r) ws) (list_any (λ w. puts (64 + a) q w r) ws) d
+      ≡ touched_by n (r % n) (list_any (λ w. puts a q w r) ws) (list_any (λ w. puts (32 + a) q w r) ws)
+      (list_any (λ w. puts (64 + a) q w r) ws) d
   steps_touched q h [] = refl
   steps_touched q h (w ∷ ws) =
       ap₂ ◌||◌ (step_touched n q r a c d i w h) (steps_touched q h ws)
-      ∙ sym (touched_or n (r % n) d (puts a q w r) (list_any (λ w. puts a q w r) ws) (puts (32 + a) q w r) (list_any (λ w. puts (32 + a) q w r) ws)
-      (puts (64 + a) q w r) (list_any (λ w. puts (64 + a) q w r) ws))
+      ∙ sym (touched_or n (r % n) d (puts a q w r) (list_any (λ w. puts a q w r) ws) (puts (32 + a) q w r)
+      (list_any (λ w. puts (32 + a) q w r) ws) (puts (64 + a) q w r) (list_any (λ w. puts (64 + a) q w r) ws))
 
 -- a step's word is no transaction's
 pub step_no_transaction : (w : ℕ) → step_formed w ≡ true → is_transaction w ≡ false

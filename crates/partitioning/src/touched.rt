@@ -87,8 +87,8 @@ impl Touched {
         }
     }
 
-    // Joins the rows of the open ones, as filling number `number` of so many fills them. The walk is not one with mark_closed's: a closure that
-    // gives each transaction's field would change what it holds, and what its division needs goes by the place in the plan.
+    // Joins the rows of the open ones, as filling number `number` of so many fills them.
+    // A walk of its own beside mark_closed's, no longer than one that takes a closure: that would divide by what it keeps and changes.
     #[tactic(auto, using(crate::proofs::FillWalk::walk_fillings), unfolding(crate::specs::Touched::mark_open))]
     pub(crate) fn mark_open(&mut self, plan: &[u32], fillings: u32, number: u32)
         requires { fillings ≡ filling_count (open_words plan.now) }

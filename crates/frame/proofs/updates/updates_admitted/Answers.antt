@@ -8,5 +8,6 @@ pub loop-word-preserved : goal.loop-word-preserved
 loop-word-preserved c =
     let formed = sym c.update_formed.ensures ∙ c.if-not-update_formed.false in
     let w = c.in-Some.word.now in
-    let counted = rest_counted c.args.desks c.loop-word.sent c.loop-word.left w c.next.new.self.rest.now (omega arith) formed (omega arith) in
+    let counted = rest_counted c.args.desks c.loop-word.sent c.loop-word.left w c.next.new.self.rest.now (omega arith) formed
+    (omega arith) in
     (search rules, grind (arith, c.in-Some.ensures.steps))
