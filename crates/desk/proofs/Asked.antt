@@ -1,13 +1,20 @@
 -- The operation that a request asks for: its desk, its class and its run are those of the request's operation.
 -- Assumes nothing.
-use Rattle.std.proofs.Common.{ℕ, ◌≡◌, ap₂, List}
-use Rattle.plan.specs.Plan.{Transaction, Plan}
+use Rattle.std.proofs.Common.{ℕ, zero, suc, ◌<◌, ◌≡◌, true, ap₂, refl, List, [], ◌∷◌, length, get_or, ltb, Some, None}
+use Rattle.std.specs.List.{slice_get}
+use Rattle.std.proofs.lemmas.Option.{slice_get-get_or}
+use borrow.Author.Tests.{ltb-true}
+use Rattle.verdict.specs.Verdict.{accepted}
+use Rattle.verdict.proofs.Verdicts.{ask_accepted, ask_then_accepted}
+use Rattle.plan.specs.Plan.{Transaction, Plan, no_transaction}
 use Rattle.plan.specs.Transaction.{the_transaction}
-use Rattle.operation.specs.Operation.{desk_by, desk_of}
+use Rattle.operation.specs.Operation.{transaction_of, desk_by, desk_of}
 use Rattle.operation.specs.declared.operation.Operation.{Operation}
 use Rattle.operation.specs.Store.{Store}
+use Rattle.operation.specs.Admission.{operation_verdict, transaction_exists, parameters_pass}
 use Rattle.execution.specs.Run.{run_transaction, run}
 use Rattle.conflict.specs.Class.{class_by, class_of}
+use Rattle.queue.specs.Queue.{params_of}
 use Rattle.queue.specs.declared.record.Request.{Request}
 use Rattle.desk.specs.Queueing.{operation_of}
 use Rattle.desk.specs.Asked.{IsAsked}
@@ -21,3 +28,25 @@ module _ (p : Plan) (r : Request) (o : Operation) (a : IsAsked p r o) where
 
   pub asked_run : (s : Store) → run_transaction (the_transaction o.transaction) o.params s ≡ run p (operation_of r) s
   asked_run s = ap₂ (λ (t : Transaction) (ps : List ℕ). run_transaction t ps s) a.transaction a.params
+
+-- ---- questions 7 and 8 are answered with yes
+
+-- a place past the end has no entry
+pub none_past : {A : Type 0} (xs : List A) (i : ℕ) (d : A) → slice_get xs i ≡ None → get_or xs i d ≡ d
+none_past [] i d e = refl
+none_past (x ∷ xs) zero d e = cc
+none_past (x ∷ xs) (suc i) d e = none_past xs i d e
+
+module _ (p : Plan) (r : Request) (e : operation_verdict p (operation_of r) ≡ accepted) where
+  admitted_exists : r.transaction < length p.transactions
+  unfolding operation_verdict transaction_exists
+  admitted_exists = ltb-true _ _ (ask_then_accepted 7 (ltb r.transaction (length p.transactions)) _ e).0
+
+  pub admitted_found : slice_get p.transactions r.transaction ≡ Some (transaction_of p (operation_of r))
+  admitted_found = slice_get-get_or p.transactions r.transaction no_transaction admitted_exists
+
+  pub admitted_passes : parameters_pass (transaction_of p (operation_of r)) (params_of r) ≡ true
+  unfolding operation_verdict
+  admitted_passes =
+      ask_accepted 8 (parameters_pass (transaction_of p (operation_of r)) (params_of r))
+      (ask_then_accepted 7 (transaction_exists p r.transaction) _ e).1

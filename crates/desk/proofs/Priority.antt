@@ -15,10 +15,10 @@ use mathlib.Core.List.{Memᴰ}
 use Prim.Native.Nat.{ℕ, zero, suc, ◌+◌, ◌≤◌, ◌<◌, suc-le-suc}
 use native.Mathlib.Nat.{not-suc-le-zero, le_of_suc-le-suc}
 use native.Mathlib.Omega.{arith}
-use lib.ListN.{length, get_or, length-append}
+use lib.ListN.{length, get_or, drop, length-append}
 use lib.Seq.{append_snoc, take-length, drop-length, take-append_seam, drop-append_seam}
 use borrow.Author.Tests.{not-true}
-use Rattle.std.specs.List.{list_all, list_any, filter}
+use Rattle.std.specs.List.{list_all, list_any, filter, prefix_len}
 use Rattle.lists.specs.Lists.{inserted}
 use Rattle.lists.proofs.Laws.{and_fst, and_snd, index_some, some_index, cons_in_snoc, snoc_in_cons}
 use Rattle.lists.proofs.Laws.{select_append, select_yes, select_no, select_short, every_select, select_none, select_all, select_member}
@@ -236,3 +236,18 @@ first_joins {A} urgent arrived r = ap₂ ◌++◌ urgents rests
         ∙ ap₂ ◌++◌ (fails_select urgent arrived)
         (select_fails urgent (filter (λ t. not (urgent t)) arrived) (some_fails urgent arrived)))
         ∙ sym (select_append (λ t. not (urgent t)) arrived (r ∷ []))
+
+-- behind the leading urgent ones none is urgent
+pub lead_by_rest : {A : Type 0} (urgent : A → Bool) (rs : List A)
+    → urgent_lead urgent rs ≡ not (list_any urgent (drop (prefix_len urgent rs) rs))
+unfolding urgent_lead
+lead_by_rest urgent [] = refl
+lead_by_rest {A} urgent (r ∷ rs) = by_first (urgent r) refl (lead_by_rest urgent rs)
+  where
+    by_first : (b : Bool) → urgent r ≡ b → urgent_lead urgent rs ≡ not (list_any urgent (drop (prefix_len urgent rs) rs))
+        → cond b (urgent_lead urgent rs) (not (list_any urgent rs))
+        ≡ not (list_any urgent (drop (cond b (1 + prefix_len urgent rs) 0) (r ∷ rs)))
+    by_first true e h =
+        let n : 1 + prefix_len urgent rs ≡ suc (prefix_len urgent rs) = omega arith in
+        h ∙ ap (λ (k : ℕ). not (list_any urgent (drop k (r ∷ rs)))) (sym n)
+    by_first false e h = ap (λ (b : Bool). not (b || list_any urgent rs)) (sym e)

@@ -1,7 +1,7 @@
 -- Question 6, by the tests that answer it: of one record, of the waiting records, and of the state.
 -- Assumes nothing.
-use mathlib.Core.Path.{◌≡◌}
-use mathlib.Core.Bool.{true, false}
+use mathlib.Core.Path.{◌≡◌, refl}
+use mathlib.Core.Bool.{Bool, true, false, ◌&&◌}
 use mathlib.Core.List.{List}
 use Prim.Native.Nat.{ℕ, ◌%◌, ◌≤◌, ◌<◌}
 use lib.Dec.{ltb, leb, eqb}
@@ -9,10 +9,7 @@ use borrow.Author.Tests.{lt-ltb, le-ltb, lt-leb, le-leb, eq-eqb, ne_eqb}
 use Rattle.verdict.specs.Verdict.{accepted, refused}
 use Rattle.std.specs.List.{list_all}
 use Rattle.lists.proofs.Laws.{and_fst, and_snd}
-use Rattle.word.specs.Field.{head_desks}
 use Rattle.plan.specs.Plan.{Plan}
-use Rattle.plan.specs.Decode.{plan_of, head_of}
-use Rattle.plan.proofs.Accepted.{desk_count_lem}
 use Rattle.operation.specs.Operation.{desk_of}
 use Rattle.operation.specs.Admission.{operation_verdict}
 use Rattle.conflict.specs.Class.{is_global, class_of}
@@ -55,25 +52,33 @@ none_waits p desk records n e = rw e
 
 -- ---- the state, with the records
 
-module _ (ws : List ℕ) (d : Desk) (records : List Request) where
-  pub desk_out : head_desks (head_of ws) ≤ d.desk → desk_fits (plan_of ws) d records ≡ false
+module _ (p : Plan) (d : Desk) (records : List Request) where
+  pub desk_out : p.desks ≤ d.desk → desk_fits p d records ≡ false
   unfolding desk_fits
-  desk_out h = rw (desk_count_lem ws, le-ltb _ _ h)
+  desk_out h = rw (le-ltb _ _ h)
 
-  module _ (h : d.desk < head_desks (head_of ws)) where
-    pub too_many : 32 < d.waiting → desk_fits (plan_of ws) d records ≡ false
+  pub too_many : 32 < d.waiting → desk_fits p d records ≡ false
+  unfolding desk_fits
+  too_many w = by_first (ltb d.desk p.desks)
+    where
+      by_first : (b : Bool) → (b && (leb d.waiting 32 && (eqb (d.awaited % p.desks) d.desk
+          && queue_fits p d.desk (waiting_in d.waiting records)))) ≡ false
+      by_first true = rw (lt-leb _ _ w)
+      by_first false = refl
+
+  module _ (h : d.desk < p.desks) (w : d.waiting ≤ 32) where
+    pub other_visit : (d.awaited % p.desks ≡ d.desk → ⊥) → desk_fits p d records ≡ false
     unfolding desk_fits
-    too_many w = rw (desk_count_lem ws, lt-ltb _ _ h, lt-leb _ _ w)
+    other_visit a = rw (lt-ltb _ _ h, le-leb _ _ w, ne_eqb _ _ a)
 
-    module _ (w : d.waiting ≤ 32) where
-      pub other_visit : (d.awaited % head_desks (head_of ws) ≡ d.desk → ⊥) → desk_fits (plan_of ws) d records ≡ false
-      unfolding desk_fits
-      other_visit a = rw (desk_count_lem ws, lt-ltb _ _ h, le-leb _ _ w, ne_eqb _ _ a)
+    pub by_records : d.awaited % p.desks ≡ d.desk → desk_fits p d records ≡ queue_fits p d.desk (waiting_in d.waiting records)
+    unfolding desk_fits
+    by_records a = rw (lt-ltb _ _ h, le-leb _ _ w, eq-eqb _ _ a)
 
-      pub by_records : d.awaited % head_desks (head_of ws) ≡ d.desk
-          → desk_fits (plan_of ws) d records ≡ queue_fits (plan_of ws) d.desk (waiting_in d.waiting records)
-      unfolding desk_fits
-      by_records a = rw (desk_count_lem ws, lt-ltb _ _ h, le-leb _ _ w, eq-eqb _ _ a)
+-- by the code's tests of a state, with the number of desks as it counts them
+pub by_state : (p : Plan) (d : Desk) (records : List Request) (n : ℕ) → n ≡ p.desks → d.desk < n → d.waiting ≤ 32
+    → d.awaited % n ≡ d.desk → desk_fits p d records ≡ queue_fits p d.desk (waiting_in d.waiting records)
+by_state p d records n e h w a = by_records p d records (rw e at h) w (rw e at a)
 
 -- ---- what question 6 shows where it is answered with yes
 

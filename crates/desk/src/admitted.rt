@@ -36,7 +36,7 @@ pub fn run_operation(operation: &Operation, cells: &mut [u32]) -> Reply
 }
 
 // The operation of a request that passes questions 7 and 8.
-pub fn admitted<'a>(plan: &Plan<'a>, request: Request) -> Operation<'a>
+pub fn admitted_operation<'a>(plan: &Plan<'a>, request: Request) -> Operation<'a>
     requires { operation_verdict (the_plan plan.now) (operation_of request) ≡ accepted }
     ensures { IsAsked (the_plan plan.now) request result }
 {

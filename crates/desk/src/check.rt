@@ -18,6 +18,7 @@ use queue::{QUEUE_SIZE, Request};
 use verdict::Refusal;
 
 // Whether the record is a global operation of this desk.
+#[tactic(auto, using(crate::proofs::Asked::asked_class, crate::proofs::Asked::asked_desk), unfolding(crate::specs::Admission::waits_here))]
 fn waits_here(masks: &MaskTable, desk: u32, request: Request) -> bool
     ensures { result ≡ waits_here (the_plan masks.now.plan) desk request }
 {
@@ -46,7 +47,10 @@ pub fn desk_fits<'a>(
 {
     let desks = plan.desks();
     let waiting = state.waiting as usize;
-    if desks <= state.desk || QUEUE_SIZE < waiting {
+    if desks <= state.desk {
+        return Err(Refusal::MisfitState);
+    }
+    if QUEUE_SIZE < waiting {
         return Err(Refusal::MisfitState);
     }
     if state.awaited % desks as u64 != state.desk as u64 {

@@ -78,7 +78,7 @@ pub(crate) fn run_waiting(
     let mut end: usize = 0;
     for at in 0..waiting {
         let request = queue::record_in(row, at);
-        let operation = desk::admitted(plan, request);
+        let operation = desk::admitted_operation(plan, request);
         let answered = at * REPLY_SIZE;
         end = end
             + run_one(
