@@ -1,6 +1,6 @@
 -- Question 6: each answer is the branch of the definition that the tests before it chose.
 -- Assumes nothing.
-use Rattle.std.proofs.Common.{◌≡◌, ◌<◌, ◌%◌, true, false, not, sym, ap, ◌∙◌, arith, rules}
+use Rattle.std.proofs.Common.{◌≡◌, ◌<◌, ◌%◌, true, false, sym, ap, ◌∙◌, arith}
 use Rattle.verdict.specs.Verdict.{ask}
 use Rattle.std.specs.List.{list_all}
 use Rattle.plan.specs.Decode.{plan_of}

@@ -1,6 +1,6 @@
 -- A transaction that does not exist is not urgent.
 -- Assumes nothing.
-use Rattle.std.proofs.Common.{◌≡◌, ◌∙◌, sym, ap, None, false}
+use Rattle.std.proofs.Common.{◌∙◌, sym, ap}
 use Rattle.std.specs.Option.{option_map}
 use Rattle.plan.specs.Plan.{Transaction, no_transaction}
 use Rattle.plan.specs.Accepted.{the_plan}
