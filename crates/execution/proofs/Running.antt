@@ -25,7 +25,8 @@ pub record Running (ps : List ℕ) (outcome : Outcome) (store : Store) (ss : Lis
   pub writes_low : AllInStore (cells_named writes ps ss)
 
 module _ {ps : List ℕ} {outcome : Outcome} {store : Store} where
-  pub running_done : {x : ℕ} {ts : List ℕ} {u : Update} (left : List Step) → left ≡ [] → Running ps outcome store left x ts u → finished x ts u ≡ outcome
+  pub running_done : {x : ℕ} {ts : List ℕ} {u : Update} (left : List Step) → left ≡ [] → Running ps outcome store left x ts u
+      → finished x ts u ≡ outcome
   unfolding run_from
   running_done left e q = rw e at q.rest
 
@@ -100,11 +101,11 @@ module _ {ps : List ℕ} {outcome : Outcome} {store : Store} where
       running_stop a = rw (← i, ← a) at (rw e at q.rest)
 
 -- before the first step of a transaction
-pub running_start : (ps ws : List ℕ) (w : ℕ) (t : Transaction) (outcome : Outcome) (store : Store) (ss : List Step) → IsTransaction w ws
+pub running_start : {ps ws : List ℕ} {w : ℕ} (t : Transaction) {outcome : Outcome} {store : Store} {ss : List Step} → IsTransaction w ws
     → t.steps ≡ map step_of ws → parameters_pass t ps ≡ true → ss ≡ t.steps → run_from ps t.steps store 0 [] [] ≡ outcome
     → Running ps outcome store ss 0 [] []
 unfolding parameters_pass apply_update
-running_start ps ws w t outcome store ss f s p e run =
+running_start {ps = ps} {ws = ws} {w = w} t f s p e run =
     let rows = rw s at (and_snd (unused_zero t.params ps) _ p) in
     rw (e, s)
     (record {

@@ -1,6 +1,7 @@
 -- Updates: applying one after another, and a cell behind one.
 -- Assumes nothing.
-use Rattle.std.proofs.Common.{ℕ, ◌+◌, ◌≤◌, ◌<◌, ◌≡◌, refl, ◌∙◌, sym, ap, Bool, true, false, cond, Option, Some, None, [], ◌∷◌, ◌++◌, length, get_or, set, drop, eqb, arith}
+use Rattle.std.proofs.Common.{ℕ, ◌+◌, ◌≤◌, ◌<◌, ◌≡◌, refl, ◌∙◌, sym, ap, Bool, true, false, cond, eqb, arith}
+use Rattle.std.proofs.Common.{Option, Some, None, [], ◌∷◌, ◌++◌, length, get_or, set, drop}
 use mathlib.Core.Bool.{false≢true}
 use mathlib.Core.List.{reverse}
 use lib.ListN.{length-set, get_or-eq_default, drop_of_length-le}
@@ -11,12 +12,12 @@ use Rattle.std.proofs.lemmas.List.{drop_more}
 use Rattle.std.proofs.lemmas.Grind.{reverse_onto}
 use Rattle.operation.specs.Store.{Store, Update, apply_update}
 
-pub apply_append : (u v : Update) (s : Store) → apply_update (u ++ v) s ≡ apply_update v (apply_update u s)
+apply_append : (u v : Update) (s : Store) → apply_update (u ++ v) s ≡ apply_update v (apply_update u s)
 unfolding apply_update
 apply_append [] v s = refl
 apply_append (w ∷ u) v s = apply_append u v (set s w.0 w.1)
 
-pub apply_length : (u : Update) (s : Store) → length (apply_update u s) ≡ length s
+apply_length : (u : Update) (s : Store) → length (apply_update u s) ≡ length s
 unfolding apply_update
 apply_length [] s = refl
 apply_length (w ∷ u) s = apply_length u (set s w.0 w.1) ∙ length-set s w.0 w.1

@@ -1,225 +1,190 @@
--- The others' updates in a body of words, applied and copied word by word: what is done so far joined with what is still to come.
---     Forwarded                      the store and the outgoing words at a word of the body
---     forward_start, forward_end     at the first word, behind the last
---     forward_head, forward_cell     past the word of another desk's update, past a cell of it and its value
---     forward_own, forward_past      the same of an update of the desk's own
---     forward_more                   a cell's value stands behind its word
---     head_room, cell_room           there is room for the word of another desk's update, and for a cell of it and its value
+-- The others' updates in a body of words, applied and copied one after another: what is done so far joined with what is still to come.
+--     forwarding_start, forwarding_end     at the first update, behind the last
+--     forwarding_own, forwarding_other     past an update of the desk's own, past another desk's
 -- Assumes nothing.
-use mathlib.Core.Path.{◌≡◌, refl, ◌∙◌, sym, ap, subst}
-use mathlib.Core.Bool.{Bool, true, false, not, cond}
-use mathlib.Core.List.{List, [], ◌∷◌, ◌++◌}
-use Prim.Native.Nat.{ℕ, zero, suc, ◌+◌, ◌-◌, ◌≤◌, ◌<◌}
-use native.Mathlib.Omega.{arith}
-use lib.Dec.{eqb, leb}
-use lib.ListN.{length, get_or, set, drop, drop_of_length-le}
-use borrow.Author.Tests.{leb-true, leb-false, not-true, not-false}
+use Rattle.std.proofs.Common.{ℕ, zero, suc, ◌+◌, ◌-◌, ◌*◌, ◌/◌, ◌≤◌, ◌<◌, ◌≡◌, refl, ◌∙◌, sym, ap, Some, None, arith}
+use Rattle.std.proofs.Common.{List, [], ◌∷◌, ◌++◌, length, take, drop, get_or, set}
+use mathlib.Core.Path.{ap₂}
+use lib.ListN.{length-append}
+use lib.Seq.{take_at, drop_at, length-take-le}
+use borrow.Author.Tests.{eq-eqb, ne_eqb}
+use borrow.Rule.Slice.PartMut.{put_mid}
+use Rattle.std.specs.List.{slice_get}
 use Rattle.lists.specs.Lists.{overwritten}
-use Rattle.lists.proofs.Laws.{drop_here, Filling, fill_none, fill_size, fill_length, fill_same, fill_word, fill_done}
+use Rattle.lists.proofs.Laws.{Filling, fill_none, fill_size, fill_length, fill_same, fill_part, fill_done, take_remainder}
 use Rattle.word.specs.Field.{update_desk, cell_count, cell_field}
 use Rattle.operation.specs.Store.{Store, apply_update}
-use Rattle.frame.specs.Frame.{update_head, cell_word, write_words, update_words, updates_words}
+use Rattle.frame.specs.Frame.{sent, update_head, write_words, update_words, updates_words}
 use Rattle.frame.specs.Admission.{writes_from, updates_from}
 use Rattle.token.specs.Forward.{foreign, apply_all, foreign_words}
+use Rattle.token.proofs.Written.{writes_length}
 
--- ---- what is still to come: the last `left` cells of an update, which is kept or the desk's own, and the updates behind them
+-- ---- the first update among the words
 
--- the words are these and nothing more
-unfoldable Reads : ℕ → List ℕ → Type 0
-Reads left ws = ws ≡ write_words (writes_from left ws) ++ updates_words (updates_from left ws)
+few_writes : (n : ℕ) (ws : List ℕ) → length (writes_from n ws) ≤ n
+unfolding writes_from
+few_writes zero ws = omega arith
+few_writes (suc n) [] = omega arith
+few_writes (suc n) (w ∷ []) = omega arith
+few_writes (suc n) (w ∷ v ∷ ws) = let h = few_writes n ws in omega arith
 
--- the store with all of it applied
-unfoldable applies : ℕ → Store → Bool → ℕ → List ℕ → Store
-applies desk s kept left ws = apply_all (foreign desk (updates_from left ws)) (cond kept (apply_update (writes_from left ws) s) s)
+twice : (n : ℕ) → 2 * suc n ≡ suc (suc (2 * n))
+twice n = omega arith
 
--- the words of it that are kept
-unfoldable coming : ℕ → Bool → ℕ → List ℕ → List ℕ
-coming desk kept left ws = cond kept (write_words (writes_from left ws)) [] ++ updates_words (foreign desk (updates_from left ws))
+cells_front : (n : ℕ) (ws : List ℕ) → writes_from n (take (2 * n) ws) ≡ writes_from n ws
+unfolding writes_from
+cells_front zero ws = refl
+cells_front (suc n) [] = rw (twice n) refl
+cells_front (suc n) (w ∷ []) = rw (twice n) refl
+cells_front (suc n) (w ∷ v ∷ ws) = rw (twice n) (ap (λ t. (cell_field w, v) ∷ t) (cells_front n ws))
 
--- ---- nothing
+cells_behind : (n : ℕ) (ws : List ℕ) → updates_from n ws ≡ updates_from 0 (drop (2 * n) ws)
+unfolding updates_from
+cells_behind zero ws = refl
+cells_behind (suc n) [] = rw (twice n) refl
+cells_behind (suc n) (w ∷ []) = rw (twice n) refl
+cells_behind (suc n) (w ∷ v ∷ ws) = rw (twice n) (cells_behind n ws)
 
-none_applies : (desk : ℕ) (s : Store) (kept : Bool) (left : ℕ) → applies desk s kept left [] ≡ s
-unfolding applies updates_from writes_from apply_update foreign apply_all
-none_applies desk s true zero = refl
-none_applies desk s false zero = refl
-none_applies desk s true (suc left) = refl
-none_applies desk s false (suc left) = refl
+-- how many words the update has whose word is w
+abbrev update_size : ℕ → ℕ
+update_size w = 1 + 2 * cell_count w
 
-none_coming : (desk : ℕ) (kept : Bool) (left : ℕ) → coming desk kept left [] ≡ []
-unfolding coming updates_from writes_from write_words foreign updates_words
-none_coming desk true zero = refl
-none_coming desk false zero = refl
-none_coming desk true (suc left) = refl
-none_coming desk false (suc left) = refl
+-- its words, and those behind it
+record Split (w : ℕ) (ws : List ℕ) : Type 0 where
+  fits : update_size w ≤ length (w ∷ ws)
+  first : take (update_size w) (w ∷ ws) ≡ update_words (sent (update_desk w) (writes_from (cell_count w) ws))
+  behind : drop (update_size w) (w ∷ ws) ≡ updates_words (updates_from 0 (drop (update_size w) (w ∷ ws)))
+  others : updates_from 0 (w ∷ ws)
+      ≡ sent (update_desk w) (writes_from (cell_count w) ws) ∷ updates_from 0 (drop (update_size w) (w ∷ ws))
 
--- ---- an update's word in front
+count_of : (w k n : ℕ) → w ≡ update_head (update_desk w) k → k ≤ n → n ≡ cell_count w → k ≡ n
+count_of w k n e l c = omega arith
 
-module _ (w : ℕ) (ws : List ℕ) where
-  head_reads : Reads 0 (w ∷ ws) → Reads (cell_count w) ws × (w ≡ update_head (update_desk w) (length (writes_from (cell_count w) ws)))
-  unfolding Reads updates_from writes_from write_words updates_words update_words
-  head_reads r = (cc, cc)
+split : (w : ℕ) (ws : List ℕ) → w ∷ ws ≡ updates_words (updates_from 0 (w ∷ ws)) → Split w ws
+unfolding updates_from updates_words update_words
+split w ws r =
+    let n = cell_count w in
+    let us = writes_from n ws in
+    let others = updates_words (updates_from n ws) in
+    let head : w ≡ update_head (update_desk w) (length us) = cc in
+    let tail : ws ≡ write_words us ++ others = cc in
+    let count : length us ≡ n = count_of w (length us) n head (few_writes n ws) refl in
+    let size : length (write_words us) ≡ 2 * n = omega (arith, writes_length us, count) in
+    let one : 1 + 2 * n ≡ suc (2 * n) = omega arith in
+    record {
+      fits = omega (arith, ap length tail, length-append (write_words us) others, size);
+      first = rw one (ap₂ ◌∷◌ head (ap (take (2 * n)) tail ∙ take_at (write_words us) others (2 * n) size));
+      behind = rw one (ap (drop (2 * n)) tail ∙ drop_at (write_words us) others (2 * n) size ∙ ap updates_words (cells_behind n ws));
+      others = rw one (ap (λ t. sent (update_desk w) us ∷ t) (cells_behind n ws));
+    }
 
-  head_applies : (desk : ℕ) (s : Store) (kept own : Bool) → eqb (update_desk w) desk ≡ own
-      → applies desk s kept 0 (w ∷ ws) ≡ applies desk s (not own) (cell_count w) ws
-  unfolding applies updates_from writes_from apply_update foreign apply_all
-  head_applies desk s true true e = simp e
-  head_applies desk s false true e = simp e
-  head_applies desk s true false e = simp e
-  head_applies desk s false false e = simp e
+-- ---- the cells of an update
 
-  own_coming : (desk : ℕ) (kept : Bool) → eqb (update_desk w) desk ≡ true
-      → coming desk kept 0 (w ∷ ws) ≡ coming desk false (cell_count w) ws
-  unfolding coming updates_from writes_from write_words foreign updates_words
-  own_coming desk true e = simp e
-  own_coming desk false e = simp e
+-- a cell's word and its value in front
+pub cells_next : (s r : Store) (p rest : List ℕ) (all : List ℕ) → all ≡ p ++ rest → length p ≡ 2
+    → apply_update (writes_from (length all / 2) all) s ≡ r
+    → apply_update (writes_from (length rest / 2) rest) (set s (cell_field (get_or p 0 0)) (get_or p 1 0)) ≡ r
+unfolding writes_from apply_update
+cells_next s r [] rest all e h q = absurd (omega arith)
+cells_next s r (w ∷ []) rest all e h q = absurd (omega arith)
+cells_next s r (w ∷ v ∷ []) rest all e h q =
+    let one : suc (suc (length rest)) / 2 ≡ suc (length rest / 2) = omega arith in rw one at (rw e at q)
+cells_next s r (w ∷ v ∷ x ∷ p) rest all e h q = absurd (omega arith)
 
-  head_coming : (desk : ℕ) (kept : Bool) → eqb (update_desk w) desk ≡ false
-      → w ≡ update_head (update_desk w) (length (writes_from (cell_count w) ws))
-      → coming desk kept 0 (w ∷ ws) ≡ w ∷ coming desk true (cell_count w) ws
-  unfolding coming updates_from writes_from write_words foreign updates_words update_words
-  head_coming desk true e q = simp e (ap (λ (x : ℕ). x ∷ coming desk true (cell_count w) ws) (sym q))
-  head_coming desk false e q = simp e (ap (λ (x : ℕ). x ∷ coming desk true (cell_count w) ws) (sym q))
-
--- ---- a cell and its value in front
-
-half_reads : (left w : ℕ) → Reads (suc left) (w ∷ []) → ⊥
-unfolding Reads updates_from writes_from write_words updates_words
-half_reads left w r = let z : ◌≡◌ {A = ℕ} 0 1 = cc in omega arith
-
-module _ (w v left : ℕ) (ws : List ℕ) where
-  cell_reads : Reads (suc left) (w ∷ v ∷ ws) → Reads left ws × (w ≡ cell_word (cell_field w))
-  unfolding Reads updates_from writes_from write_words
-  cell_reads r = (cc, cc)
-
-  cell_applies : (desk : ℕ) (s : Store) (kept : Bool)
-      → applies desk s kept (suc left) (w ∷ v ∷ ws) ≡ applies desk (cond kept (set s (cell_field w) v) s) kept left ws
-  unfolding applies updates_from writes_from apply_update
-  cell_applies desk s true = refl
-  cell_applies desk s false = refl
-
-  past_coming : (desk : ℕ) → coming desk false (suc left) (w ∷ v ∷ ws) ≡ coming desk false left ws
-  unfolding coming updates_from
-  past_coming desk = refl
-
-  cell_coming : (desk : ℕ) → w ≡ cell_word (cell_field w) → coming desk true (suc left) (w ∷ v ∷ ws) ≡ w ∷ v ∷ coming desk true left ws
-  unfolding coming updates_from writes_from write_words
-  cell_coming desk q = ap (λ (x : ℕ). x ∷ v ∷ coming desk true left ws) (sym q)
+pub cells_done : (s r : Store) (rest : List ℕ) → length rest < 2 → apply_update (writes_from (length rest / 2) rest) s ≡ r → s ≡ r
+unfolding writes_from apply_update
+cells_done s r rest h q = let none : length rest / 2 ≡ 0 = omega arith in rw none at q
 
 -- ---- the walk
 
 -- with `rest` still to come, the store is `s` and the outgoing words, `end` of them written, are `t`
-record Progress (desk : ℕ) (ws s₀ o s t : List ℕ) (kept : Bool) (left end : ℕ) (rest : List ℕ) : Type 0 where
-  reads : Reads left rest
-  store : applies desk s kept left rest ≡ apply_all (foreign desk (updates_from 0 ws)) s₀
-  words : Filling (foreign_words desk ws) o t end (coming desk kept left rest)
+pub record Forwarding (desk : ℕ) (body s₀ o s t : List ℕ) (end : ℕ) (rest : List ℕ) : Type 0 where
+  pub reads : rest ≡ updates_words (updates_from 0 rest)
+  pub store : apply_all (foreign desk (updates_from 0 rest)) s ≡ apply_all (foreign desk (updates_from 0 body)) s₀
+  pub words : Filling (foreign_words desk body) o t end (foreign_words desk rest)
 
--- the same in the walk's own variables
-pub record Forwarded (desk : ℕ) (ws s₀ o s t : List ℕ) (kept : Bool) (left end i : ℕ) : Type 0 where
-  progress : Progress desk ws s₀ o s t kept left end (drop i ws)
+headed : (rest : List ℕ) (w : ℕ) → Some w ≡ slice_get rest 0 → rest ≡ w ∷ drop 1 rest
+headed [] w h = let z : ◌≡◌ {A = ℕ} 0 1 = cc in absurd (omega arith)
+headed (x ∷ rest) w h = cc
 
-pub forward_start : (desk : ℕ) (ws s o : List ℕ) → ws ≡ updates_words (updates_from 0 ws) → Forwarded desk ws s o s o false 0 0 0
-unfolding Reads applies coming writes_from write_words
-forward_start desk ws s o r = record { progress = record { reads = r; store = refl; words = fill_none (foreign_words desk ws) o } }
+headless : (rest : List ℕ) → None ≡ slice_get rest 0 → rest ≡ []
+headless [] h = refl
+headless (x ∷ rest) h = let z : ◌≡◌ {A = ℕ} 0 1 = cc in absurd (omega arith)
 
-module _ {desk : ℕ} {ws s₀ o s t : List ℕ} {kept : Bool} {left end i : ℕ} (f : Forwarded desk ws s₀ o s t kept left end i) where
-  pub forward_length : length (foreign_words desk ws) ≤ length o → length t ≡ length o
-  forward_length = fill_length f.progress.words
+pub forwarding_start : (desk : ℕ) (body s o : List ℕ) → body ≡ updates_words (updates_from 0 body) → Forwarding desk body s o s o 0 body
+forwarding_start desk body s o r = record { reads = r; store = refl; words = fill_none (foreign_words desk body) o }
 
-  pub forward_end : length ws ≤ i
-      → (s ≡ apply_all (foreign desk (updates_from 0 ws)) s₀) × (end ≡ length (foreign_words desk ws))
-      × (t ≡ overwritten (foreign_words desk ws) o)
-  forward_end h =
-      let g = subst (Progress desk ws s₀ o s t kept left end) (drop_of_length-le ws h) f.progress in
-      let d = fill_done (fill_same g.words (none_coming desk kept left)) in
-      (sym (none_applies desk s kept left) ∙ g.store, d.1, d.0)
+module _ {desk : ℕ} {body s₀ o s t : List ℕ} {end : ℕ} {rest : List ℕ} (f : Forwarding desk body s₀ o s t end rest) where
+  forwarding_length : length (foreign_words desk body) ≤ length o → length t ≡ length o
+  forwarding_length = fill_length f.words
 
-  module _ (h : i < length ws) where
-    at_head : left ≡ 0 → Progress desk ws s₀ o s t kept 0 end (get_or ws i 0 ∷ drop (i + 1) ws)
-    at_head z = rw (z, drop_here ws i 0 h) at f.progress
+  pub forwarding_end : None ≡ slice_get rest 0
+      → (s ≡ apply_all (foreign desk (updates_from 0 body)) s₀) × (end ≡ length (foreign_words desk body))
+      × (t ≡ overwritten (foreign_words desk body) o)
+  unfolding updates_from foreign apply_all updates_words
+  forwarding_end h =
+      let e = headless rest h in
+      let d = fill_done (fill_same f.words (ap (foreign_words desk) e)) in
+      (rw e at f.store, d.1, d.0)
 
-    at_cell : (left ≡ 0 → ⊥) → Progress desk ws s₀ o s t kept (suc (left - 1)) end (get_or ws i 0 ∷ drop (i + 1) ws)
-    at_cell z = let k : left ≡ suc (left - 1) = omega arith in rw (k, drop_here ws i 0 h) at f.progress
+  -- an update's word in front
+  module _ {w : ℕ} (h : Some w ≡ slice_get rest 0) where
+    whole : rest ≡ w ∷ drop 1 rest
+    whole = headed rest w h
 
-    pub forward_own : left ≡ 0 → not (eqb (update_desk (get_or ws i 0)) desk) ≡ false
-        → Forwarded desk ws s₀ o s t (not (eqb (update_desk (get_or ws i 0)) desk)) (cell_count (get_or ws i 0)) end (i + 1)
-    forward_own z e =
-        let own = not-false (eqb (update_desk (get_or ws i 0)) desk) e in
-        let g = at_head z in
-        rw e
-        (record {
-          progress = record {
-            reads = (head_reads _ _ g.reads).0;
-            store = sym (head_applies _ _ desk s kept true own) ∙ g.store;
-            words = fill_same g.words (own_coming _ _ desk kept own);
-          };
-        })
+    parts : Split w (drop 1 rest)
+    parts = split w (drop 1 rest) (sym whole ∙ f.reads ∙ ap (λ t. updates_words (updates_from 0 t)) whole)
 
-    module _ (room : length (foreign_words desk ws) ≤ length o) (z : left ≡ 0) (e : not (eqb (update_desk (get_or ws i 0)) desk)
-        ≡ true) where
-      head_words_lem : Filling (foreign_words desk ws) o t end (get_or ws i 0 ∷ coming desk true (cell_count (get_or ws i 0)) (drop
-          (i + 1) ws))
-      head_words_lem = fill_same (at_head z).words (head_coming _ _ desk kept (not-true _ e) (head_reads _ _ (at_head z).reads).1)
+    first_words : take (update_size w) rest ≡ update_words (sent (update_desk w) (writes_from (cell_count w) (drop 1 rest)))
+    first_words = rw (← whole) at parts.first
 
-      pub head_room : end < length t
-      head_room = omega (arith, fill_size head_words_lem, forward_length room)
+    behind_words : drop (update_size w) rest ≡ updates_words (updates_from 0 (drop (update_size w) rest))
+    behind_words = rw (← whole) at parts.behind
 
-      pub forward_head : Forwarded desk ws s₀ o s (set t end (get_or ws i 0)) (not (eqb (update_desk (get_or ws i 0)) desk))
-          (cell_count (get_or ws i 0)) (end + 1) (i + 1)
-      forward_head =
-          let g = at_head z in
-          rw e
+    all_updates : updates_from 0 rest
+        ≡ sent (update_desk w) (writes_from (cell_count w) (drop 1 rest)) ∷ updates_from 0 (drop (update_size w) rest)
+    all_updates = rw (← whole) at parts.others
+
+    pub forwarding_fits : update_size w ≤ length rest
+    forwarding_fits = omega (arith, parts.fits, ap length whole)
+
+    pub forwarding_own : update_desk w ≡ desk → Forwarding desk body s₀ o s t end (drop (update_size w) rest)
+    unfolding foreign
+    forwarding_own e =
+        let own = eq-eqb (update_desk w) desk e in
+        record { reads = behind_words; store = rw (all_updates, own) at f.store; words = rw (all_updates, own) at f.words }
+
+    module _ {u : List ℕ} (i : u ≡ take (update_size w) rest) (e : update_desk w ≡ desk → ⊥) where
+      other_words : Filling (foreign_words desk body) o t end (u ++ foreign_words desk (drop (update_size w) rest))
+      unfolding foreign updates_words
+      other_words = let other = ne_eqb (update_desk w) desk e in rw (i, first_words) (rw (all_updates, other) at f.words)
+
+      pub forwarding_room : length (foreign_words desk body) ≤ length o → end + length u ≤ length t
+      forwarding_room room =
+          let more = foreign_words desk (drop (update_size w) rest) in
+          omega (arith, fill_size other_words, forwarding_length room, length-append u more)
+
+      other_cells : writes_from (length (take (length u - 1) (drop 1 u)) / 2) (take (length u - 1) (drop 1 u))
+          ≡ writes_from (cell_count w) (drop 1 rest)
+      other_cells =
+          let n = cell_count w in
+          let one : 1 + 2 * n ≡ suc (2 * n) = omega arith in
+          let cells : drop 1 u ≡ take (2 * n) (drop 1 rest) =
+          ap (drop 1) (i ∙ ap₂ take one whole) in
+          let size : length (take (2 * n) (drop 1 rest)) ≡ 2 * n = length-take-le (2 * n) (drop 1 rest) (omega (arith, parts.fits)) in
+          let half : length (take (2 * n) (drop 1 rest)) / 2 ≡ n = omega (arith, size) in
+          rw (take_remainder u 1, cells, half) (cells_front n (drop 1 rest))
+
+      pub forwarding_other : {s' p : List ℕ}
+          → s' ≡ apply_update (writes_from (length (take (length u - 1) (drop 1 u)) / 2) (take (length u - 1) (drop 1 u))) s → p ≡ u
+          → Forwarding desk body s₀ o s' (put_mid end (end + length u - end) t p) (end + length u) (drop (update_size w) rest)
+      unfolding foreign apply_all
+      forwarding_other a c =
+          let other = ne_eqb (update_desk w) desk e in
+          let k : end + length u - end ≡ length u = omega arith in
+          rw (a, other_cells, c, k)
           (record {
-            progress = record {
-              reads = (head_reads _ _ g.reads).0;
-              store = sym (head_applies _ _ desk s kept false (not-true _ e)) ∙ g.store;
-              words = fill_word head_words_lem (omega (arith, fill_size head_words_lem));
-            };
+            reads = behind_words;
+            store = rw (all_updates, other) at f.store;
+            words = fill_part u other_words;
           })
-
-    pub forward_more : (left ≡ 0 → ⊥) → i + 1 < length ws
-    forward_more z = by_more (leb (length ws) (i + 1)) refl
-      where
-        by_more : (b : Bool) → leb (length ws) (i + 1) ≡ b → i + 1 < length ws
-        by_more true e = absurd (half_reads _ _ (rw (drop_of_length-le ws (leb-true (length ws) (i + 1) e)) at (at_cell z).reads))
-        by_more false e = leb-false (length ws) (i + 1) e
-
-    module _ (z : left ≡ 0 → ⊥) where
-      at_value : (b : Bool) → kept ≡ b
-          → Progress desk ws s₀ o s t b (suc (left - 1)) end (get_or ws i 0 ∷ get_or ws (i + 1) 0 ∷ drop (i + 1 + 1) ws)
-      at_value b e = rw (e, drop_here ws (i + 1) 0 (forward_more z)) at (at_cell z)
-
-      pub forward_past : kept ≡ false → Forwarded desk ws s₀ o s t kept (left - 1) end (i + 1 + 1)
-      forward_past e =
-          let g = at_value false e in
-          rw e
-          (record {
-            progress = record {
-              reads = (cell_reads _ _ _ _ g.reads).0;
-              store = sym (cell_applies _ _ _ _ desk s false) ∙ g.store;
-              words = fill_same g.words (past_coming _ _ _ _ desk);
-            };
-          })
-
-      module _ (room : length (foreign_words desk ws) ≤ length o) (e : kept ≡ true) where
-        cell_words : Filling (foreign_words desk ws) o t end
-            (get_or ws i 0 ∷ get_or ws (i + 1) 0 ∷ coming desk true (left - 1) (drop (i + 1 + 1) ws))
-        cell_words =
-            let g = at_value true e in fill_same g.words (cell_coming _ _ _ _ desk (cell_reads _ _ _ _ g.reads).1)
-
-        pub cell_room : end + 1 < length t
-        cell_room = omega (arith, fill_size cell_words, forward_length room)
-
-        pub forward_cell : Forwarded desk ws s₀ o (set s (cell_field (get_or ws i 0)) (get_or ws (i + 1) 0))
-            (set (set t end (get_or ws i 0)) (end + 1) (get_or ws (i + 1) 0)) kept (left - 1) (end + 2) (i + 1 + 1)
-        forward_cell =
-            let g = at_value true e in
-            let two : end + 1 + 1 ≡ end + 2 = omega arith in
-            let size = fill_size cell_words in
-            rw (e, ← two)
-            (record {
-              progress = record {
-                reads = (cell_reads _ _ _ _ g.reads).0;
-                store = sym (cell_applies _ _ _ _ desk s true) ∙ g.store;
-                words = fill_word (fill_word cell_words (omega arith)) (omega arith);
-              };
-            })

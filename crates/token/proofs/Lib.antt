@@ -6,5 +6,5 @@ pub mod Lengths
 pub mod Parts
 pub mod RoundTrip
 pub mod Readers
-pub mod Forwarding
 pub mod Foreign
+pub mod Forwarding

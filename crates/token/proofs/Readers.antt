@@ -6,7 +6,6 @@ use Prim.Native.Nat.{ℕ}
 use native.Mathlib.Nat.{zero-mod}
 use native.Mathlib.Omega.{arith}
 use Rattle.verdict.specs.Verdict.{Verdict, accepted, refused}
-use Rattle.std.specs.List.{list_all}
 use Rattle.plan.specs.Decode.{plan_of}
 use Rattle.frame.specs.Frame.{updates_words, frame_around, frame_words, starting_frame}
 use Rattle.frame.specs.Admission.{frame_visit, desk_count, read_verdict, ReadsAs}

@@ -1,13 +1,14 @@
 // Writing frames: an update into what is left of the outgoing words, the seal around the updates, and the starting frame.
-ghost use Rattle.std.specs.Prelude.{◌≡◌, ◌+◌, ◌≤◌, min, length};
+ghost use Rattle.std.specs.Prelude.{◌≡◌, ◌+◌, ◌≤◌, length};
 ghost use Rattle.verdict.specs.Verdict.{verdict_of};
 ghost use Rattle.lists.specs.Lists.{overwritten};
 ghost use Rattle.execution.specs.Answer.{update_of};
 ghost use Rattle.frame.specs.Frame.{sent, frame_head, update_head, cell_word, update_words};
 ghost use Rattle.token.specs.Writing.{sealed_at, start_verdict, start_words};
 
+use execution::Update;
 use frame::LEAST_FRAME;
-use verdict::Verdict;
+use verdict::Refusal;
 use word::fields;
 
 // Word 0 of a frame: kind 9.
@@ -31,32 +32,20 @@ fn cell_word(cell: u32) -> u32
     0xb000_0000 + cell % 0x400
 }
 
-// How many cells an update holds: its count, but no more than its arrays have.
-fn cells_held(count: usize) -> usize
-    ensures { result ≡ min count 12 }
-{
-    if 12 < count { 12 } else { count }
-}
-
 // Writes the update at the front of what is left of the outgoing words, and answers how many words it wrote.
-pub fn write_update(out: &mut [u32], desk: u32, update: execution::Update) -> usize
-    requires { length (update_words (sent desk (update_of update))) ≤ length out.old }
-    ensures words { result ≡ length (update_words (sent desk (update_of update))) }
-    ensures written { out.new ≡ overwritten (update_words (sent desk (update_of update))) out.old }
+pub fn write_update(out: &mut [u32], desk: u32, update: &Update) -> usize
+    requires { length (update_words (sent desk (update_of update.now))) ≤ length out.old }
+    ensures words { result ≡ length (update_words (sent desk (update_of update.now))) }
+    ensures written { out.new ≡ overwritten (update_words (sent desk (update_of update.now))) out.old }
 {
-    let count = cells_held(update.count);
-    out[0] = update_head(desk, count);
-    let mut at: usize = 1;
-    let mut i: usize = 0;
-    while i < count {
-        let cell = update.cells[i];
-        let value = update.values[i];
-        i = i + 1;
-        out[at] = cell_word(cell);
-        out[at + 1] = value;
-        at = at + 2;
+    out[0] = update_head(desk, update.len());
+    let mut end: usize = 1;
+    for (cell, value) in update.iter() {
+        out[end] = cell_word(*cell);
+        out[end + 1] = *value;
+        end += 2;
     }
-    at
+    end
 }
 
 // Makes a frame of the updates that stand in the outgoing words from word 2 up to `end`: writes words 0 and 1, and the sums.
@@ -72,13 +61,13 @@ pub fn seal(out: &mut [u32], desk: u32, visit: u32, end: usize)
 }
 
 // The starting frame, visit 0 with no update. Question 5: at least its 4 words.
-pub fn starting_frame(out: &mut [u32]) -> Verdict
+pub fn starting_frame(out: &mut [u32]) -> Result<(), Refusal>
     ensures answer { verdict_of result ≡ start_verdict out.old }
     ensures written { out.new ≡ start_words out.old }
 {
     if out.len() < LEAST_FRAME {
-        return Verdict::Refused(5);
+        return Err(Refusal::WrongSize);
     }
     seal(out, 0, 0, 2);
-    Verdict::Accepted
+    Ok(())
 }

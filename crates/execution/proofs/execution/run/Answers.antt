@@ -3,14 +3,15 @@
 use Rattle.std.proofs.Common.{refl, ◌∙◌, sym, ap, rules}
 use Rattle.plan.specs.Step.{access_from}
 use Rattle.execution.specs.Answer.{next_of}
-use Rattle.execution.proofs.Running.{running_start, running_done, running_room, running_low, running_read, running_write, running_tell_room, running_tell, running_act, running_stop}
+use Rattle.execution.proofs.Running.{running_start, running_done, running_room, running_low, running_read, running_write}
+use Rattle.execution.proofs.Running.{running_tell_room, running_tell, running_act, running_stop}
 use Rattle.execution.proofs.execution.run.Goals as goal
 
 pub loop-step-init : goal.loop-step-init
 loop-step-init c =
     let o = c.args.operation.now in
     rw (c.new-told.ensures, c.new-update.ensures, c.into_iter-step-iterator.ensures.into_iter_gives)
-    (running_start o.params o.transaction.step_words.now o.transaction.word _ _ _ _ o.transaction.formed refl o.passes c.steps-step-items.ensures refl)
+    (running_start _ o.transaction.formed refl o.passes c.steps-step-items.ensures refl)
 
 pub cell_number-cell-requires : goal.cell_number-cell-requires
 cell_number-cell-requires c =

@@ -1,15 +1,11 @@
--- The store with the others' writes still to come, and the outgoing words with their words still to come, are what is to be left.
+-- The store with the others' updates still to come, and the outgoing words with their words still to come, are what is to be left.
 -- Assumes nothing.
-use mathlib.Core.Path.{◌≡◌}
-use Prim.Native.Nat.{◌-◌, ◌≤◌}
-use lib.ListN.{length}
-use Rattle.token.proofs.Forwarding.{Forwarded}
+use Rattle.std.proofs.Common.{length}
+use Rattle.token.proofs.Forwarding.{Forwarding}
 use Rattle.token.proofs.forward.forward_foreign.Given as goal
 
-abbrev pub invariant-loop-at : goal.invariant-loop-at
-invariant-loop-at l =
-    (l.at ≤ length l.body) × (length l.cells ≡ length l.initial.cells)
-    × Forwarded l.desk l.body l.initial.cells l.initial.out l.cells l.out l.kept l.left l.end l.at
+abbrev pub invariant-loop-head : goal.invariant-loop-head
+invariant-loop-head l = Forwarding l.desk l.body l.initial.cells l.initial.out l.cells l.out l.end l.rest
 
-abbrev pub decreases-loop-at : goal.decreases-loop-at
-decreases-loop-at l = length l.body - l.at
+abbrev pub decreases-loop-head : goal.decreases-loop-head
+decreases-loop-head l = length l.rest
