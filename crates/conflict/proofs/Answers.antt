@@ -5,7 +5,7 @@ use mathlib.Core.Bool.{Bool, true, false, cond, false≢true}
 use mathlib.Core.List.{List, Memᴰ}
 use Prim.Native.Nat.{ℕ, ◌<◌}
 use native.Mathlib.Omega.{arith}
-use Rattle.std.proofs.Common.{Option, Some, None}
+use Rattle.std.proofs.Common.{Some, None}
 use Rattle.std.proofs.lemmas.Option.{none-some, same_Some}
 use lib.Dec.{ltb}
 use lib.ListN.{length}
@@ -22,9 +22,8 @@ use Rattle.plan.specs.declared.transaction.Transaction as declared
 use Rattle.operation.specs.Operation.{operation, desk_by, cells_named}
 use Rattle.operation.specs.Admission.{transaction_exists, parameters_pass, operation_verdict}
 use Rattle.operation.specs.Store.{store_size}
-use Rattle.conflict.specs.Touch.{desk_mask}
 use Rattle.conflict.specs.Written.{written}
-use Rattle.conflict.specs.Class.{Class, is_write, one_desk_each, free, local, global, is_free, class_by}
+use Rattle.conflict.specs.Class.{Class, is_write, free, local, global, is_free, class_by}
 use Rattle.conflict.specs.declared.cause.Cause.{Cause}
 use Rattle.conflict.specs.Cause.{cause_cell, cause_at, cause_by, cause_found}
 use Rattle.conflict.specs.Answer.{Classified, classed_free, classed_local, classed_global, class_refused, with_cause, classified_by, classify_result}

@@ -6,7 +6,6 @@ use mathlib.Core.List.{List, [], ◌∷◌}
 use Prim.Native.Nat.{ℕ, ◌<◌}
 use lib.Bits.{bit_or, or_zero_r, or_zero_l}
 use lib.ListN.{length, get_or, replicate, length-replicate, get_or-replicate}
-use Rattle.std.specs.List.{list_any}
 use Rattle.lists.proofs.Laws.{whole_table}
 use Rattle.plan.specs.Plan.{Partitioning, Step, Transaction}
 use Rattle.plan.specs.Decode.{plan_of}

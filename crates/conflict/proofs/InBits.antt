@@ -4,7 +4,7 @@ use mathlib.Core.Path.{◌≡◌, subst}
 use mathlib.Core.List.Memᴰ
 use mathlib.Core.List.{List, [], ◌∷◌, map}
 use Prim.Native.Nat.{ℕ}
-use Rattle.plan.specs.Plan.{Source, param, fixed, Step, cell, operand, tells}
+use Rattle.plan.specs.Plan.{param, fixed, Step, cell, operand, tells}
 use Rattle.plan.specs.Decode.{step_of}
 use Rattle.operation.proofs.Bounds.{FieldsFit, AllFit, decoded_fits}
 use Rattle.conflict.specs.Touch.{InBits}

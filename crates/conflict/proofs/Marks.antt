@@ -4,7 +4,7 @@ use mathlib.Core.Path.{◌≡◌, refl, ◌∙◌, sym, ap, ap₂}
 use mathlib.Core.Bool.{Bool, true, false, ◌&&◌, and-false}
 use mathlib.Core.List.{List}
 use mathlib.Core.Logic.{⊎_elim}
-use Prim.Native.Nat.{ℕ, ◌+◌, ◌*◌, ◌/◌, ◌%◌, ◌≤◌, ◌<◌}
+use Prim.Native.Nat.{ℕ, ◌+◌, ◌/◌, ◌%◌, ◌≤◌, ◌<◌}
 use native.Mathlib.Omega.{arith}
 use lib.Bits.{bit_or, or_zero_r}
 use lib.Dec.{ltb, eqb}
@@ -14,7 +14,7 @@ use borrow.Author.Tests.{eq-eqb, lt-ltb, le-ltb, le-leb, eqb-true, eqb-false}
 use Rattle.lists.proofs.Laws.{lt_or_ge, by_same}
 use Rattle.word.specs.Field.{kind_of, table_field, column_field}
 use Rattle.plan.specs.Plan.{Source, Access, Step, cell, Partitioning}
-use Rattle.plan.specs.Step.{source_from, access_from, step_from}
+use Rattle.plan.specs.Step.{step_from}
 use Rattle.plan.specs.declared.step.Access.{Access as DeclaredAccess}
 use Rattle.plan.specs.declared.step.Source.{Source as DeclaredSource}
 use Rattle.plan.specs.declared.step.Step as declared

@@ -2,14 +2,13 @@
 -- Assumes nothing.
 use mathlib.Core.Path.{◌≡◌, refl, ◌∙◌, sym, ap}
 use mathlib.Core.Bool.{Bool, true, false, not, cond, false≢true}
-use mathlib.Core.List.Memᴰ
 use mathlib.Core.List.{List, ◌∷◌, [], Memᴰ}
 use Prim.Native.Nat.{ℕ, ◌<◌, min}
 use lib.Count.{ones}
 use lib.Dec.{ltb, eqb}
 use lib.ListN.{get_or}
 use borrow.Author.Tests.{ltb-true}
-use Rattle.std.specs.List.{list_all, list_any, filter, reduce}
+use Rattle.std.specs.List.{list_any, filter, reduce}
 use Rattle.lists.proofs.Laws.{and_snd, every_same, every_member, get_or_tabulate}
 use Rattle.plan.specs.Plan.{Access, reads, writes, Step, cell, operand, tells, Transaction, Plan}
 use Rattle.plan.specs.Transaction.{the_transaction}

@@ -7,12 +7,6 @@ ghost use Rattle.conflict.specs.Written.{row_given};
 
 use plan::{Partitioning, Source};
 
-// One desk.
-const DESK: [u8; 8] = [1, 2, 4, 8, 16, 32, 64, 128];
-
-// All desks, by their number.
-const ALL: [u8; 9] = [0, 1, 3, 7, 15, 31, 63, 127, 255];
-
 // Whether some operation gives this row to the source.
 pub(crate) fn row_given(source: Source, row: u32) -> bool
     ensures { result ≡ row_given (source_from source) row }
@@ -33,9 +27,7 @@ pub(crate) fn row_mask(source: Source, row: u32, partitioning: Partitioning, des
     }
     match partitioning {
         Partitioning::Unpartitioned | Partitioning::Open => 1,
-        Partitioning::Parameter(i) if source == Source::Parameter(i) => {
-            DESK[(row % desks) as usize]
-        }
-        Partitioning::Parameter(_) => ALL[desks as usize],
+        Partitioning::Parameter(i) if source == Source::Parameter(i) => { 1 << (row % desks) }
+        Partitioning::Parameter(_) => u8::MAX >> (8 - desks),
     }
 }

@@ -26,10 +26,12 @@ fn writes_read(step: Step, operation: &Operation) -> bool
         (cells_named reads operation.now.params (the_transaction operation.now.transaction).steps) }
 {
     match step {
-        Step::Cell(Access::Write, table, column, source) => operation
-            .cells(Access::Read)
-            .any(|cell| cell_given(table, column, source, cell)),
-        Step::Cell(Access::Read, _, _, _) => false,
+        Step::Cell(access, table, column, source) => {
+            access == Access::Write
+                && operation
+                    .cells(Access::Read)
+                    .any(|cell| cell_given(table, column, source, cell))
+        }
         Step::Operand(_, _) => false,
         Step::Tell => false,
     }

@@ -1,7 +1,6 @@
 -- The lowest cell that an operation may write and another desk may touch: the least of those that pass.
 -- Assumes nothing.
-use Rattle.std.proofs.Common.{◌≡◌, ◌∙◌, ℕ, Bool, true, sym, ap, get_or, rules, tests}
-use mathlib.Core.List.{List, Memᴰ}
+use Rattle.std.proofs.Common.{◌∙◌, ℕ, sym, get_or, rules, tests}
 use Rattle.std.proofs.lemmas.Iterator.Adapters.{option_map_id}
 use Rattle.std.proofs.lemmas.Iterator.Consumers.{YieldsList-from_first, YieldsList-from_filter, YieldsList-at, min_from_yields_List}
 use Rattle.operation.specs.Cells.{the_cells}

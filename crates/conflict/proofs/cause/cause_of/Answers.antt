@@ -1,7 +1,6 @@
 -- The cause of an operation, part by part: where there is a cell, there is another desk, and a transaction of it.
 -- Assumes nothing.
-use Rattle.std.proofs.Common.{◌∙◌, sym, ap, arith}
-use Rattle.plan.specs.Accepted.{the_plan}
+use Rattle.std.proofs.Common.{◌∙◌, sym, arith}
 use Rattle.conflict.proofs.Tabled.{mask_tabled}
 use Rattle.conflict.proofs.Touching.{few_transactions}
 use Rattle.conflict.proofs.Found.{if_below_some, cell_low, desk_found, desk_below_desks, transaction_some, cause_is}

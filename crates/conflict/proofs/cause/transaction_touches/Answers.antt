@@ -3,7 +3,7 @@
 use Rattle.std.proofs.Common.{rules, tests}
 use Rattle.std.proofs.lemmas.Iterator.Consumers.{YieldsList-from_first}
 use Rattle.std.proofs.lemmas.Iterator.Search.{any_from_yields_List}
-use Rattle.plan.specs.Step.{part_from, step_from}
+use Rattle.plan.specs.Step.{step_from}
 use Rattle.plan.specs.Transaction.{the_steps, the_transaction}
 use Rattle.conflict.specs.Touch.{step_touches}
 use Rattle.conflict.proofs.cause.transaction_touches.Goals as goal

@@ -1,8 +1,5 @@
 -- One step's cells, joined row by row into the table.
 -- Assumes nothing.
-use Rattle.std.proofs.Common.{rules}
-use Rattle.conflict.specs.Touch.{InBits}
-use Rattle.plan.specs.Step.{step_from}
 use Rattle.conflict.proofs.Marks.{names_none, marks_none, marked_none, marked_all, marked_more}
 use Rattle.conflict.proofs.mask.mark.Goals as goal
 

@@ -1,8 +1,7 @@
 -- The mask of a row: each answer is the law of its source and partitioning.
 -- Assumes nothing.
-use Rattle.std.proofs.Common.{◌≡◌, ◌∙◌, sym, ap, rules}
-use Rattle.plan.specs.Plan.{param}
-use Rattle.plan.specs.Step.{part_from, source_from}
+use Rattle.std.proofs.Common.{◌∙◌, sym, ap, rules}
+use Rattle.plan.specs.Step.{part_from}
 use Rattle.conflict.proofs.RowMasks.{not_given_mask, desk_0_mask, own_mask, all_mask}
 use Rattle.conflict.proofs.row.row_mask.Goals as goal
 
