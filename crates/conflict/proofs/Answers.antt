@@ -115,3 +115,6 @@ module _ (ws : List ℕ) (k : ℕ) (ps : List ℕ) where
       pub answered : (qs : List ℕ) → qs ≡ ps → (r : Classified) → r ≡ classified_by (plan_of vs) t qs → r ≡ classify_result ws k ps
       unfolding classify_result
       answered qs h r g = rw (← e, ← i, ← f) (g ∙ rw (j, h))
+
+-- what the classifier's search needs
+pub ruleset questions = (plan_refused, operation_refused, belongs, answered)

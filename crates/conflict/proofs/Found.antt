@@ -16,6 +16,8 @@ use Rattle.conflict.specs.Touch.{desk_mask}
 use Rattle.conflict.specs.Cause.{cause, if_below, cause_desk, has_other, cause_cell, cause_transaction, cause_found}
 use Rattle.conflict.proofs.OtherDesks.{cause_cell_found, cause_desk_low, cause_desk_touched}
 use Rattle.conflict.proofs.CauseMeaning.{cause_transaction_found}
+use Rattle.conflict.proofs.Touching.{few_transactions}
+use Rattle.conflict.proofs.Tabled.{mask_tabled}
 
 pub if_below_some : (n v x : ℕ) → if_below n v ≡ Some x → (v < n) × (x ≡ v)
 if_below_some n v x e = let f = cond_some (ltb v n) v x e in (ltb-true v n f.0, sym f.1)
@@ -63,3 +65,15 @@ module _ (p : Plan) (d : ℕ) (cs : List ℕ) (c : ℕ) (h : if_below store_size
           let f = if_below_some store_size (cause_cell p d cs) c h in
           let g = if_below_some (length p.transactions) (cause_transaction p c o) k e in
           rw (lt-ltb (cause_cell p d cs) store_size f.0, ← f.1, g.1, desk_is)
+
+-- what the search for the cause needs
+pub ruleset parts = (
+  mask_tabled,
+  few_transactions,
+  if_below_some,
+  cell_low,
+  desk_found,
+  desk_below_desks,
+  transaction_some,
+  cause_is,
+)

@@ -9,6 +9,7 @@ use Rattle.conflict.specs.Mask.{mask_of, in_mask}
 use Rattle.conflict.specs.Touch.{row_touched, cell_touched, step_touches}
 use Rattle.conflict.specs.Written.{row_given, cell_given}
 use Rattle.conflict.proofs.Masks.{in_mask_of}
+use Rattle.conflict.proofs.Marks.{names_none}
 
 -- a row that no operation gives is touched by no desk
 pub row_not_given : (n : ℕ) (q : Partitioning) (r : Source) (row d : ℕ) → row_given r row ≡ false → row_touched n q r row d ≡ false
@@ -41,3 +42,6 @@ module _ (n : ℕ) (q : Partitioning) (a : Access) (t k : ℕ) (r : Source) (c d
   unfolding step_touches
   given_touches e h m i =
       ap (λ (x : ℕ). in_mask x d) i ∙ in_mask_of n (row_touched n q r (c / 4 % 32)) d h ∙ sym (cell_by_given n q t k r c d ∙ rw e)
+
+-- what the search for a step's touch needs
+pub ruleset touches = (names_none, not_given_touches, given_touches)

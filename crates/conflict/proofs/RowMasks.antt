@@ -74,3 +74,6 @@ unfolding row_touched
 all_mask n hi q i e (param j) f row g =
     rw e (all_law n hi ∙ mask_ext n _ _ (λ d. simp (ne_eqb j i (λ h. f (ap param h)))))
 all_mask n hi q i e (fixed v) f row g = rw e (all_law n hi ∙ mask_ext n _ _ (λ d. simp g))
+
+-- what the search for the mask of a row needs
+pub ruleset row_masks = (not_given_mask, desk_0_mask, own_mask, all_mask)

@@ -65,6 +65,7 @@ fn cause_cell(masks: &MaskTable, operation: &Operation, desk: u32) -> Option<u32
 }
 
 // Whether some operation of this desk makes this cell the one of the step.
+#[tactic(auto, using(crate::proofs::GivenCells::touches))]
 fn step_touches(step: Step, cell: u32, desk: u32, partitioning: Partitioning, desks: u32) -> bool
     requires { (desk < desks) × (desks ≤ 8) }
     ensures { result ≡ step_touches desks (part_from partitioning) (step_from step) cell desk }
@@ -103,6 +104,7 @@ fn cause_transaction(plan: &Plan, cell: u32, desk: u32) -> Option<usize>
 }
 
 // The cause of an operation of this desk, if it has one.
+#[tactic(auto, using(crate::proofs::Found::parts))]
 pub(crate) fn cause_of(masks: &MaskTable, operation: &Operation, desk: u32) -> Option<Cause>
     ensures { result ≡ cause_found (the_plan masks.now.plan) desk
         (cells_named writes operation.now.params (the_transaction operation.now.transaction).steps) }

@@ -67,6 +67,7 @@ impl<'a> MaskTable<'a> {
 }
 
 // Whether an operation is free: it may write no cell, and no operation may write a cell that it may read. No table is filled.
+#[tactic(auto, using(crate::proofs::Tabled::writing_not_free, crate::proofs::Tabled::reading_free))]
 pub fn is_free(plan: &Plan, operation: &Operation) -> bool
     ensures { result ≡ is_free (class_by (the_plan plan.now)
         (the_transaction operation.now.transaction) operation.now.params) }
@@ -75,6 +76,7 @@ pub fn is_free(plan: &Plan, operation: &Operation) -> bool
 }
 
 // The class of an operation that writes, of one of the plan's transactions and of this desk: it is global if it has a cause.
+#[tactic(auto, using(crate::proofs::Answers::answered_local, crate::proofs::Answers::answered_global))]
 fn writer_class(plan: &Plan, operation: &Operation, desk: u32) -> Class
     requires { Memᴰ (the_transaction operation.now.transaction) (the_plan plan.now).transactions
         × (list_any is_write (the_transaction operation.now.transaction).steps ≡ true)
@@ -106,6 +108,7 @@ fn class_of(plan: &Plan, operation: &Operation) -> Class
 }
 
 // The classifier: the verdict on the plan, questions 7 and 8, then the class, the desk and the cause.
+#[tactic(auto, using(crate::proofs::Answers::questions))]
 pub fn classify(words: &[u32], transaction: u32, params: [u32; 4]) -> Result<Class, Refusal>
     ensures { classified_of result ≡ classify_result words.now transaction params }
 {

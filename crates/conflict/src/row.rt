@@ -18,6 +18,7 @@ pub(crate) fn row_given(source: Source, row: u32) -> bool
 }
 
 // The desks with an operation that gives this row to the source.
+#[tactic(auto, using(crate::proofs::RowMasks::row_masks))]
 pub(crate) fn row_mask(source: Source, row: u32, partitioning: Partitioning, desks: u32) -> u8
     requires { (1 ≤ desks) × (desks ≤ 8) }
     ensures { result ≡ mask_of desks (row_touched desks (part_from partitioning) (source_from source) row) }
@@ -27,7 +28,7 @@ pub(crate) fn row_mask(source: Source, row: u32, partitioning: Partitioning, des
     }
     match partitioning {
         Partitioning::Unpartitioned | Partitioning::Open => 1,
-        Partitioning::Parameter(i) if source == Source::Parameter(i) => { 1 << (row % desks) }
+        Partitioning::Parameter(i) if source == Source::Parameter(i) => 1 << (row % desks),
         Partitioning::Parameter(_) => u8::MAX >> (8 - desks),
     }
 }
