@@ -26,7 +26,8 @@ use Rattle.conflict.specs.Written.{written}
 use Rattle.conflict.specs.Class.{Class, is_write, free, local, global, is_free, class_by}
 use Rattle.conflict.specs.declared.cause.Cause.{Cause}
 use Rattle.conflict.specs.Cause.{cause_cell, cause_at, cause_by, cause_found}
-use Rattle.conflict.specs.Answer.{Classified, classed_free, classed_local, classed_global, class_refused, with_cause, classified_by, classify_result}
+use Rattle.conflict.specs.Answer.{Classified, classed_free, classed_local, classed_global, class_refused}
+use Rattle.conflict.specs.Answer.{with_cause, classified_by, classify_result}
 use Rattle.conflict.proofs.InBits.{steps_fit}
 use Rattle.conflict.proofs.Tabled.{operation_low}
 use Rattle.conflict.proofs.Touching.{touched, some_desk, few_desks}
@@ -99,11 +100,13 @@ module _ (ws : List ℕ) (k : ℕ) (ps : List ℕ) where
 
   -- by the words of the plan that was read
   module _ (e : accepted ≡ plan_verdict ws) (vs : List ℕ) (i : vs ≡ ws) where
-    pub operation_refused : (q : ℕ) → refused q ≡ operation_verdict (plan_of vs) (operation k ps) → class_refused q ≡ classify_result ws k ps
+    pub operation_refused : (q : ℕ) → refused q ≡ operation_verdict (plan_of vs) (operation k ps)
+        → class_refused q ≡ classify_result ws k ps
     unfolding classify_result
     operation_refused q f = rw (← e, ← i, ← f)
 
-    module _ (f : accepted ≡ operation_verdict (plan_of vs) (operation k ps)) (t : Transaction) (j : t ≡ transaction_at (plan_of vs) k) where
+    module _ (f : accepted ≡ operation_verdict (plan_of vs) (operation k ps))
+        (t : Transaction) (j : t ≡ transaction_at (plan_of vs) k) where
       -- the transaction is one of the plan's
       pub belongs : Memᴰ t (plan_of vs).transactions
       unfolding operation_verdict transaction_exists

@@ -40,8 +40,8 @@ module _ (plan : List ℕ) (n : ℕ) (l : List ℕ) where
       (λ c h. sym (ap (bit_or (get_or l c 0)) (mask_none n) ∙ or_zero_r (get_or l c 0)) ∙ none.cells c h)
 
   -- the first of the transactions is entered, its steps are gone through, and it is left
-  pub enter : (t : Transaction) (ts all : List Transaction) → all ≡ t ∷ ts → (q : Partitioning) → q ≡ t.part → (ss : List Step) → ss ≡ t.steps
-      → Filling plan n all l → FillingIn plan n q ss ts l
+  pub enter : (t : Transaction) (ts all : List Transaction) → all ≡ t ∷ ts → (q : Partitioning) → q ≡ t.part
+      → (ss : List Step) → ss ≡ t.steps → Filling plan n all l → FillingIn plan n q ss ts l
   enter t ts all e q i ss j f =
       let here : Filling plan n (t ∷ ts) l = rw e at f in
       rw (i, j) record { long = here.long; cells = here.cells }

@@ -55,7 +55,8 @@ module _ (p : Plan) (d : ℕ) (cs : List ℕ) (c : ℕ) (h : if_below store_size
       desk_below_desks = rw desk_is (cause_desk_low p c d cell_has_other)
 
       pub transaction_found : cause_transaction p c o < length p.transactions
-      transaction_found = rw desk_is (cause_transaction_found p c (cause_desk (desk_mask p c) d) (cause_desk_touched p c d cell_has_other)).0
+      transaction_found =
+          rw desk_is (cause_transaction_found p c (cause_desk (desk_mask p c) d) (cause_desk_touched p c d cell_has_other)).0
 
       pub transaction_some : if_below (length p.transactions) (cause_transaction p c o) ≡ None → ⊥
       transaction_some e = let n = if_below_none (length p.transactions) (cause_transaction p c o) e in omega (arith, n, transaction_found)

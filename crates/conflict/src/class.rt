@@ -33,10 +33,7 @@ pub enum Class {
 fn is_write(step: Step) -> bool
     ensures { result ≡ is_write (step_from step) }
 {
-    match step {
-        Step::Cell(Access::Write, _, _, _) => true,
-        _ => false,
-    }
+    matches!(step, Step::Cell(Access::Write, _, _, _))
 }
 
 // Whether the transaction has a write step.

@@ -13,6 +13,7 @@ returns c =
     let test = λ (k : ℕ). has_other (get_or c.args.masks.now.masks k 0) c.args.desk in
     sym (option_map_id c.min.result)
     ∙ min_from_yields_List _ c.min.result c.min.ensures.ran
-    (YieldsList-from_filter _ test (YieldsList-at c.filter.ensures.source (YieldsList-from_first (λ x. x) the_cells _ c.cells.ensures)) c.filter.ensures.closure
-    (λ x r q k. search (rules, tests)))
+    (YieldsList-from_filter _ test
+    (YieldsList-at c.filter.ensures.source (YieldsList-from_first (λ x. x) the_cells _ c.cells.ensures))
+    c.filter.ensures.closure (λ x r q k. search (rules, tests)))
     ∙ cause_cell_tabled c.args.operation.now.transaction _ c.args.operation.now.passes _ _ c.args.masks.now.filled _

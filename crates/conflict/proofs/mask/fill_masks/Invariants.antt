@@ -7,7 +7,8 @@ use Rattle.conflict.proofs.mask.fill_masks.Given as goal
 
 abbrev pub invariant-loop-step : goal.invariant-loop-step
 invariant-loop-step l =
-    FillingIn l.plan.words.now l.desks (part_from l.partitioning) (the_steps l.step-iterator) (the_transactions l.transaction-iterator) l.masks
+    FillingIn l.plan.words.now l.desks (part_from l.partitioning) (the_steps l.step-iterator)
+    (the_transactions l.transaction-iterator) l.masks
 
 abbrev pub invariant-loop-transaction : goal.invariant-loop-transaction
 invariant-loop-transaction l = Filling l.plan.words.now l.desks (the_transactions l.transaction-iterator) l.masks
