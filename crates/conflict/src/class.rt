@@ -8,7 +8,6 @@ ghost use mathlib.Core.List.{Memᴰ};
 ghost use Rattle.std.specs.List.{list_any};
 ghost use Rattle.plan.specs.Plan.{writes};
 ghost use Rattle.plan.specs.Accepted.{the_plan};
-ghost use Rattle.plan.specs.Step.{step_from};
 ghost use Rattle.plan.specs.Transaction.{the_transaction};
 ghost use Rattle.operation.specs.Operation.{desk_by, cells_named};
 ghost use Rattle.conflict.specs.Class.{class_by, is_write, one_desk_each, is_free, is_global};
@@ -29,18 +28,13 @@ pub enum Class {
     Global(u32, Cause),
 }
 
-// Whether this step writes.
-fn is_write(step: Step) -> bool
-    ensures { result ≡ is_write (step_from step) }
-{
-    matches!(step, Step::Cell(Access::Write, _, _, _))
-}
-
 // Whether the transaction has a write step.
 pub fn has_write(transaction: &Transaction) -> bool
     ensures { result ≡ list_any is_write (the_transaction transaction.now).steps }
 {
-    transaction.steps().any(|step| is_write(step))
+    transaction
+        .steps()
+        .any(|step| matches!(step, Step::Cell(Access::Write, _, _, _)))
 }
 
 // Whether each cell that the operation may write has one desk in its mask: the number of desks is the count of ones in it.
