@@ -1,18 +1,17 @@
 -- A record put in before others of a row, which move up.
 --     inserted_record      the words have moved up by one record from its place on, and it is stored at its place
 -- Assumes nothing.
-use mathlib.Core.Path.{◌≡◌, refl, sym, ◌∙◌, ap}
+use mathlib.Core.Path.{◌≡◌, sym, ◌∙◌, ap}
 use mathlib.Core.Logic.{◌≢◌, ◌⊎◌, inl, inr, ⊎_elim}
 use Prim.Native.Nat.{ℕ, ◌+◌, ◌-◌, ◌*◌, ◌<◌, ◌≤◌}
 use native.Mathlib.Omega.{arith}
 use mathlib.Core.List.{List}
-use lib.ListN.{length, get_or, set, take, drop, length-set, get_or-append}
-use lib.Seq.{ext_get_or, get_or-take, get_or-drop, get_or-set_same, get_or-set_other, length-take-le}
-use Rattle.std.specs.List.{CopiedTo, SameBelow, SameFrom}
-use Rattle.std.proofs.lemmas.List.{get_or-append_right}
+use lib.ListN.{length, get_or, set, take, length-set}
+use lib.Seq.{ext_get_or, get_or-take, get_or-set_same, get_or-set_other, length-take-le}
+use Rattle.std.specs.List.{CopiedTo, SameBelow, SameFrom, insert}
 use Rattle.std.proofs.lemmas.List.Edits.{length-insert, get_or-insert_below, get_or-insert_at, get_or-insert_above}
-use Rattle.lists.specs.Lists.{inserted, overwritten}
-use Rattle.lists.proofs.Laws.{by_same, by_less, length_tabulate, get_or_tabulate, overwritten_length}
+use Rattle.lists.specs.Lists.{overwritten}
+use Rattle.lists.proofs.Laws.{by_same, by_less, length_tabulate, get_or_tabulate, overwritten_length, get_or_overwritten, get_or_behind}
 use Rattle.queue.specs.declared.record.Request.{Request}
 use Rattle.queue.specs.Queue.{no_request, record_at}
 use Rattle.queue.specs.Words.{record_in, records_in, stored_in}
@@ -39,7 +38,7 @@ module _ (ws vs : List ℕ) (p w : ℕ) (low : p ≤ w) (high : w < 32) (long : 
 
     -- the records that wait, with the new one, and behind them the others
     abbrev front : List Request
-    front = inserted p r (take w old)
+    front = insert (take w old) p r
 
     abbrev new : List Request
     new = overwritten front old
@@ -51,7 +50,7 @@ module _ (ws vs : List ℕ) (p w : ℕ) (low : p ≤ w) (high : w < 32) (long : 
     size = length-insert (take w old) p r (omega (arith, waiting)) ∙ ap (λ (n : ℕ). n + 1) waiting
 
     in_front : (b : ℕ) → b ≤ w → record_at new b ≡ record_at front b
-    in_front b u = get_or-append front (drop (length front) old) no_request b (omega (arith, size))
+    in_front b u = get_or_overwritten front old b no_request (omega (arith, size))
 
     record_before : (b : ℕ) → b < p → record_at new b ≡ record_in vs b
     record_before b l =
@@ -68,8 +67,7 @@ module _ (ws vs : List ℕ) (p w : ℕ) (low : p ≤ w) (high : w < 32) (long : 
 
     record_behind : (b : ℕ) → w < b → b < 32 → record_at new b ≡ record_in vs b
     record_behind b l h =
-        get_or-append_right front (drop (length front) old) (length front) b no_request refl (omega (arith, size))
-        ∙ get_or-drop (length front) old (b - length front) no_request ∙ ap (record_at old) (omega (arith, size))
+        get_or_behind front old b no_request (omega (arith, size))
         ∙ get_or_tabulate 32 (record_in ws) b no_request h ∙ sym (kept_record b (inr l))
 
     record_other : (b : ℕ) → b ≢ p → b < 32 → record_at new b ≡ record_in vs b
@@ -86,7 +84,7 @@ module _ (ws vs : List ℕ) (p w : ℕ) (low : p ≤ w) (high : w < 32) (long : 
         (λ n. get_or-set_other (records_in vs) p b r no_request n ∙ get_or_tabulate 32 (record_in vs) b no_request h
         ∙ sym (record_other b n h))
 
-    pub inserted_record : records_in (stored_in vs p r) ≡ overwritten (inserted p r (take w (records_in ws))) (records_in ws)
+    pub inserted_record : records_in (stored_in vs p r) ≡ overwritten (insert (take w (records_in ws)) p r) (records_in ws)
     inserted_record =
         let stored = length-set (records_in vs) p r ∙ length_tabulate 32 (record_in vs) in
         let whole = overwritten_length front old (omega (arith, size, length_tabulate 32 (record_in ws))) in

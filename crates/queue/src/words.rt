@@ -1,7 +1,8 @@
 // The queue as plain words, six a record: one record read, one stored, one put in before others, and how many words a queue of some
 // length has.
 ghost use Rattle.std.specs.Prelude.{◌≡◌, ◌<◌, ◌+◌, ◌≤◌, length, get_or, take};
-ghost use Rattle.lists.specs.Lists.{overwritten, inserted};
+ghost use Rattle.std.specs.List.{insert};
+ghost use Rattle.lists.specs.Lists.{overwritten};
 ghost use Rattle.queue.specs.Queue.{queue_size};
 ghost use Rattle.queue.specs.Words.{record_in, records_in, words_of, over_record, stored_in, record_size, queue_words};
 
@@ -69,7 +70,7 @@ pub fn store_in(row: &mut [u32], at: usize, request: Request)
 #[tactic(auto, using(crate::proofs::Inserting::inserted_record))]
 pub fn insert_in(row: &mut [u32], place: usize, waiting: usize, request: Request)
     requires { (place ≤ waiting) × (waiting < queue_size) × (length row.old ≡ queue_words) }
-    ensures { records_in row.new ≡ overwritten (inserted place request (take waiting (records_in row.old)))
+    ensures { records_in row.new ≡ overwritten (insert (take waiting (records_in row.old)) place request)
         (records_in row.old) }
 {
     row.copy_within(

@@ -1,20 +1,15 @@
 -- Laws of `&&`, `||` and of tests that the proofs of every layer cite.
 -- Assumes nothing.
-use mathlib.Core.Path.{◌≡◌, refl, sym, subst}
-use mathlib.Core.Bool.{Bool, true, false, ◌&&◌, ◌||◌, false≢true}
+use mathlib.Core.Path.{◌≡◌, refl, sym}
+use mathlib.Core.Bool.{Bool, true, false, ◌&&◌, ◌||◌}
 use lib.Dec.{T}
+use Rattle.std.proofs.lemmas.Bool.{and_parts}
 
 pub and_fst : (a b : Bool) → (a && b) ≡ true → a ≡ true
-and_fst true b e = refl
-and_fst false b e = e
+and_fst a b e = (and_parts a b e).0
 
 pub and_snd : (a b : Bool) → (a && b) ≡ true → b ≡ true
-and_snd true b e = e
-and_snd false b e = absurd (false≢true e)
-
-pub and_true : (a b : Bool) → a ≡ true → b ≡ true → (a && b) ≡ true
-and_true true b e f = f
-and_true false b e f = e
+and_snd a b e = (and_parts a b e).1
 
 pub or_interchange : (a b c d : Bool) → ((a || b) || (c || d)) ≡ ((a || c) || (b || d))
 or_interchange true b c d = refl
@@ -31,6 +26,3 @@ bool_ext false false f g = refl
 pub T_true : (b : Bool) → T b → b ≡ true
 T_true true h = refl
 T_true false h = absurd h
-
-pub true_T : (b : Bool) → b ≡ true → T b
-true_T b e = subst T (sym e) tt

@@ -7,7 +7,7 @@ use mathlib.Core.List.Memᴰ
 use mathlib.Core.List.{List, [], ◌∷◌, ◌++◌, Memᴰ}
 use native.Mathlib.Omega.{arith}
 use lib.ListN.{length, get_or, get_or-append, get_or-eq_default, length-append}
-use lib.Seq.{get_or-append_seam}
+use Rattle.std.proofs.lemmas.List.{get_or_push}
 use Rattle.lists.proofs.Laws.Tests.{by_same, by_less}
 
 -- ---- nothing in a joined list
@@ -25,9 +25,6 @@ none_right (x ∷ xs) ys h = cc
 pub one_more : {A : Type 0} (xs : List A) (x : A) → suc (length xs) ≡ length (xs ++ (x ∷ []))
 one_more xs x = simp length-append (omega arith)
 
-pub snoc_own : {A : Type 0} (xs : List (List A)) (x : List A) → get_or (xs ++ (x ∷ [])) (length xs) [] ≡ x
-snoc_own xs x = get_or-append_seam xs x [] []
-
 pub snoc_other : {A : Type 0} (xs : List (List A)) (x : List A) (i : ℕ) → i ≢ length xs → get_or (xs ++ (x ∷ [])) i [] ≡ get_or xs i []
 snoc_other xs x i h =
     by_less i (length xs) (λ l. get_or-append xs (x ∷ []) [] i l)
@@ -35,7 +32,8 @@ snoc_other xs x i h =
 
 pub snoc_nil : {A : Type 0} (xs : List (List A)) (i : ℕ) → get_or (xs ++ ([] ∷ [])) i [] ≡ get_or xs i []
 snoc_nil {A} xs i =
-    by_same i (length xs) (λ e. rw e (snoc_own xs [] ∙ sym (get_or-eq_default xs [] (omega arith)))) (λ e. snoc_other xs [] i e)
+    by_same i (length xs) (λ e. rw e (get_or_push xs [] [] (length xs) refl
+    ∙ sym (get_or-eq_default xs [] (omega arith)))) (λ e. snoc_other xs [] i e)
 
 -- ---- its members are the entry and those before
 

@@ -2,18 +2,15 @@
 -- Assumes nothing.
 use mathlib.Core.Path.{◌≡◌, refl, ◌∙◌, sym, ap, ap₂}
 use mathlib.Core.List.{List, [], ◌∷◌, ◌++◌, append_assoc}
-use Prim.Native.Nat.{ℕ, zero, suc, ◌+◌, ◌-◌, ◌≤◌, ◌<◌}
+use Prim.Native.Nat.{ℕ, suc, ◌+◌, ◌-◌, ◌≤◌, ◌<◌}
 use native.Mathlib.Numerals.{add-one}
 use native.Mathlib.Omega.{arith}
-use lib.ListN.{length, get_or, set, take, drop, length-append, length-drop}
+use lib.ListN.{length, get_or, set, drop, length-append, length-drop}
 use lib.Seq.{drop-cons, set_at, append_snoc, drop-append-add, drop-drop}
+use Rattle.std.proofs.lemmas.List.{get_or_append_left, get_or-append_right, get_or-drop}
+use Rattle.std.specs.List.{insert}
+use Rattle.std.proofs.lemmas.List.Edits.{length-insert, get_or-insert_below}
 use Rattle.lists.specs.Lists.Overwritten.{overwritten}
-
--- one that is stored at its place stands behind those before it, and these are written over themselves
-pub stored_at : {A : Type 0} (l : List A) (i : ℕ) (x : A) → i < length l → set l i x ≡ overwritten (take i l ++ (x ∷ [])) l
-stored_at [] i x h = absurd (omega arith)
-stored_at (y ∷ l) zero x h = refl
-stored_at {A} (y ∷ l) (suc i) x h = ap (λ (t : List A). y ∷ t) (stored_at l i x (omega arith))
 
 -- one word more
 pub write_next : (p o : List ℕ) (x : ℕ) → length p < length o → set (overwritten p o) (length p) x ≡ overwritten (p ++ (x ∷ [])) o
@@ -45,3 +42,19 @@ overwritten_twice ws p o h =
     ap (λ (t : List ℕ). ws ++ t)
     (ap (λ (i : ℕ). drop i (overwritten p o)) k ∙ drop-append-add p (drop (length p) o) m ∙ drop-drop m (length p) o
     ∙ ap (λ (i : ℕ). drop i o) (sym k))
+
+-- the words in front are those that were written, and those behind stand as they stood
+module _ {A : Type 0} (p o : List A) (i : ℕ) (d : A) where
+  pub get_or_overwritten : i < length p → get_or (overwritten p o) i d ≡ get_or p i d
+  get_or_overwritten h = get_or_append_left p (drop (length p) o) d i h
+
+  pub get_or_behind : length p ≤ i → get_or (overwritten p o) i d ≡ get_or o i d
+  get_or_behind h =
+      get_or-append_right p (drop (length p) o) (length p) i d refl h
+      ∙ get_or-drop (length p) o (i - length p) d ∙ ap (λ (k : ℕ). get_or o k d) (omega arith)
+
+-- before an element that is put in
+pub get_or_insert_before : {A : Type 0} (xs : List A) (i : ℕ) (o : List A) (x : A) (j : ℕ) (d : A) → i ≤ length xs → j < i
+    → get_or (overwritten (insert xs i x) o) j d ≡ get_or xs j d
+get_or_insert_before xs i o x j d h l =
+    get_or_overwritten (insert xs i x) o j d (omega (arith, length-insert xs i x h)) ∙ get_or-insert_below xs i x d j l h

@@ -1,15 +1,11 @@
--- What is left of a list from a place on, lent to be written, and the list with what came back.
+-- A list whose rest from a place on was lent to be written, with what came back.
 -- Assumes nothing.
 use mathlib.Core.Path.{◌≡◌, ◌∙◌, ap}
 use mathlib.Core.List.{List, ◌++◌, append-nil}
 use Prim.Native.Nat.{ℕ, ◌-◌, ◌≤◌}
 use native.Mathlib.Omega.{arith}
 use lib.ListN.{length, take, drop, length-drop, drop_of_length-le}
-use lib.Seq.{take_all}
 use borrow.Rule.Slice.PartMut.{put_mid}
-
-pub take_remainder : (o : List ℕ) (k : ℕ) → take (length o - k) (drop k o) ≡ drop k o
-take_remainder o k = take_all (length o - k) (drop k o) (omega (arith, length-drop k o))
 
 pub put_remainder : (o p : List ℕ) (k : ℕ) → put_mid k (length o - k) o p ≡ take k o ++ p
 put_remainder o p k =

@@ -1,36 +1,27 @@
 -- A table that holds f at each index is the list of f's values, also where it is filled one by one.
 -- Assumes nothing.
-use mathlib.Core.Path.{◌≡◌, refl, ◌∙◌, sym, ap}
-use mathlib.Core.List.{List, [], ◌∷◌, ◌++◌}
-use mathlib.Core.Logic.{⊎_elim}
-use Prim.Native.Nat.{ℕ, zero, suc, ◌+◌, ◌≤◌, ◌<◌}
-use native.Mathlib.Nat.{le_of_suc-le-suc, not-suc-le-zero, eq-or-lt_of_le}
+use mathlib.Core.Path.{◌≡◌, ◌∙◌, sym, ap}
+use mathlib.Core.List.{List}
+use Prim.Native.Nat.{ℕ, ◌+◌, ◌≤◌, ◌<◌}
 use native.Mathlib.Omega.{arith}
-use lib.ListN.{length, get_or, set, length-set, length-append, get_or-append}
-use lib.Seq.{ext_get_or, get_or-append_seam, get_or-set_same, get_or-set_other}
+use lib.ListN.{length, get_or, set, length-set}
+use lib.Seq.{get_or-set_same, get_or-set_other}
+use Rattle.std.proofs.lemmas.List.FromFn.{length-map-range_with_len, get_or-map-range_with_len, fill_by_all}
 use Rattle.lists.specs.Lists.Tabulate.{tabulate}
 use Rattle.lists.proofs.Laws.Tests.{by_same}
 
 module _ {A : Type 0} where
   pub length_tabulate : (n : ℕ) (f : ℕ → A) → length (tabulate n f) ≡ n
   unfolding tabulate
-  length_tabulate zero f = refl
-  length_tabulate (suc n) f = length-append (tabulate n f) (f n ∷ []) ∙ omega (arith, length_tabulate n f)
+  length_tabulate n f = length-map-range_with_len f 0 n
 
   pub get_or_tabulate : (n : ℕ) (f : ℕ → A) (i : ℕ) (d : A) → i < n → get_or (tabulate n f) i d ≡ f i
   unfolding tabulate
-  get_or_tabulate zero f i d h = absurd (not-suc-le-zero h)
-  get_or_tabulate (suc n) f i d h =
-      ⊎_elim
-      (λ (e : i ≡ n). ap (λ (j : ℕ). get_or (tabulate n f ++ (f n ∷ [])) j d) (e ∙ sym (length_tabulate n f))
-      ∙ get_or-append_seam (tabulate n f) (f n) [] d ∙ ap f (sym e))
-      (λ (l : i < n). get_or-append (tabulate n f) (f n ∷ []) d i (omega (arith, length_tabulate n f)) ∙ get_or_tabulate n f i d l)
-      (eq-or-lt_of_le (le_of_suc-le-suc h))
+  get_or_tabulate n f i d h = get_or-map-range_with_len f 0 n i i d h (omega arith)
 
   pub whole_table : (n : ℕ) (f : ℕ → A) (l : List A) (d : A) → length l ≡ n → ((i : ℕ) → i < n → get_or l i d ≡ f i) → l ≡ tabulate n f
-  whole_table n f l d e h =
-      ext_get_or d l (tabulate n f) (e ∙ sym (length_tabulate n f))
-      (λ i k. let s : i < n = omega arith in h i s ∙ sym (get_or_tabulate n f i d s))
+  unfolding tabulate
+  whole_table n f l d e h = fill_by_all f l n d e h
 
 -- ---- a table of numbers while it is filled from the front: the entries before place k are f's values
 

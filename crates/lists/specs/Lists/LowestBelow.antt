@@ -1,6 +1,6 @@
--- The lowest number below n that passes a test; n if none does.
-use Rattle.std.specs.Prelude.{ℕ, zero, suc, Bool, cond}
+-- The lowest number below n that passes a test; n if none does. It is opened only where a law of it is proved.
+use Rattle.std.specs.Prelude.{ℕ, Bool}
+use Rattle.std.specs.List.{position_or_len, range_with_len}
 
 unfoldable pub lowest_below : ℕ → (ℕ → Bool) → ℕ
-lowest_below zero f = 0
-lowest_below (suc n) f = cond (f 0) 0 (suc (lowest_below n (λ i. f (suc i))))
+lowest_below n f = position_or_len f (range_with_len 0 n)

@@ -1,10 +1,7 @@
--- A property of every element of a list, and of every pair of them, the earlier first.
+-- A property of every pair of elements of a list, the earlier first. (Of every element it is the library's `AllByRecursion`.)
 use Rattle.std.specs.Prelude.{List, [], ◌∷◌}
-
-abbrev pub All : {A : Type 0} → (A → Type 0) → List A → Type 0
-All P [] = Unit {0}
-All P (x ∷ xs) = P x × All P xs
+use Rattle.std.specs.List.{AllByRecursion}
 
 abbrev pub Pairs : {A : Type 0} → (A → A → Type 0) → List A → Type 0
 Pairs R [] = Unit {0}
-Pairs R (x ∷ xs) = All (R x) xs × Pairs R xs
+Pairs R (x ∷ xs) = AllByRecursion (R x) xs × Pairs R xs
