@@ -10,7 +10,7 @@ use lib.Count.{ones}
 use lib.Dec.{eqb}
 use borrow.Author.Tests.{eq-eqb, eqb-true}
 use Rattle.verdict.specs.Verdict.{accepted}
-use Rattle.lists.proofs.Laws.{every_member, member_every, member_some, some_member, by_same}
+use Rattle.lists.proofs.Laws.{all_member, member_all, member_any, any_member, by_same}
 use Rattle.std.specs.List.{list_any}
 use Rattle.plan.specs.Plan.{Source, reads, writes, Step, cell, operand, tells, Plan}
 use Rattle.plan.specs.Decode.{plan_of}
@@ -37,7 +37,7 @@ write_shape tells e = absurd (false≢true e)
 module _ (p : Plan) (o : Operation) where
   writes_some : list_any is_write (transaction_of p o).steps ≡ true → (c : ℕ) × MayWrite p o c
   writes_some e =
-      let m = some_member is_write (transaction_of p o).steps e in
+      let m = any_member is_write (transaction_of p o).steps e in
       let w = write_shape m.0 m.2 in (
         _,
         of_names writes o.params (transaction_of p o).steps w.0 w.1 w.2
@@ -47,7 +47,7 @@ module _ (p : Plan) (o : Operation) where
   writes_none : list_any is_write (transaction_of p o).steps ≡ false → (c : ℕ) → MayWrite p o c → ⊥
   writes_none e c m =
       let n = names_of writes o.params (transaction_of p o).steps c m in
-      false≢true (sym e ∙ member_some is_write _ (transaction_of p o).steps n.step refl)
+      false≢true (sym e ∙ member_any is_write _ (transaction_of p o).steps n.step refl)
 
 module _ (ws : List ℕ) (e : plan_verdict ws ≡ accepted) (o : Operation) (i : IsOperation (plan_of ws) o) where
   -- no operation may write a cell that it may read
@@ -64,22 +64,22 @@ module _ (ws : List ℕ) (e : plan_verdict ws ≡ accepted) (o : Operation) (i :
 
   unwritten : list_any (written (plan_of ws)) (read_set (plan_of ws) o) ≡ false → Unwritten
   unwritten h c m o' i' w =
-      false≢true (sym h ∙ member_some (written (plan_of ws)) c (read_set (plan_of ws) o) m (gives_written ws e c (o', i', w)))
+      false≢true (sym h ∙ member_any (written (plan_of ws)) c (read_set (plan_of ws) o) m (gives_written ws e c (o', i', w)))
 
   of_unwritten : Unwritten → list_any (written (plan_of ws)) (read_set (plan_of ws) o) ≡ true → ⊥
   of_unwritten h r =
-      let m = some_member (written (plan_of ws)) (read_set (plan_of ws) o) r in
+      let m = any_member (written (plan_of ws)) (read_set (plan_of ws) o) r in
       let w = written_gives ws e m.0 m.2 in h m.0 m.1 w.0 w.1 w.2
 
   one_desk_no_other : one_desk_each (desk_mask (plan_of ws)) (write_set (plan_of ws) o) ≡ true → NoOtherTouches
   one_desk_no_other h c m o' i' other t =
-      let k = (one_desk ws e c).0 (eqb-true _ _ (every_member (λ c. eqb (ones (desk_mask (plan_of ws) c)) 1)
+      let k = (one_desk ws e c).0 (eqb-true _ _ (all_member (λ c. eqb (ones (desk_mask (plan_of ws) c)) 1)
       (write_set (plan_of ws) o) c h m)) in
       other (k.1.1 o' i' t ∙ sym (k.1.1 o i (inr m)))
 
   no_other_one_desk : NoOtherTouches → one_desk_each (desk_mask (plan_of ws)) (write_set (plan_of ws) o) ≡ true
   no_other_one_desk h =
-      member_every (λ c. eqb (ones (desk_mask (plan_of ws) c)) 1) (write_set (plan_of ws) o)
+      member_all (λ c. eqb (ones (desk_mask (plan_of ws) c)) 1) (write_set (plan_of ws) o)
       (λ c m. eq-eqb _ _ ((one_desk ws e c).1 (
         desk_of (plan_of ws) o,
         ((o, i, refl, inr m), λ o' i' t. by_same _ _ (λ q. q) (λ q. absurd (h c m o' i' q t))),

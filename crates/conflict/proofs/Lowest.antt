@@ -17,7 +17,8 @@ use Rattle.std.specs.List.{list_any, filter, fold, reduce, position_or_len}
 use Rattle.std.proofs.Math.Nat.{min-le_left, min-le_right}
 use Rattle.std.proofs.lemmas.List.Sums.{position_or_len_is}
 use Rattle.lists.specs.Lists.{lowest_below}
-use Rattle.lists.proofs.Laws.{and_fst, and_snd, and_true, by_less, eqb_self, some_member, member_some, select_member}
+use Rattle.std.proofs.lemmas.Bool.{and_from, eq-eqb}
+use Rattle.lists.proofs.Laws.{and_fst, and_snd, by_less, any_member, member_any, filter_member}
 use Rattle.lists.proofs.Laws.{lowest_below_is, lowest_below_past, lowest_below_le, lowest_below_fails, lowest_below_passes}
 use Rattle.conflict.specs.Cause.{if_below}
 
@@ -86,7 +87,7 @@ module _ (n : ℕ) (f g : ℕ → Bool) (cs : List ℕ) (low : (c : ℕ) → Mem
 
   kept : (c : ℕ) → passes c ≡ true → Memᴰ c (filter g cs)
   kept c e =
-      let m = some_member (eqb c) cs (and_fst (list_any (eqb c) cs) (f c) e) in
+      let m = any_member (eqb c) cs (and_fst (list_any (eqb c) cs) (f c) e) in
       let i : Memᴰ c cs = subst (λ (x : ℕ). Memᴰ x cs) (sym (eqb-true c m.0 m.2)) m.1 in
       passes_kept g c cs i (same c i ∙ and_snd (list_any (eqb c) cs) (f c) e)
 
@@ -106,9 +107,9 @@ module _ (n : ℕ) (f g : ℕ → Bool) (cs : List ℕ) (low : (c : ℕ) → Mem
       go (x ∷ xs) e =
           let least = fold min x xs in
           let m : Memᴰ least (filter g cs) = rw e (least_member x xs) in
-          let i = select_member g least cs m in
+          let i = filter_member g least cs m in
           let p : passes least ≡ true =
-          and_true _ _ (member_some (eqb least) least cs i (eqb_self least)) (sym (same least i) ∙ kept_passes g least cs m) in
+          and_from _ _ (member_any (eqb least) least cs i (eq-eqb least least refl)) (sym (same least i) ∙ kept_passes g least cs m) in
           rw (
             lowest_below_is n passes least (low least i) p
                 (λ k l. fails_unless k (λ h. omega (arith, l, least_least x xs k (rw e at h)))),

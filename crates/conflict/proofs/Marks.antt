@@ -11,7 +11,8 @@ use lib.Dec.{ltb, eqb}
 use lib.ListN.{length, get_or, set, length-set}
 use lib.Seq.{get_or-set_same, get_or-set_other}
 use borrow.Author.Tests.{eq-eqb, lt-ltb, le-ltb, le-leb, eqb-true, eqb-false}
-use Rattle.lists.proofs.Laws.{lt_or_ge, by_same}
+use Rattle.std.proofs.lemmas.Bool.{cases_lt}
+use Rattle.lists.proofs.Laws.{by_same}
 use Rattle.word.specs.Field.{kind_of, table_field, column_field}
 use Rattle.plan.specs.Plan.{Source, Access, Step, cell, Partitioning}
 use Rattle.plan.specs.Step.{step_from}
@@ -125,7 +126,7 @@ module _ (n : ℕ) (q : Partitioning) (t k : ℕ) (r : Source) where
                 le-ltb (c / 4 % 32) (row + 1)
                     (omega (arith, eqb-false (c / 4 % 32) row ex)),
               ))
-              (lt_or_ge (c / 4 % 32) row)
+              (cases_lt (c / 4 % 32) row)
 
     pub marked_more : (l₀ l : List ℕ) (m : ℕ) → m ≡ mask_of n (row_touched n q r row) → Marked l₀ l row
         → Marked l₀ (set l (cell_number t row k) (bit_or (get_or l (cell_number t row k) 0) m)) (row + 1)

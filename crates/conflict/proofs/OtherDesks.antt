@@ -14,8 +14,9 @@ use lib.Count.{ones}
 use lib.Dec.{eqb}
 use borrow.Author.Tests.{eq-eqb, ne_eqb, lt-ltb, eqb-true, eqb-false, ltb-true, not-true}
 use Rattle.std.specs.List.{list_any}
-use Rattle.lists.proofs.Laws.{and_fst, and_snd, and_true, by_same, by_less, eqb_self, member_every, every_member}
-use Rattle.lists.proofs.Laws.{member_some, some_member, lowest_below_le, lowest_below_passes, lowest_below_least}
+use Rattle.std.proofs.lemmas.Bool.{and_from}
+use Rattle.lists.proofs.Laws.{and_fst, and_snd, by_same, by_less, member_all, all_member}
+use Rattle.lists.proofs.Laws.{member_any, any_member, lowest_below_le, lowest_below_passes, lowest_below_least}
 use Rattle.plan.specs.Plan.{Access, Transaction, Plan}
 use Rattle.operation.specs.Operation.{desk_by, cells_named}
 use Rattle.operation.specs.Admission.{parameters_pass}
@@ -45,7 +46,7 @@ pub own_touched : (p : Plan) (t : Transaction) (ps : List ℕ) → 1 ≤ p.desks
     → touched p c (desk_by p.desks t.part ps) ≡ true
 own_touched p t ps h m fits pass a c n =
     let d = desk_by p.desks t.part ps in
-    member_some (λ u. steps_touch p.desks u.part u.steps c d) t p.transactions m
+    member_any (λ u. steps_touch p.desks u.part u.steps c d) t p.transactions m
     (names_found p.desks t ps d h fits pass refl a c n)
 
 -- ---- the lowest other desk
@@ -75,7 +76,7 @@ module _ (p : Plan) (c d : ℕ) where
   module _ (e : ℕ) (below : e < p.desks) (differs : e ≡ d → ⊥) (t : touched p c e ≡ true) where
     touched_is_other : is_other (desk_mask p c) d e ≡ true
     unfolding is_other
-    touched_is_other = and_true _ _ (ap not (ne_eqb e d differs)) (in_mask_touched p c e below ∙ t)
+    touched_is_other = and_from _ _ (ap not (ne_eqb e d differs)) (in_mask_touched p c e below ∙ t)
 
     pub cause_desk_least : cause_desk (desk_mask p c) d ≤ e
     unfolding cause_desk
@@ -120,14 +121,14 @@ module _ (p : Plan) (d : ℕ) (cs : List ℕ) where
   cause_cell_found h =
       let c = cause_cell p d cs in
       let found = lowest_below_passes store_size (λ c. list_any (eqb c) cs && has_other (desk_mask p c) d) h in
-      let m = some_member (eqb c) cs (and_fst _ _ found) in
+      let m = any_member (eqb c) cs (and_fst _ _ found) in
       (subst (λ (x : ℕ). Memᴰ x cs) (sym (eqb-true c m.0 m.2)) m.1, and_snd (list_any (eqb c) cs) _ found)
 
   pub cause_cell_least : (c : ℕ) → Memᴰ c cs → has_other (desk_mask p c) d ≡ true → cause_cell p d cs ≤ c
   unfolding cause_cell
   cause_cell_least c m h =
       lowest_below_least store_size (λ c. list_any (eqb c) cs && has_other (desk_mask p c) d) c
-      (and_true _ _ (member_some (eqb c) c cs m (eqb_self c)) h)
+      (and_from _ _ (member_any (eqb c) c cs m (eq-eqb c c refl)) h)
 
   pub cause_cell_high : cause_cell p d cs ≤ store_size
   unfolding cause_cell
@@ -137,7 +138,7 @@ module _ (p : Plan) (d : ℕ) (cs : List ℕ) where
   module _ (below : d < p.desks) (few : p.desks ≤ 8) (own : (c : ℕ) → Memᴰ c cs → (c < store_size) × (touched p c d ≡ true)) where
     pub none_one_desk : cause_cell p d cs ≡ store_size → one_desk_each (desk_mask p) cs ≡ true
     none_one_desk z =
-        member_every (λ c. eqb (ones (desk_mask p c)) 1) cs
+        member_all (λ c. eqb (ones (desk_mask p c)) 1) cs
         (λ c m. no_other_one p d below few c (own c m).1 (λ h. omega (arith, z, (own c m).0, cause_cell_least c m h)))
 
     pub some_many_desks : cause_cell p d cs < store_size → one_desk_each (desk_mask p) cs ≡ false
@@ -147,6 +148,6 @@ module _ (p : Plan) (d : ℕ) (cs : List ℕ) where
         go true e =
             let f = cause_cell_found l in
             let c = cause_cell p d cs in
-            let i : eqb (ones (desk_mask p c)) 1 ≡ true = every_member (λ c. eqb (ones (desk_mask p c)) 1) cs c e f.0 in
+            let i : eqb (ones (desk_mask p c)) 1 ≡ true = all_member (λ c. eqb (ones (desk_mask p c)) 1) cs c e f.0 in
             absurd (other_not_one p d below c (own c f.0).1 f.1 (eqb-true (ones (desk_mask p c)) 1 i))
         go false e = refl

@@ -1,6 +1,6 @@
 -- The masks of a row, as shifts give them: each is proved by a test that antt computes over all numbers of desks.
 -- Assumes nothing.
-use mathlib.Core.Path.{◌≡◌, ◌∙◌, sym, ap}
+use mathlib.Core.Path.{◌≡◌, ◌∙◌, sym, ap, refl}
 use mathlib.Core.Bool.{Bool, true, false, ◌||◌, false≢true}
 use mathlib.Core.Logic.{◌⊎◌, inl, inr}
 use native.Mathlib.Nat.{mod-lt}
@@ -8,7 +8,8 @@ use Prim.Native.Nat.{ℕ, ◌-◌, ◌*◌, ◌/◌, ◌%◌, ◌^◌, ◌≤◌
 use native.Mathlib.Omega.{arith}
 use lib.Dec.{T, ltb, leb, eqb, eqb→eq}
 use borrow.Author.Tests.{ne_eqb, lt-leb}
-use Rattle.lists.proofs.Laws.{below, below_at, eqb_self}
+use Rattle.std.proofs.lemmas.Bool.{eq-eqb}
+use Rattle.lists.proofs.Laws.{below, below_at}
 use Rattle.plan.specs.Plan.{Source, param, fixed, Partitioning, by_param, unpartitioned, undecided}
 use Rattle.conflict.specs.Mask.{mask_of}
 use Rattle.conflict.specs.Touch.{row_touched}
@@ -65,7 +66,7 @@ desk_0_mask n lo hi q (inr e) (fixed v) row g = rw e (zero_law n lo hi ∙ mask_
 pub own_mask : (n : ℕ) → 1 ≤ n → n ≤ 8 → (q : Partitioning) (i : ℕ) → q ≡ by_param i → (r : Source) → r ≡ param i → (row : ℕ)
     → 1 * 2 ^ (row % n) % 256 ≡ mask_of n (row_touched n q r row)
 unfolding row_touched
-own_mask n lo hi q i e r f row = rw (e, f) (own_law n (row % n) hi (mod-lt row lo) ∙ mask_ext n _ _ (λ d. simp (eqb_self i)))
+own_mask n lo hi q i e r f row = rw (e, f) (own_law n (row % n) hi (mod-lt row lo) ∙ mask_ext n _ _ (λ d. simp (eq-eqb i i refl)))
 
 -- it is another, or fixed
 pub all_mask : (n : ℕ) → n ≤ 8 → (q : Partitioning) (i : ℕ) → q ≡ by_param i → (r : Source) → (r ≡ param i → ⊥) → (row : ℕ)

@@ -9,7 +9,7 @@ use lib.Dec.{ltb, eqb}
 use lib.ListN.{get_or}
 use borrow.Author.Tests.{ltb-true}
 use Rattle.std.specs.List.{list_any, filter, reduce}
-use Rattle.lists.proofs.Laws.{and_snd, every_same, every_member, get_or_tabulate}
+use Rattle.lists.proofs.Laws.{and_snd, all_same, all_member, get_or_tabulate}
 use Rattle.plan.specs.Plan.{Access, reads, writes, Step, cell, operand, tells, Transaction, Plan}
 use Rattle.plan.specs.Transaction.{the_transaction}
 use Rattle.plan.specs.declared.transaction.Transaction as declared
@@ -67,13 +67,13 @@ module _ (t : declared.Transaction) (ps : List ℕ) (pass : parameters_pass (the
   operation_low a c m =
       let rows = and_snd (unused_zero (the_transaction t).params ps) _ pass in
       ltb-true c 1024
-      (every_member (λ x. ltb x 1024) (cells_named a ps (the_transaction t).steps) c (cells_in_store a ps t.step_words.now rows) m)
+      (all_member (λ x. ltb x 1024) (cells_named a ps (the_transaction t).steps) c (cells_in_store a ps t.step_words.now rows) m)
 
   module _ (p : Plan) (l : List ℕ) (e : l ≡ mask_table p) where
     one_tabled : one_desk_each (λ c. get_or l c 0) (cells_named writes ps (the_transaction t).steps)
         ≡ one_desk_each (desk_mask p) (cells_named writes ps (the_transaction t).steps)
     one_tabled =
-        every_same _ _ (cells_named writes ps (the_transaction t).steps)
+        all_same _ _ (cells_named writes ps (the_transaction t).steps)
         (λ c m. ap (λ (x : ℕ). eqb (ones x) 1) (mask_tabled p l e c (operation_low writes c m)))
 
     -- one that writes nothing has no cell to be tested

@@ -10,7 +10,8 @@ use lib.Dec.{ltb, eqb}
 use lib.ListN.{length, get_or}
 use borrow.Author.Tests.{eq-eqb, lt-ltb, eqb-true, leb-true}
 use Rattle.verdict.specs.Verdict.{accepted}
-use Rattle.lists.proofs.Laws.{and_fst, and_snd, every_index, every_member, member_some, some_member, index_some, some_index}
+use Rattle.std.proofs.lemmas.List.Folds.{list_any_at}
+use Rattle.lists.proofs.Laws.{and_fst, and_snd, all_index, all_member, member_any, any_member, any_index}
 use Rattle.word.specs.Field.{head_transactions}
 use Rattle.plan.specs.Plan.{Source, param, fixed, Access, Step, cell, operand, tells}
 use Rattle.plan.specs.Plan.{Partitioning, by_param, unpartitioned, undecided, Transaction, Plan}
@@ -53,7 +54,7 @@ sound_at ws e k h =
     record {
       few = subst (λ (t : Transaction). t.params ≤ 4) (sym i) (transaction_params _ s.form);
       fits = subst (λ (t : Transaction). AllFit t.steps) (sym i) (transaction_fits ws (transaction_place ws k));
-      exist = every_index parameters_exist (plan_of ws).transactions k no_transaction (all_named ws e) h;
+      exist = all_index parameters_exist (plan_of ws).transactions k no_transaction (all_named ws e) h;
     }
 
 -- ---- an operation's cell is found by the test
@@ -93,8 +94,8 @@ unfolding step_touches parameters_pass
 names_found n t ps d h fits pass e a c m =
     let k = names_of a ps t.steps c m in
     let v = value_low ps a k.table k.column k.row (fits _ k.step)
-    (every_member (row_in_range ps) t.steps _ (and_snd (unused_zero t.params ps) _ pass) k.step) in
-    member_some (λ s. step_touches n t.part s c d) (cell a k.table k.column k.row) t.steps k.step
+    (all_member (row_in_range ps) t.steps _ (and_snd (unused_zero t.params ps) _ pass) k.step) in
+    member_any (λ s. step_touches n t.part s c d) (cell a k.table k.column k.row) t.steps k.step
     (cell_found n t.part k.table k.column k.row ps d c h v e k.is)
 
 -- ---- an operation is made for each cell that the test finds
@@ -132,7 +133,7 @@ source_exists_lem : (t : Transaction) (a : Access) (tab col : ℕ) (r : Source) 
     → source_exists t.params r ≡ true
 unfolding parameters_exist step_exists
 source_exists_lem t a tab col r e m =
-    every_member (step_exists t.params) t.steps (cell a tab col r) (and_snd (part_exists t.params t.part) _ e) m
+    all_member (step_exists t.params) t.steps (cell a tab col r) (and_snd (part_exists t.params t.part) _ e) m
 
 part_exists_lem : (t : Transaction) → parameters_exist t ≡ true → part_exists t.params t.part ≡ true
 unfolding parameters_exist
@@ -176,10 +177,10 @@ touched_by p k c d = steps_touch p.desks (transaction_at p k).part (transaction_
 
 module _ (p : Plan) (c d : ℕ) where
   pub touched_some : touched p c d ≡ true → (k : ℕ) × (k < length p.transactions) × (touched_by p k c d ≡ true)
-  touched_some = some_index (λ t. steps_touch p.desks t.part t.steps c d) p.transactions no_transaction
+  touched_some = any_index (λ t. steps_touch p.desks t.part t.steps c d) p.transactions no_transaction
 
   some_touched : (k : ℕ) → k < length p.transactions → touched_by p k c d ≡ true → touched p c d ≡ true
-  some_touched k = index_some (λ t. steps_touch p.desks t.part t.steps c d) p.transactions k no_transaction
+  some_touched k = list_any_at (λ t. steps_touch p.desks t.part t.steps c d) p.transactions k no_transaction
 
 module _ (ws : List ℕ) (e : plan_verdict ws ≡ accepted) where
   pub some_desk : 1 ≤ (plan_of ws).desks
@@ -197,7 +198,7 @@ module _ (ws : List ℕ) (e : plan_verdict ws ≡ accepted) where
         → (a : Access) × (x : Accesses a (plan_of ws) d c) × (x.op.transaction ≡ k)
     touched_by_gives k below h =
         let t = transaction_at (plan_of ws) k in
-        let j = some_member (λ s. step_touches (plan_of ws).desks t.part s c d) t.steps h in
+        let j = any_member (λ s. step_touches (plan_of ws).desks t.part s c d) t.steps h in
         let m = step_of (plan_of ws).desks t d c j.0 j.1 j.2 in (
           m.0,
           made (plan_of ws) k d c some_desk few_desks below m.0 (sound_at ws e k below) m.1,

@@ -12,7 +12,8 @@ use lib.ListN.{length, get_or, drop, get_or-eq_default}
 use lib.Seq.{get_or-drop}
 use borrow.Author.Tests.{eq-eqb, ne_eqb, eqb-true, ltb-true, le-leb}
 use Rattle.std.specs.List.{list_all}
-use Rattle.lists.proofs.Laws.{and_fst, and_snd, and_true, member_every, lt_or_ge, by_same}
+use Rattle.std.proofs.lemmas.Bool.{and_from, cases_lt}
+use Rattle.lists.proofs.Laws.{and_fst, and_snd, member_all, by_same}
 use Rattle.plan.specs.Plan.{Source, param, fixed, Step, cell, operand, tells}
 use Rattle.plan.specs.Plan.{Partitioning, by_param, unpartitioned, undecided, Transaction}
 use Rattle.plan.specs.Admission.{source_exists, part_exists}
@@ -67,7 +68,7 @@ pub witness_low : (q : Partitioning) (r : Source) (row d : ℕ) → row < 32 →
 unfolding witness
 witness_low q r row d hr hd i =
     ⊎_elim (λ (l : i < 4). omega (arith, four_at (value_at q r row d) i l, value_le q r row d hr hd i))
-    (λ (g : 4 ≤ i). omega (arith, four_past (value_at q r row d) i g)) (lt_or_ge i 4)
+    (λ (g : 4 ≤ i). omega (arith, four_past (value_at q r row d) i g)) (cases_lt i 4)
 
 -- ---- question 8
 
@@ -84,7 +85,7 @@ part_unused p undecided j e h = refl
 
 all_zero : (ps : List ℕ) → ((i : ℕ) → get_or ps i 0 ≡ 0) → list_all (λ w. eqb w 0) ps ≡ true
 all_zero [] h = refl
-all_zero (w ∷ ps) h = and_true (eqb w 0) _ (eq-eqb w 0 (h 0)) (all_zero ps (λ i. h (suc i)))
+all_zero (w ∷ ps) h = and_from (eqb w 0) _ (eq-eqb w 0 (h 0)) (all_zero ps (λ i. h (suc i)))
 
 rows_pass : (ps : List ℕ) → ((i : ℕ) → get_or ps i 0 ≤ 31) → (s : Step) → row_in_range ps s ≡ true
 unfolding row_in_range
@@ -98,10 +99,10 @@ pub witness_passes : (t : Transaction) (r : Source) (row d : ℕ) → source_exi
     → row < 32 → d < 32 → parameters_pass t (witness t.part r row d) ≡ true
 unfolding parameters_pass unused_zero witness value_at
 witness_passes t r row d rn pn hr hd =
-    and_true _ _
+    and_from _ _
     (all_zero (drop t.params (witness t.part r row d))
     (λ i. get_or-drop t.params (witness t.part r row d) i 0 ∙ zero_from (t.params + i) (omega arith)))
-    (member_every (row_in_range (witness t.part r row d)) t.steps
+    (member_all (row_in_range (witness t.part r row d)) t.steps
     (λ s m. rows_pass (witness t.part r row d) (witness_low t.part r row d hr hd) s))
   where
     zero_from : (j : ℕ) → t.params ≤ j → get_or (witness t.part r row d) j 0 ≡ 0
@@ -109,7 +110,7 @@ witness_passes t r row d rn pn hr hd =
         ⊎_elim
         (λ (l : j < 4). four_at (value_at t.part r row d) j l
         ∙ simp (row_unused t.params r j rn h, part_unused t.params t.part j pn h))
-        (λ (g : 4 ≤ j). four_past (value_at t.part r row d) j g) (lt_or_ge j 4)
+        (λ (g : 4 ≤ j). four_past (value_at t.part r row d) j g) (cases_lt j 4)
 
 -- ---- its desk, and the row that it gives
 

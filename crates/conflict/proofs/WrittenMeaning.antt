@@ -7,7 +7,9 @@ use Prim.Native.Nat.{ℕ, ◌/◌, ◌%◌, ◌≤◌, ◌<◌}
 use lib.Dec.{ltb, eqb}
 use borrow.Author.Tests.{eq-eqb, lt-ltb, eqb-true}
 use Rattle.verdict.specs.Verdict.{accepted}
-use Rattle.lists.proofs.Laws.{and_fst, and_snd, and_true, every_member, member_some, some_member, index_some, some_index}
+use Rattle.std.proofs.lemmas.Bool.{and_from}
+use Rattle.std.proofs.lemmas.List.Folds.{list_any_at}
+use Rattle.lists.proofs.Laws.{and_fst, and_snd, all_member, member_any, any_member, any_index}
 use Rattle.std.specs.List.{list_any}
 use Rattle.plan.specs.Plan.{Source, param, fixed, reads, writes, Step, cell, operand, tells}
 use Rattle.plan.specs.Plan.{Partitioning, by_param, unpartitioned, undecided, Transaction, no_transaction, transaction_at}
@@ -27,11 +29,11 @@ use Rattle.conflict.proofs.Touching.{CellStep, sound_at, made, value_low, some_d
 
 row_desk : (n : ℕ) (q : Partitioning) (r : Source) (row : ℕ) → 1 ≤ n → row_given r row ≡ true → (d : ℕ) × (row_touched n q r row d ≡ true)
 unfolding row_touched
-row_desk n unpartitioned (fixed v) row h e = (0, and_true (eqb row v) _ e (eq-eqb 0 0 refl))
+row_desk n unpartitioned (fixed v) row h e = (0, and_from (eqb row v) _ e (eq-eqb 0 0 refl))
 row_desk n unpartitioned (param i) row h e = (0, eq-eqb 0 0 refl)
-row_desk n undecided (fixed v) row h e = (0, and_true (eqb row v) _ e (eq-eqb 0 0 refl))
+row_desk n undecided (fixed v) row h e = (0, and_from (eqb row v) _ e (eq-eqb 0 0 refl))
 row_desk n undecided (param i) row h e = (0, eq-eqb 0 0 refl)
-row_desk n (by_param q) (fixed v) row h e = (0, and_true (eqb row v) _ e (lt-ltb 0 n h))
+row_desk n (by_param q) (fixed v) row h e = (0, and_from (eqb row v) _ e (lt-ltb 0 n h))
 row_desk n (by_param q) (param i) row h e = go (eqb i q)
   where
     go : (b : Bool) → (d : ℕ) × (cond b (eqb d (row % n)) (ltb d n) ≡ true)
@@ -80,9 +82,9 @@ module _ (ws : List ℕ) (e : plan_verdict ws ≡ accepted) (c : ℕ) where
   pub written_gives : written (plan_of ws) c ≡ true → Writer (plan_of ws) c
   unfolding written
   written_gives h =
-      let i = some_index (λ t. list_any (λ s. step_writes s c) t.steps) (plan_of ws).transactions no_transaction h in
+      let i = any_index (λ t. list_any (λ s. step_writes s c) t.steps) (plan_of ws).transactions no_transaction h in
       let t = transaction_at (plan_of ws) i.0 in
-      let j = some_member (λ s. step_writes s c) t.steps i.2 in
+      let j = any_member (λ s. step_writes s c) t.steps i.2 in
       let m = step_of (plan_of ws).desks t c j.0 (some_desk ws e) j.1 j.2 in
       let a = made (plan_of ws) i.0 m.0 c (some_desk ws e) (few_desks ws e) i.1 writes (sound_at ws e i.0 i.1) m.1 in
       (a.op, a.is, a.names)
@@ -96,9 +98,9 @@ module _ (ws : List ℕ) (e : plan_verdict ws ≡ accepted) (c : ℕ) where
       let l = transaction_below p o w.1 in
       let n = names_of writes o.params t.steps c w.2 in
       let v = value_low o.params writes n.table n.column n.row ((sound_at ws e o.transaction l).fits _ n.step)
-      (every_member (row_in_range o.params) t.steps _ (rows_passed p o w.1) n.step) in
-      index_some (λ t. list_any (λ s. step_writes s c) t.steps) p.transactions o.transaction no_transaction l
-      (member_some (λ s. step_writes s c) (cell writes n.table n.column n.row) t.steps n.step
+      (all_member (row_in_range o.params) t.steps _ (rows_passed p o w.1) n.step) in
+      list_any_at (λ t. list_any (λ s. step_writes s c) t.steps) p.transactions o.transaction no_transaction l
+      (member_any (λ s. step_writes s c) (cell writes n.table n.column n.row) t.steps n.step
       (cell_found n.table n.column n.row o.params c v n.is))
 
 pub written_means : WrittenMeans

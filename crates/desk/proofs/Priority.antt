@@ -18,11 +18,13 @@ use native.Mathlib.Omega.{arith}
 use lib.ListN.{length, get_or, drop, length-append}
 use lib.Seq.{append_snoc, take-length, drop-length, take-append_seam, drop-append_seam}
 use borrow.Author.Tests.{not-true}
-use Rattle.std.specs.List.{list_all, list_any, filter, prefix_len}
-use Rattle.lists.specs.Lists.{inserted}
-use Rattle.lists.proofs.Laws.{and_fst, and_snd, index_some, some_index, cons_in_snoc, snoc_in_cons}
-use Rattle.lists.proofs.Laws.{select_append, select_yes, select_no, select_short, every_select, select_none, select_all, select_member}
-use Rattle.lists.proofs.Laws.{select_map, some_fails, select_fails, fails_select, select_lengths, member_either}
+use Rattle.std.specs.List.{list_all, list_any, filter, prefix_len, insert}
+use Rattle.std.proofs.lemmas.List.Folds.{list_any_at}
+use Rattle.lists.proofs.Laws.{and_fst, and_snd, any_index, cons_in_snoc, snoc_in_cons}
+use Rattle.std.proofs.lemmas.List.Elements.{filter-append}
+use Rattle.lists.proofs.Laws.{filter_yes, filter_no, filter_short, all_filter, filter_none, filter_all, filter_member}
+use Rattle.std.proofs.lemmas.List.Filters.{length-filter_both}
+use Rattle.lists.proofs.Laws.{map_filter, any_fails, filter_fails, fails_filter, member_either}
 use Rattle.desk.specs.Queueing.{urgent_first, join_queue}
 use Rattle.desk.specs.Priority.{urgent_lead, UrgentLeadMeans, join_place, JoinsAtPlace, JoinKeepsOrder, UrgentJoins, OtherJoins}
 
@@ -47,8 +49,8 @@ module _ {A : Type 0} (urgent : A → Bool) where
           → cond b (r ∷ filter urgent rs) (filter urgent rs) ++ cond (not b) (r ∷ filter other rs) (filter other rs) ≡ r ∷ rs
       go true p q = ap (◌∷◌ r) (q p)
       go false p q =
-          ap₂ (λ (xs ys : List A). xs ++ (r ∷ ys)) (select_none urgent rs (not-true (list_any urgent rs) p))
-          (select_fails urgent rs (not-true (list_any urgent rs) p))
+          ap₂ (λ (xs ys : List A). xs ++ (r ∷ ys)) (filter_none urgent rs (not-true (list_any urgent rs) p))
+          (filter_fails urgent rs (not-true (list_any urgent rs) p))
 
   lead_none : (rs : List A) → list_any urgent rs ≡ false → urgent_lead urgent rs ≡ true
   unfolding urgent_lead
@@ -67,7 +69,7 @@ module _ {A : Type 0} (urgent : A → Bool) where
       ∙ lead_append xs ys (and_snd (urgent x) (list_all urgent xs) e) l
 
   pub lead_first : (rs : List A) → urgent_lead urgent (urgent_first urgent rs) ≡ true
-  lead_first rs = lead_append (filter urgent rs) (filter other rs) (every_select urgent rs) (lead_none _ (some_fails urgent rs))
+  lead_first rs = lead_append (filter urgent rs) (filter other rs) (all_filter urgent rs) (lead_none _ (any_fails urgent rs))
 
   -- ---- the test from a place on: `before` says whether the one before is urgent, or that there is none
 
@@ -102,7 +104,7 @@ module _ {A : Type 0} (urgent : A → Bool) where
   lead_places d [] e i j l h p q = absurd (not-suc-le-zero h)
   lead_places d (r ∷ rs) e zero zero l h p q = omega arith
   lead_places d (r ∷ rs) e zero (suc j) l h p q =
-      false≢true (sym (none_behind (urgent r) rs p e) ∙ index_some urgent rs j d (le_of_suc-le-suc h) q)
+      false≢true (sym (none_behind (urgent r) rs p e) ∙ list_any_at urgent rs j d (le_of_suc-le-suc h) q)
   lead_places d (r ∷ rs) e (suc i) zero l h p q = omega arith
   lead_places d (r ∷ rs) e (suc i) (suc j) l h p q =
       go (urgent r) e (λ f. lead_places d rs f i j (le_of_suc-le-suc l) (le_of_suc-le-suc h) p q)
@@ -122,7 +124,7 @@ module _ {A : Type 0} (urgent : A → Bool) where
       go true p c q e = e
       go false p false q e = refl
       go false p true q e =
-          let k = some_index urgent rs d q in absurd (h zero (suc k.0) (omega arith) (suc-le-suc k.1) p k.2)
+          let k = any_index urgent rs d q in absurd (h zero (suc k.0) (omega arith) (suc-le-suc k.1) p k.2)
 
 -- the statement
 pub urgent_lead_means : UrgentLeadMeans
@@ -136,35 +138,35 @@ module _ {A : Type 0} (urgent : A → Bool) (waiting : List A) (r : A) where
 
   apart : join_queue urgent waiting r
       ≡ (filter urgent waiting ++ filter urgent (r ∷ [])) ++ (others waiting ++ others (r ∷ []))
-  apart = ap₂ ◌++◌ (select_append urgent waiting (r ∷ [])) (select_append (λ t. not (urgent t)) waiting (r ∷ []))
+  apart = ap₂ ◌++◌ (filter-append urgent waiting (r ∷ [])) (filter-append (λ t. not (urgent t)) waiting (r ∷ []))
 
   join_urgent : urgent r ≡ true → join_queue urgent waiting r ≡ filter urgent waiting ++ (r ∷ others waiting)
   join_urgent e =
       apart
-      ∙ ap₂ (λ (xs ys : List A). (filter urgent waiting ++ xs) ++ (others waiting ++ ys)) (select_yes urgent r [] e)
-      (select_no (λ t. not (urgent t)) r [] (ap not e))
+      ∙ ap₂ (λ (xs ys : List A). (filter urgent waiting ++ xs) ++ (others waiting ++ ys)) (filter_yes urgent r [] e)
+      (filter_no (λ t. not (urgent t)) r [] (ap not e))
       ∙ ap (λ (ys : List A). filter urgent waiting ++ (r ∷ []) ++ ys) (append-nil (others waiting))
       ∙ append_snoc (filter urgent waiting) r (others waiting)
 
   join_other : urgent_lead urgent waiting ≡ true → urgent r ≡ false → join_queue urgent waiting r ≡ waiting ++ (r ∷ [])
   join_other l e =
       apart
-      ∙ ap₂ (λ (xs ys : List A). (filter urgent waiting ++ xs) ++ (others waiting ++ ys)) (select_no urgent r [] e)
-      (select_yes (λ t. not (urgent t)) r [] (ap not e))
+      ∙ ap₂ (λ (xs ys : List A). (filter urgent waiting ++ xs) ++ (others waiting ++ ys)) (filter_no urgent r [] e)
+      (filter_yes (λ t. not (urgent t)) r [] (ap not e))
       ∙ ap (λ (xs : List A). xs ++ (others waiting ++ (r ∷ []))) (append-nil (filter urgent waiting))
       ∙ sym (append_assoc (filter urgent waiting) (others waiting) (r ∷ []))
       ∙ ap (λ (xs : List A). xs ++ (r ∷ [])) (lead_parts urgent waiting l)
 
-  join_place_lem : urgent_lead urgent waiting ≡ true → join_queue urgent waiting r ≡ inserted (join_place urgent waiting r) r waiting
+  join_place_lem : urgent_lead urgent waiting ≡ true → join_queue urgent waiting r ≡ insert waiting (join_place urgent waiting r) r
   join_place_lem l = go (urgent r) refl
     where
       go : (b : Bool) → urgent r ≡ b → join_queue urgent waiting r
-          ≡ inserted (cond b (length (filter urgent waiting)) (length waiting)) r waiting
+          ≡ insert waiting (cond b (length (filter urgent waiting)) (length waiting)) r
       go true e =
           join_urgent e
           ∙ ap₂ (λ (xs ys : List A). xs ++ (r ∷ ys)) (sym (take-append_seam (filter urgent waiting) (others waiting)))
           (sym (drop-append_seam (filter urgent waiting) (others waiting)))
-          ∙ ap (inserted (length (filter urgent waiting)) r) (lead_parts urgent waiting l)
+          ∙ ap (λ (l : List _). insert l (length (filter urgent waiting)) r) (lead_parts urgent waiting l)
       go false e =
           join_other l e ∙ ap₂ (λ (xs ys : List A). xs ++ (r ∷ ys)) (sym (take-length waiting)) (sym (drop-length waiting))
 
@@ -172,18 +174,19 @@ module _ {A : Type 0} (urgent : A → Bool) (waiting : List A) (r : A) where
   join_place_fits = go (urgent r)
     where
       go : (b : Bool) → cond b (length (filter urgent waiting)) (length waiting) ≤ length waiting
-      go true = select_short urgent waiting
+      go true = filter_short urgent waiting
       go false = omega arith
 
   pub join_length : length (join_queue urgent waiting r) ≡ length waiting + 1
   join_length =
-      length-append (filter urgent (waiting ++ (r ∷ []))) _ ∙ select_lengths urgent (waiting ++ (r ∷ [])) ∙ length-append waiting (r ∷ [])
+      length-append (filter urgent (waiting ++ (r ∷ []))) _
+          ∙ length-filter_both urgent (λ t. not (urgent t)) (λ _. refl) (waiting ++ (r ∷ [])) ∙ length-append waiting (r ∷ [])
 
   -- it holds what waited and the request, and nothing else
   pub join_member : (t : A) → Memᴰ t (join_queue urgent waiting r) → Memᴰ t (r ∷ waiting)
   join_member t m =
       snoc_in_cons waiting r t
-      (⊎_elim (select_member urgent t (waiting ++ (r ∷ []))) (select_member (λ s. not (urgent s)) t (waiting ++ (r ∷ [])))
+      (⊎_elim (filter_member urgent t (waiting ++ (r ∷ []))) (filter_member (λ s. not (urgent s)) t (waiting ++ (r ∷ [])))
       (Memᴰ.append_cases (filter urgent (waiting ++ (r ∷ []))) m))
 
   pub member_join : (t : A) → Memᴰ t (r ∷ waiting) → Memᴰ t (join_queue urgent waiting r)
@@ -211,7 +214,7 @@ pub join_map : {A B : Type 0} (g : A → B) (urgent : B → Bool) (waiting : Lis
     → map g (join_queue (λ t. urgent (g t)) waiting r) ≡ join_queue urgent (map g waiting) (g r)
 join_map g urgent waiting r =
     map-append g (filter (λ t. urgent (g t)) (waiting ++ (r ∷ []))) (filter (λ t. not (urgent (g t))) (waiting ++ (r ∷ [])))
-    ∙ ap₂ ◌++◌ (select_map g urgent (waiting ++ (r ∷ []))) (select_map g (λ t. not (urgent t)) (waiting ++ (r ∷ [])))
+    ∙ ap₂ ◌++◌ (map_filter g urgent (waiting ++ (r ∷ []))) (map_filter g (λ t. not (urgent t)) (waiting ++ (r ∷ [])))
     ∙ ap (urgent_first urgent) (map-append g waiting (r ∷ []))
 
 pub first_joins : {A : Type 0} (urgent : A → Bool) (arrived : List A) (r : A)
@@ -220,22 +223,22 @@ first_joins {A} urgent arrived r = ap₂ ◌++◌ urgents rests
   where
     urgents : filter urgent (urgent_first urgent arrived ++ (r ∷ [])) ≡ filter urgent (arrived ++ (r ∷ []))
     urgents =
-        select_append urgent (urgent_first urgent arrived) (r ∷ [])
+        filter-append urgent (urgent_first urgent arrived) (r ∷ [])
         ∙ ap (λ (xs : List A). xs ++ filter urgent (r ∷ []))
-        (select_append urgent (filter urgent arrived) (filter (λ t. not (urgent t)) arrived)
-        ∙ ap₂ ◌++◌ (select_all urgent (filter urgent arrived) (every_select urgent arrived))
-        (select_none urgent (filter (λ t. not (urgent t)) arrived) (some_fails urgent arrived))
+        (filter-append urgent (filter urgent arrived) (filter (λ t. not (urgent t)) arrived)
+        ∙ ap₂ ◌++◌ (filter_all urgent (filter urgent arrived) (all_filter urgent arrived))
+        (filter_none urgent (filter (λ t. not (urgent t)) arrived) (any_fails urgent arrived))
         ∙ append-nil (filter urgent arrived))
-        ∙ sym (select_append urgent arrived (r ∷ []))
+        ∙ sym (filter-append urgent arrived (r ∷ []))
 
     rests : filter (λ t. not (urgent t)) (urgent_first urgent arrived ++ (r ∷ [])) ≡ filter (λ t. not (urgent t)) (arrived ++ (r ∷ []))
     rests =
-        select_append (λ t. not (urgent t)) (urgent_first urgent arrived) (r ∷ [])
+        filter-append (λ t. not (urgent t)) (urgent_first urgent arrived) (r ∷ [])
         ∙ ap (λ (xs : List A). xs ++ filter (λ t. not (urgent t)) (r ∷ []))
-        (select_append (λ t. not (urgent t)) (filter urgent arrived) (filter (λ t. not (urgent t)) arrived)
-        ∙ ap₂ ◌++◌ (fails_select urgent arrived)
-        (select_fails urgent (filter (λ t. not (urgent t)) arrived) (some_fails urgent arrived)))
-        ∙ sym (select_append (λ t. not (urgent t)) arrived (r ∷ []))
+        (filter-append (λ t. not (urgent t)) (filter urgent arrived) (filter (λ t. not (urgent t)) arrived)
+        ∙ ap₂ ◌++◌ (fails_filter urgent arrived)
+        (filter_fails urgent (filter (λ t. not (urgent t)) arrived) (any_fails urgent arrived)))
+        ∙ sym (filter-append (λ t. not (urgent t)) arrived (r ∷ []))
 
 -- behind the leading urgent ones none is urgent
 pub lead_by_rest : {A : Type 0} (urgent : A → Bool) (rs : List A)

@@ -4,8 +4,7 @@
 --     JoinKeepsOrder                   those that wait are in order then too
 --     UrgentJoins, OtherJoins          behind the urgent ones, or behind all
 use Rattle.std.specs.Prelude.{ℕ, ◌<◌, ◌≡◌, ◌↔◌, Bool, true, false, not, cond, List, [], ◌∷◌, ◌++◌, length, get_or}
-use Rattle.std.specs.List.{list_any, filter}
-use Rattle.lists.specs.Lists.{inserted}
+use Rattle.std.specs.List.{list_any, filter, insert}
 use Rattle.desk.specs.Queueing.{join_queue}
 
 -- 6: not "a row in which a waiting urgent record follows a waiting one that is not"
@@ -24,7 +23,7 @@ join_place urgent waiting r = cond (urgent r) (length (filter urgent waiting)) (
 
 abbrev pub JoinsAtPlace : Type 1
 JoinsAtPlace = (A : Type 0) (urgent : A → Bool) (waiting : List A) (r : A) → urgent_lead urgent waiting ≡ true
-    → join_queue urgent waiting r ≡ inserted (join_place urgent waiting r) r waiting
+    → join_queue urgent waiting r ≡ insert waiting (join_place urgent waiting r) r
 
 abbrev pub JoinKeepsOrder : Type 1
 JoinKeepsOrder = (A : Type 0) (urgent : A → Bool) (waiting : List A) (r : A) → urgent_lead urgent (join_queue urgent waiting r) ≡ true

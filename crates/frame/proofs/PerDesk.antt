@@ -6,7 +6,7 @@ use Rattle.std.proofs.Common.{inr, ⊎_elim, arith, get_or-set_other, get_or-set
 use mathlib.Core.Bool.{and-false}
 use borrow.Author.Tests.{lt-leb, eqb-false}
 use Rattle.std.specs.List.{list_all}
-use Rattle.lists.proofs.Laws.{and_fst, and_snd, every_same, member_every, by_less}
+use Rattle.lists.proofs.Laws.{and_fst, and_snd, all_same, member_all, by_less}
 use Rattle.frame.specs.Frame.{SentUpdate}
 use Rattle.frame.specs.Admission.{desk_count, few_per_desk}
 
@@ -31,7 +31,7 @@ few_counts us e d =
 
 pub counts_few : (us : List SentUpdate) → ((d : ℕ) → desk_count d us ≤ 32) → few_per_desk us ≡ true
 unfolding few_per_desk
-counts_few us h = member_every (λ u. leb (desk_count u.desk us) 32) us (λ u m. le-leb (desk_count u.desk us) 32 (h u.desk))
+counts_few us h = member_all (λ u. leb (desk_count u.desk us) 32) us (λ u m. le-leb (desk_count u.desk us) 32 (h u.desk))
 
 -- ---- one update more
 
@@ -71,7 +71,7 @@ few_next s u us h =
     let k = desk_count u.desk us in
     let here : get_or t u.desk 0 ≡ c + 1 = get_or-set_same s u.desk (c + 1) 0 h in
     ap₂ ◌&&◌ (ap (λ (x : ℕ). leb x 32) (moved s u us u.desk h ∙ ap (λ (x : ℕ). x + k) here))
-    (every_same _ (λ x. leb (get_or t x.desk 0 + desk_count x.desk us) 32) us
+    (all_same _ (λ x. leb (get_or t x.desk 0 + desk_count x.desk us) 32) us
     (λ x m. ap (λ (y : ℕ). leb y 32) (moved s u us x.desk h)))
     ∙ first_test c k (few_on t us) (λ e.
     subst (λ (x : ℕ). (k ≡ 0) ⊎ (leb (x + k) 32 ≡ true)) here

@@ -4,7 +4,7 @@ use Rattle.std.proofs.Common.{◌≡◌, ℕ, zero, suc, ◌+◌, ◌-◌, ◌<�
 use Rattle.std.proofs.Common.{◌∷◌, length, get_or, drop, set, replicate, sym, refl}
 use Rattle.std.proofs.Common.{ap, ◌∙◌, arith, length-set, ltb-true, lt-ltb, ne_eqb}
 use mathlib.Core.Bool.{and_assoc, and-false}
-use Rattle.lists.proofs.Laws.{and_fst, and_snd, every_same}
+use Rattle.lists.proofs.Laws.{and_fst, and_snd, all_same}
 use Rattle.word.specs.Field.{kind_of, update_desk, cell_count}
 use Rattle.word.specs.Reserved.{reserved_zero}
 use Rattle.frame.specs.Frame.{SentUpdate, sent}
@@ -110,7 +110,7 @@ no_count (suc n) (suc d) = no_count n d
 
 none_counted : (us : List SentUpdate) → few_on (no_counts 8) us ≡ few_per_desk us
 unfolding few_per_desk
-none_counted us = every_same _ (λ u. leb (desk_count u.desk us) 32) us (λ u m. ap (λ (c : ℕ). leb c 32) (from_zero u.desk))
+none_counted us = all_same _ (λ u. leb (desk_count u.desk us) 32) us (λ u m. ap (λ (c : ℕ). leb c 32) (from_zero u.desk))
   where
     from_zero : (d : ℕ) → get_or (no_counts 8) d 0 + desk_count d us ≡ desk_count d us
     from_zero d = omega (arith, no_count 8 d)

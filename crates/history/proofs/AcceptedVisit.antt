@@ -15,7 +15,7 @@ use borrow.Author.Tests.{eqb-true}
 use Rattle.verdict.specs.Verdict.{Verdict, accepted, refused, is_accepted}
 use Rattle.verdict.proofs.Verdicts.{ask_then_accepted, then_accepted, is_accepted_accepted}
 use Rattle.lists.specs.Lists.{overwritten}
-use Rattle.lists.proofs.Laws.{and_fst, and_snd, every_member, mem_All}
+use Rattle.lists.proofs.Laws.{and_fst, and_snd, all_member, mem_All}
 use Rattle.plan.specs.Plan.{Plan}
 use Rattle.plan.specs.Decode.{plan_of}
 use Rattle.plan.specs.Admission.{plan_verdict}
@@ -164,7 +164,7 @@ module _ (plan : List ℕ) (h : Holding) (snapshot frame out replies : List ℕ)
     waits_runs : RecordsFit h.queue → (r : Request) → Memᴰ r waiting → Runs (plan_of plan) r
     unfolding waits_here
     waits_runs fit r m =
-        let e = every_member (waits_here (plan_of plan) d.desk) waiting r six_of.each m in
+        let e = all_member (waits_here (plan_of plan) d.desk) waiting r six_of.each m in
         record {
           four = refl;
           words = fit r (mem_take d.waiting h.queue r m);

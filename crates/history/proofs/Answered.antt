@@ -12,7 +12,8 @@ use mathlib.Core.List.{List, [], ◌∷◌}
 use native.Mathlib.Omega.{arith}
 use lib.Dec.{leb}
 use borrow.Author.Tests.{leb-true, le-leb}
-use Rattle.lists.proofs.Laws.{by_same, eqb_yes, eqb_no, eqb_self}
+use Rattle.std.proofs.lemmas.Bool.{eq-eqb, ne_eqb}
+use Rattle.lists.proofs.Laws.{by_same}
 use Rattle.queue.specs.declared.record.Request.{Request}
 use Rattle.requests.specs.Request.{is_waits, record_of, request_result}
 use Rattle.history.specs.History.{Call, request, visit, Kept, step_at, holdings_after}
@@ -22,7 +23,7 @@ use Rattle.history.proofs.Joining.{request_joins, request_moves, visit_keeps}
 use Rattle.history.proofs.AcceptedVisit.{visit_answers_waiting}
 
 pub request_waits : RequestWaits
-request_waits plan w p client k ps e = rw (eqb_self p) (request_joins plan (w p).holding (record_of client k ps) (ap is_waits e))
+request_waits plan w p client k ps e = rw (eq-eqb p p refl) (request_joins plan (w p).holding (record_of client k ps) (ap is_waits e))
 
 pub place_its_own : PlaceItsOwn
 place_its_own plan h r e i f =
@@ -38,11 +39,11 @@ place_its_own plan h r e i f =
 moves : (plan : List ℕ) (w : ℕ → Kept) (c : Call) (p i : ℕ) (r : Request) → NoVisit plan p w c → WaitsAt i r (w p).holding →
     WaitsAt (place_after plan p w c i) r (step_at plan w c p).holding
 moves plan w (request q client k ps) p i r n m =
-    by_same p q (λ e. rw (eqb_yes e) (request_moves plan (w q).holding (record_of client k ps) i r (rw e at m)))
-    (λ e. rw (eqb_no e) m)
+    by_same p q (λ e. rw (eq-eqb _ _ e) (request_moves plan (w q).holding (record_of client k ps) i r (rw e at m)))
+    (λ e. rw (ne_eqb _ _ e) m)
 moves plan w (visit q frame out replies) p i r n m =
-    by_same p q (λ e. rw (eqb_yes e) (visit_keeps plan (w q).holding (w q).snapshot frame out replies i r (rw e at m) (n e)))
-    (λ e. rw (eqb_no e) m)
+    by_same p q (λ e. rw (eq-eqb _ _ e) (visit_keeps plan (w q).holding (w q).snapshot frame out replies i r (rw e at m) (n e)))
+    (λ e. rw (ne_eqb _ _ e) m)
 
 -- two that are moved up, each if its place is not before this one
 up_in_order : (place i j : ℕ) (told : Bool) → i < j → cond (told && leb place i) (suc i) i < cond (told && leb place j) (suc j) j
@@ -60,9 +61,9 @@ in_order plan w (visit q frame out replies) p i j l = l
 in_order plan w (request q client k ps) p i j l =
     let r : Request = record_of client k ps in
     by_same p q
-    (λ e. rw (eqb_yes e)
+    (λ e. rw (eq-eqb _ _ e)
     (up_in_order (place_at plan (w q).holding r) i j (is_waits (request_result plan (w q).holding r).answer) l))
-    (λ e. rw (eqb_no e) l)
+    (λ e. rw (ne_eqb _ _ e) l)
 
 -- ---- calls one after another
 

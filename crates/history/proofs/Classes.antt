@@ -9,7 +9,8 @@ use mathlib.Core.List.{List, [], ◌∷◌, Memᴰ}
 use native.Mathlib.Omega.{arith}
 use lib.Dec.{eqb, eqb→eq}
 use Rattle.std.specs.List.{list_all}
-use Rattle.lists.proofs.Laws.{every_member, true_T}
+use Rattle.std.proofs.lemmas.Float.{T_from_true}
+use Rattle.lists.proofs.Laws.{all_member}
 use Rattle.conflict.proofs.Ones.{count_of, none_of_count, one_of_count}
 use Rattle.serial.specs.System.{Class, free, local, global}
 
@@ -45,7 +46,7 @@ module _ (n : ℕ) (touched written : ℕ → ℕ → Bool) where
 
   count : (f : ℕ → ℕ → Bool) (k : ℕ) (cs : List ℕ) (c : ℕ) → list_all (λ c. eqb (count_of n (f c)) k) cs ≡ true →
       Memᴰ c cs → count_of n (f c) ≡ k
-  count f k cs c e m = eqb→eq (count_of n (f c)) k (true_T _ (every_member (λ c. eqb (count_of n (f c)) k) cs c e m))
+  count f k cs c e m = eqb→eq (count_of n (f c)) k (T_from_true _ (all_member (λ c. eqb (count_of n (f c)) k) cs c e m))
 
   free_unwritten : (rs ws : List ℕ) (c : ℕ) → class_by rs ws ≡ free → Memᴰ c rs → count_of n (written c) ≡ 0
   free_unwritten rs [] c e m = count written 0 rs c (by_free (list_all (written_by 0) rs) e) m

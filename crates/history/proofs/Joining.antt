@@ -13,8 +13,10 @@ use lib.ListN.{length, get_or, take, drop, get_or-append}
 use lib.Seq.{length-take-le, get_or-take, get_or-drop, get_or-append-add}
 use borrow.Author.Tests.{le-leb, lt-leb}
 use Rattle.verdict.specs.Verdict.{Verdict, accepted, refused}
-use Rattle.lists.specs.Lists.{overwritten, inserted}
-use Rattle.lists.proofs.Laws.{by_less, length_inserted, get_or_inserted_before}
+use Rattle.std.specs.List.{insert}
+use Rattle.lists.specs.Lists.{overwritten}
+use Rattle.std.proofs.lemmas.List.Edits.{length-insert, get_or-insert_at, get_or-insert_above}
+use Rattle.lists.proofs.Laws.{get_or_overwritten, by_less, get_or_insert_before}
 use Rattle.plan.specs.Decode.{plan_of}
 use Rattle.queue.specs.Queue.{no_request}
 use Rattle.queue.specs.declared.record.Request.{Request}
@@ -28,25 +30,18 @@ use Rattle.visits.specs.Visit.{visited_by, visit_verdict, visit_result}
 use Rattle.history.specs.History.{requested, visited, is_refused_forwarding, holding_after}
 use Rattle.history.specs.Answering.{WaitsAt, place_at, moved_by}
 
--- ---- a list with one element more at a place: from there on
+-- ---- a list with one element more at a place, over the front of another
 
 module _ {A : Type 0} (xs : List A) (i : ℕ) (x : A) (o : List A) (d : A) (h : i ≤ length xs) where
-  from_place : (n : ℕ) → i + n ≤ length xs → get_or (overwritten (inserted i x xs) o) (i + n) d ≡ get_or (x ∷ drop i xs) n d
-  from_place n l =
-      get_or-append (inserted i x xs) (drop (length (inserted i x xs)) o) d (i + n) (omega (arith, length_inserted xs i x h))
-      ∙ ap (λ (k : ℕ). get_or (inserted i x xs) (k + n) d) (sym (length-take-le i xs h))
-      ∙ get_or-append-add (take i xs) (x ∷ drop i xs) n d
+  in_front : (j : ℕ) → j ≤ length xs → get_or (overwritten (insert xs i x) o) j d ≡ get_or (insert xs i x) j d
+  in_front j k = get_or_overwritten (insert xs i x) o j d (omega (arith, length-insert xs i x h))
 
-  at_place : get_or (overwritten (inserted i x xs) o) i d ≡ x
-  at_place = ap (λ (k : ℕ). get_or (overwritten (inserted i x xs) o) k d) (sym (add-zero i)) ∙ from_place 0 (omega arith)
+  at_place : get_or (overwritten (insert xs i x) o) i d ≡ x
+  at_place = in_front i h ∙ get_or-insert_at xs i x d h
 
-  past_place : (j : ℕ) → i ≤ j → j < length xs → get_or (overwritten (inserted i x xs) o) (suc j) d ≡ get_or xs j d
+  past_place : (j : ℕ) → i ≤ j → j < length xs → get_or (overwritten (insert xs i x) o) (suc j) d ≡ get_or xs j d
   past_place j l k =
-      let n : ℕ = j - i in
-      let e : suc j ≡ i + suc n = omega arith in
-      let f : i + n ≡ j = omega arith in
-      ap (λ (m : ℕ). get_or (overwritten (inserted i x xs) o) m d) e ∙ from_place (suc n) (omega arith) ∙ get_or-drop i xs n d
-      ∙ ap (λ (m : ℕ). get_or xs m d) f
+      in_front (suc j) (omega arith) ∙ ap (λ (n : ℕ). get_or (insert xs i x) n d) (omega arith) ∙ get_or-insert_above xs i x d j l h
 
 module _ (plan : List ℕ) (h : Holding) where
   -- ---- a request
@@ -73,10 +68,10 @@ module _ (plan : List ℕ) (h : Holding) where
       fits : place ≤ length (waiting_at h)
       fits = join_place_fits (is_urgent (plan_of plan)) (waiting_at h) r
 
-      queue_is : left.queue ≡ overwritten (inserted place r (waiting_at h)) h.queue
+      queue_is : left.queue ≡ overwritten (insert (waiting_at h) place r) h.queue
       queue_is = told.queue ∙ enqueued_moved h (plan_of plan) r (waits_ordered plan h.state h.cells h.queue r e)
 
-      stands : (j : ℕ) (t : Request) → get_or (overwritten (inserted place r (waiting_at h)) h.queue) j no_request ≡ t
+      stands : (j : ℕ) (t : Request) → get_or (overwritten (insert (waiting_at h) place r) h.queue) j no_request ≡ t
           → j < h.state.waiting + 1 → WaitsAt j t after
       stands j t q l = (omega (arith, told.state), ap (λ (rs : List Request). get_or rs j no_request) queue_is ∙ q)
 
@@ -88,7 +83,7 @@ module _ (plan : List ℕ) (h : Holding) where
           let here : get_or (waiting_at h) i no_request ≡ t = get_or-take h.state.waiting h.queue i no_request w.0 ∙ w.1 in
           by_less i place
           (λ l. subst (λ (b : Bool). WaitsAt (cond b (suc i) i) t after) (sym (lt-leb place i l))
-          (stands i t (get_or_inserted_before (waiting_at h) place h.queue r i no_request fits l ∙ here) (omega (arith, w.0))))
+          (stands i t (get_or_insert_before (waiting_at h) place h.queue r i no_request fits l ∙ here) (omega (arith, w.0))))
           (λ l. subst (λ (b : Bool). WaitsAt (cond b (suc i) i) t after) (sym (le-leb place i l))
           (stands (suc i) t (past_place (waiting_at h) place r h.queue no_request fits i l (omega (arith, w.0, count)) ∙ here)
           (omega (arith, w.0))))

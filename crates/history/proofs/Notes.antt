@@ -8,7 +8,7 @@ use lib.Dec.{eqb}
 use lib.ListN.{length, get_or}
 use Rattle.verdict.specs.Verdict.{Verdict, accepted, refused}
 use Rattle.verdict.proofs.Verdicts.{then_accepted, ask_then_accepted}
-use Rattle.lists.specs.Lists.{All}
+use Rattle.std.specs.List.{AllByRecursion}
 use Rattle.lists.proofs.Laws.{All_append}
 use Rattle.plan.specs.Plan.{Plan}
 use Rattle.plan.specs.Decode.{plan_of}
@@ -29,11 +29,12 @@ use Rattle.history.proofs.OrderSeen.{RanAs, RunsAll}
 
 -- every line and every finished request
 pub record Noted (p : Plan) (s : Serial) : Type 0 where
-  pub lines : (d : ℕ) → All (Runs p) (s.queues d)
+  pub lines : (d : ℕ) → AllByRecursion (Runs p) (s.queues d)
   pub ended : RunsAll p s.finished
 
 module _ (p : Plan) where
-  either : (b : Bool) (xs ys : List Request) → All (Runs p) xs → All (Runs p) ys → All (Runs p) (cond b xs ys)
+  either : (b : Bool) (xs ys : List Request) → AllByRecursion (Runs p) xs → AllByRecursion (Runs p) ys
+      → AllByRecursion (Runs p) (cond b xs ys)
   either true xs ys h k = h
   either false xs ys h k = k
 
@@ -60,7 +61,7 @@ module _ (p : Plan) where
   request_noted global true s d r l n h = join_noted s d r n h
   request_noted global false s d r l n h = nothing_noted s n
 
-  ranked_run : (i k : ℕ) (q : List Request) → All (Runs p) q → RunsAll p (ranked i k q)
+  ranked_run : (i k : ℕ) (q : List Request) → AllByRecursion (Runs p) q → RunsAll p (ranked i k q)
   ranked_run i k [] h = tt
   ranked_run i k (r ∷ q) h = ((h.0, tt), ranked_run i (suc k) q h.1)
 

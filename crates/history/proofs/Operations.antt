@@ -11,7 +11,8 @@ use borrow.Author.Tests.{ltb-true, lt-ltb, eqb-true, eq-eqb}
 use Rattle.verdict.specs.Verdict.{is_accepted}
 use Rattle.verdict.proofs.Verdicts.{is_accepted_accepted}
 use Rattle.std.specs.List.{list_all}
-use Rattle.lists.proofs.Laws.{and_fst, and_snd, and_true}
+use Rattle.std.proofs.lemmas.Bool.{and_from}
+use Rattle.lists.proofs.Laws.{and_fst, and_snd}
 use Rattle.plan.specs.Plan.{Plan}
 use Rattle.operation.specs.Operation.{Operation}
 use Rattle.operation.specs.Admission.{IsOperation, operation_verdict}
@@ -30,7 +31,7 @@ is_operation p o = eqb (length o.params) 4 && (list_all is_word o.params && is_a
 
 all_words : (ps : List ℕ) → ((i : ℕ) → get_or ps i 0 < 2 ^ 32) → list_all is_word ps ≡ true
 all_words [] h = refl
-all_words (w ∷ ps) h = and_true (is_word w) (list_all is_word ps) (lt-ltb w (2 ^ 32) (h 0)) (all_words ps (λ i. h (suc i)))
+all_words (w ∷ ps) h = and_from (is_word w) (list_all is_word ps) (lt-ltb w (2 ^ 32) (h 0)) (all_words ps (λ i. h (suc i)))
 
 each_word : (ps : List ℕ) → list_all is_word ps ≡ true → (i : ℕ) → get_or ps i 0 < 2 ^ 32
 each_word [] e i = omega arith
@@ -51,5 +52,5 @@ module _ (p : Plan) (o : Operation) where
   pub decided_of_is : IsOperation p o → is_operation p o ≡ true
   unfolding is_operation
   decided_of_is i =
-      and_true _ _ (eq-eqb (length o.params) 4 i.four)
-      (and_true _ _ (all_words o.params i.words) (rw i.passes refl))
+      and_from _ _ (eq-eqb (length o.params) 4 i.four)
+      (and_from _ _ (all_words o.params i.words) (rw i.passes refl))

@@ -8,7 +8,8 @@ use mathlib.Core.List.Perm
 use mathlib.Core.List.{List, [], ◌∷◌, ◌++◌, map, append-nil, Perm}
 use mathlib.Core.List.{perm_middle}
 use lib.ListN.{length, get_or, get_or-map, length-map}
-use Rattle.lists.specs.Lists.{All, Pairs}
+use Rattle.std.specs.List.{AllByRecursion}
+use Rattle.lists.specs.Lists.{Pairs}
 use Rattle.lists.proofs.Laws.{Pairs_get_or}
 use Rattle.serial.specs.Frame.{Frame, start_frame}
 use Rattle.serial.specs.System.{System}
@@ -63,7 +64,7 @@ in_order es h none i j l k =
     (Pairs_get_or protocol_order.Precedes (map finished_seen es) (finished_seen none) h i j l (rw (length-map es finished_seen) k)))
 
 at_desks : (S : System) (cs : List (desk.Call S.Op S.Extra)) (w : ℕ → desk.Desk S.Op) (fs : List Frame) → Proper S w fs cs →
-    All (protocol_rule.AtDesk S) cs
+    AllByRecursion (protocol_rule.AtDesk S) cs
 at_desks S [] w fs pr = tt
 at_desks S (c ∷ cs) w fs pr = (pr.0, at_desks S cs (step_at S w c) (fs ++ desk.sent (answer_at S w c)) pr.2)
 

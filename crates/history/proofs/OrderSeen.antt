@@ -5,7 +5,7 @@ use mathlib.Core.Path.{◌≡◌, refl, ◌∙◌, ap, ap₂}
 use mathlib.Core.Bool.{Bool, true, false, cond}
 use mathlib.Core.List.{List, [], ◌∷◌, ◌++◌, map}
 use lib.Dec.{eqb}
-use Rattle.lists.specs.Lists.{All}
+use Rattle.std.specs.List.{AllByRecursion}
 use Rattle.plan.specs.Plan.{Plan}
 use Rattle.plan.specs.Decode.{plan_of}
 use Rattle.operation.specs.Operation.{Operation}
@@ -34,20 +34,20 @@ abbrev pub RanAs : Plan → Finished → Type 0
 RanAs p e = Runs p e.request × Ranged p.desks (slot_seen e.slot)
 
 abbrev pub RunsAll : Plan → List Finished → Type 0
-RunsAll p es = All (RanAs p) es
+RunsAll p es = AllByRecursion (RanAs p) es
 
 -- what holds of all that are put in order holds of the order
 module _ (P : Finished → Type 0) where
-  all_at : (b : Bool) (e f : Finished) (fs : List Finished) → P e → P f → All P fs → All P (insert e fs) →
-      All P (cond b (e ∷ f ∷ fs) (f ∷ insert e fs))
+  all_at : (b : Bool) (e f : Finished) (fs : List Finished) → P e → P f → AllByRecursion P fs → AllByRecursion P (insert e fs) →
+      AllByRecursion P (cond b (e ∷ f ∷ fs) (f ∷ insert e fs))
   all_at true e f fs h k l m = (h, (k, l))
   all_at false e f fs h k l m = (k, m)
 
-  all_insert : (e : Finished) (fs : List Finished) → P e → All P fs → All P (insert e fs)
+  all_insert : (e : Finished) (fs : List Finished) → P e → AllByRecursion P fs → AllByRecursion P (insert e fs)
   all_insert e [] h k = (h, tt)
   all_insert e (f ∷ fs) h k = all_at (before e.slot f.slot) e f fs h k.0 k.1 (all_insert e fs h k.1)
 
-  pub all_sorted : (es fs : List Finished) → All P es → All P fs → All P (sort_onto es fs)
+  pub all_sorted : (es fs : List Finished) → AllByRecursion P es → AllByRecursion P fs → AllByRecursion P (sort_onto es fs)
   all_sorted es [] h k = h
   all_sorted es (e ∷ fs) h k = all_sorted (insert e es) fs (all_insert e es k.0 h) k.1
 

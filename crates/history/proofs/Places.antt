@@ -8,7 +8,8 @@ use mathlib.Core.Bool.{Bool, true, false, cond, false≢true}
 use native.Mathlib.Omega.{arith}
 use lib.Dec.{ltb, eqb}
 use borrow.Author.Tests.{ltb-true, leb-true, eqb-true, lt-ltb, le-leb, eq-eqb, ne_eqb}
-use Rattle.lists.proofs.Laws.{by_same, by_less, ltb_yes, ltb_no}
+use Rattle.std.proofs.lemmas.Bool.{le-ltb}
+use Rattle.lists.proofs.Laws.{by_same, by_less}
 use Rattle.serial.specs.Order as order
 use Rattle.serial.proofs.SerialOrder.{Ranged, place_before_lem, place_same, precedes_once}
 use Rattle.history.specs.Order.{Slot, global_run, immediate_run, before}
@@ -61,7 +62,7 @@ module _ (n : ℕ) (a b : Slot) (ra : Ranged n (slot_seen a)) (rb : Ranged n (sl
   before_is = go (before a b) refl
     where
       go : (t : Bool) → before a b ≡ t → ltb x y ≡ t
-      go true e = ltb_yes (before_low (before_means a b e))
+      go true e = lt-ltb _ _ (before_low (before_means a b e))
       go false e =
-          ltb_no (by_less x y (λ l. absurd (false≢true (sym e ∙ of_means a b (place_before_lem n (slot_seen a) (slot_seen b) ra rb l))))
+          le-ltb _ _ (by_less x y (λ l. absurd (false≢true (sym e ∙ of_means a b (place_before_lem n (slot_seen a) (slot_seen b) ra rb l))))
           (λ l. l))

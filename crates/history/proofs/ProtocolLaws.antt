@@ -7,7 +7,8 @@ use mathlib.Core.Bool.{Bool, true, false, cond}
 use mathlib.Core.List.{List, []}
 use lib.Dec.{eqb, eqb→eq}
 use Rattle.verdict.specs.Verdict.{accepted}
-use Rattle.lists.proofs.Laws.{and_fst, T_true, true_T, by_same}
+use Rattle.std.proofs.lemmas.Float.{T_from_true}
+use Rattle.lists.proofs.Laws.{and_fst, T_true, by_same}
 use Rattle.plan.specs.Decode.{plan_of}
 use Rattle.plan.specs.Admission.{plan_verdict}
 use Rattle.operation.specs.Operation.{Operation, transaction_of, desk_of, MayRead, MayWrite, MayTouch}
@@ -100,5 +101,5 @@ module _ (ws : List ℕ) (accept : plan_verdict ws ≡ accepted) (class : Operat
         join_keeps = member_join (urgent_seen ws class sizes);
         join_only = join_member (urgent_seen ws class sizes);
         awaited_only = λ d p f x t.
-            eqb→eq f.number d.awaited (true_T _ (and_fst (eqb f.number d.awaited) _ (T_true _ t)));
+            eqb→eq f.number d.awaited (T_from_true _ (and_fst (eqb f.number d.awaited) _ (T_true _ t)));
       }

@@ -11,9 +11,9 @@ use lib.Seq.{length-take-le}
 use borrow.Author.Tests.{ltb-true, eqb-true, le-leb, eq-eqb}
 use Rattle.verdict.specs.Verdict.{Verdict, accepted, refused, is_accepted}
 use Rattle.verdict.proofs.Verdicts.{ask_then_accepted}
-use Rattle.std.specs.List.{list_all}
-use Rattle.lists.specs.Lists.{All}
-use Rattle.lists.proofs.Laws.{and_snd, and_true, every_member, member_every, All_mem, mem_All}
+use Rattle.std.specs.List.{list_all, AllByRecursion}
+use Rattle.std.proofs.lemmas.Bool.{and_from}
+use Rattle.lists.proofs.Laws.{and_snd, all_member, member_all, All_mem, mem_All}
 use Rattle.plan.specs.Plan.{Plan}
 use Rattle.plan.specs.Decode.{plan_of}
 use Rattle.plan.specs.Admission.{plan_verdict}
@@ -66,7 +66,7 @@ class_same ws e o i global m = (class_global ws e o i).1 m
 
 -- a request joins those that wait: what held of each, and of it, holds of each
 module _ (p : Plan) (waiting : List Request) (r : Request) where
-  pub join_runs : All (Runs p) waiting → Runs p r → All (Runs p) (join_queue (is_urgent p) waiting r)
+  pub join_runs : AllByRecursion (Runs p) waiting → Runs p r → AllByRecursion (Runs p) (join_queue (is_urgent p) waiting r)
   join_runs h k =
       mem_All (Runs p) (join_queue (is_urgent p) waiting r)
       (λ t m. All_mem (Runs p) t (r ∷ waiting) (join_member (is_urgent p) waiting r t m) (k, h))
@@ -75,9 +75,9 @@ module _ (p : Plan) (waiting : List Request) (r : Request) where
       → queue_fits p desk (join_queue (is_urgent p) waiting r) ≡ true
   unfolding queue_fits
   join_fits desk h k =
-      and_true _ _
-      (member_every (waits_here p desk) (join_queue (is_urgent p) waiting r)
-      (λ t m. every_member (waits_here p desk) (r ∷ waiting) t (and_true _ _ k h) (join_member (is_urgent p) waiting r t m)))
+      and_from _ _
+      (member_all (waits_here p desk) (join_queue (is_urgent p) waiting r)
+      (λ t m. all_member (waits_here p desk) (r ∷ waiting) t (and_from _ _ k h) (join_member (is_urgent p) waiting r t m)))
       (join_keeps_order Request (is_urgent p) waiting r)
 
 module _ (ws : List ℕ) (accept : plan_verdict ws ≡ accepted) (class : Operation → Class) (right : Classifies (plan_of ws) class)
@@ -196,13 +196,13 @@ module _ (ws : List ℕ) (accept : plan_verdict ws ≡ accepted) (class : Operat
       let here : waits_here (plan_of ws) d.desk r ≡ true = rw (p.runs.passes, c, b) refl in
       record {
         desk = refl;
-        fits = and_true _ _ s.below
-            (and_true _ _ (le-leb (d.waiting + 1) 32 (omega arith))
-            (and_true _ _ (eq-eqb (d.awaited % (plan_of ws).desks) d.desk s.turn)
+        fits = and_from _ _ s.below
+            (and_from _ _ (le-leb (d.waiting + 1) 32 (omega arith))
+            (and_from _ _ (eq-eqb (d.awaited % (plan_of ws).desks) d.desk s.turn)
             (ap (queue_fits (plan_of ws) d.desk) (joined p l) ∙ join_fits (plan_of ws) (waiting_at h) r d.desk s.each here)));
         size = long ∙ ok.size;
         room = omega (arith, long, p.whole);
-        runs = subst (All (Runs (plan_of ws))) (sym (joined p l)) (join_runs (plan_of ws) (waiting_at h) r ok.runs p.runs);
+        runs = subst (AllByRecursion (Runs (plan_of ws))) (sym (joined p l)) (join_runs (plan_of ws) (waiting_at h) r ok.runs p.runs);
       }
 
   join_sound : Passes → class_of (plan_of ws) o ≡ global → own ≡ true → (t : Bool) → ltb d.waiting 32 ≡ t →

@@ -5,7 +5,7 @@ use mathlib.Core.Path.{◌≡◌, refl, sym, ◌∙◌, ap, ap₂}
 use mathlib.Core.Bool.{Bool, true, false, cond}
 use mathlib.Core.List.{List, [], ◌∷◌, map}
 use lib.Dec.{eqb}
-use Rattle.lists.specs.Lists.{All}
+use Rattle.std.specs.List.{AllByRecursion}
 use Rattle.plan.specs.Decode.{plan_of}
 use Rattle.operation.specs.Operation.{Operation}
 use Rattle.operation.specs.Admission.{IsOperation}
@@ -76,7 +76,7 @@ module _ (ws : List ℕ) (class : Operation → Class) (sizes : Sizes) where
   one_seen o s i = rw (ran_is o s i) (sym (apply_agrees (run (plan_of ws) o s).update s))
 
   -- a queue's runs, one after another
-  pub run_all_seen : (q : List Request) (s : Store) → All (Runs (plan_of ws)) q →
+  pub run_all_seen : (q : List Request) (s : Store) → AllByRecursion (Runs (plan_of ws)) q →
       step.run_all S (map request_seen q) s ≡ run_all (plan_of ws) q s
   unfolding run_all
   run_all_seen [] s k = refl
@@ -84,7 +84,7 @@ module _ (ws : List ℕ) (class : Operation → Class) (sizes : Sizes) where
       ap (step.run_all S (map request_seen q)) (one_seen (operation_of r) s k.0)
       ∙ run_all_seen q (apply_update (run (plan_of ws) (operation_of r) s).update s) k.1
 
-  pub updates_seen : (q : List Request) (s : Store) → All (Runs (plan_of ws)) q →
+  pub updates_seen : (q : List Request) (s : Store) → AllByRecursion (Runs (plan_of ws)) q →
       step.updates_of S (map request_seen q) s ≡ updates_of (plan_of ws) q s
   unfolding updates_of
   updates_seen [] s k = refl
@@ -93,7 +93,7 @@ module _ (ws : List ℕ) (class : Operation → Class) (sizes : Sizes) where
       (ap (step.updates_of S (map request_seen q)) (one_seen (operation_of r) s k.0)
       ∙ updates_seen q (apply_update (run (plan_of ws) (operation_of r) s).update s) k.1)
 
-  pub replies_seen : (q : List Request) (s : Store) → All (Runs (plan_of ws)) q →
+  pub replies_seen : (q : List Request) (s : Store) → AllByRecursion (Runs (plan_of ws)) q →
       step.replies_of S (map request_seen q) s ≡ map answered_seen (replies_of (plan_of ws) q s)
   unfolding replies_of
   replies_seen [] s k = refl

@@ -7,7 +7,8 @@ use mathlib.Core.List.{List, [], ◌∷◌}
 use lib.ListN.{length, get_or}
 use borrow.Author.Tests.{ne_eqb}
 use Rattle.verdict.specs.Verdict.{Verdict, accepted, refused}
-use Rattle.lists.proofs.Laws.{by_same, eqb_yes, eqb_no}
+use Rattle.std.proofs.lemmas.Bool.{eq-eqb}
+use Rattle.lists.proofs.Laws.{by_same}
 use Rattle.plan.specs.Decode.{plan_of}
 use Rattle.conflict.specs.Shared.{Shared}
 use Rattle.desk.specs.Holding.{Holding}
@@ -59,10 +60,10 @@ plan_asked_first plan h snapshot frame out replies question e = rw e refl
 
 other_step : (plan : List ℕ) (w : ℕ → Kept) (c : Call) (d x : ℕ) → (Shared (plan_of plan) x → ⊥) →
     get_or (step_at plan w c d).snapshot x 0 ≡ get_or (w d).snapshot x 0
-other_step plan w (request q client k ps) d x f = by_same d q (λ e. rw (eqb_yes e) (rw e refl)) (λ e. rw (eqb_no e) refl)
+other_step plan w (request q client k ps) d x f = by_same d q (λ e. rw (eq-eqb _ _ e) (rw e refl)) (λ e. rw (ne_eqb _ _ e) refl)
 other_step plan w (visit q frame out replies) d x f =
-    by_same d q (λ e. rw (eqb_yes e) (rw e (other_left plan (w q).holding (w q).snapshot frame out replies x f)))
-    (λ e. rw (eqb_no e) refl)
+    by_same d q (λ e. rw (eq-eqb _ _ e) (rw e (other_left plan (w q).holding (w q).snapshot frame out replies x f)))
+    (λ e. rw (ne_eqb _ _ e) refl)
 
 pub other_cells_stay : OtherCellsStay
 other_cells_stay plan [] w d x f = refl
@@ -70,10 +71,10 @@ other_cells_stay plan (c ∷ cs) w d x f = other_cells_stay plan cs (step_at pla
 
 one_desk_step : (plan : List ℕ) (w : ℕ → Kept) (c : Call) (d : ℕ) → (plan_of plan).desks ≡ 1 → (step_at plan w c d).snapshot ≡
     (w d).snapshot
-one_desk_step plan w (request q client k ps) d one = by_same d q (λ e. rw (eqb_yes e) (rw e refl)) (λ e. rw (eqb_no e) refl)
+one_desk_step plan w (request q client k ps) d one = by_same d q (λ e. rw (eq-eqb _ _ e) (rw e refl)) (λ e. rw (ne_eqb _ _ e) refl)
 one_desk_step plan w (visit q frame out replies) d one =
-    by_same d q (λ e. rw (eqb_yes e) (rw e (one_desk_left plan (w q).holding (w q).snapshot frame out replies one)))
-    (λ e. rw (eqb_no e) refl)
+    by_same d q (λ e. rw (eq-eqb _ _ e) (rw e (one_desk_left plan (w q).holding (w q).snapshot frame out replies one)))
+    (λ e. rw (ne_eqb _ _ e) refl)
 
 pub one_desk_stays : OneDeskStays
 one_desk_stays plan [] w d one = refl

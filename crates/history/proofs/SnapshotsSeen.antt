@@ -9,8 +9,9 @@ use mathlib.Core.Bool.{Bool, true, false, cond}
 use mathlib.Core.List.{List, [], ◌∷◌, ◌++◌, map, append_assoc, append-nil}
 use lib.ListN.{length, get_or, length-map}
 use Rattle.verdict.specs.Verdict.{accepted}
-use Rattle.lists.specs.Lists.{All}
-use Rattle.lists.proofs.Laws.{by_same, eqb_yes, eqb_no}
+use Rattle.std.specs.List.{AllByRecursion}
+use Rattle.std.proofs.lemmas.Bool.{eq-eqb, ne_eqb}
+use Rattle.lists.proofs.Laws.{by_same}
 use Rattle.plan.specs.Plan.{Plan}
 use Rattle.plan.specs.Decode.{plan_of}
 use Rattle.plan.specs.Admission.{plan_verdict}
@@ -75,7 +76,7 @@ module _ (ws : List ℕ) (accept : plan_verdict ws ≡ accepted) (class : Operat
     ok_at : AllOk M (step_at ws w c)
     ok_at = subst (AllOk M) (after_is ws accept class right sizes (c ∷ []) w) (ok_after M (c ∷ []) w (h, tt) ok)
 
-  pub log_seen : (cs : List Call) (w : ℕ → Kept) (s : Serial) (t : Snapshots) → All (Called M) cs → AllOk M w →
+  pub log_seen : (cs : List Call) (w : ℕ → Kept) (s : Serial) (t : Snapshots) → AllByRecursion (Called M) cs → AllOk M w →
       snapshots_after S (seen M w) (serial_seen s) t (map call_seen cs) ≡ logged w s t cs
   log_seen [] w s t h ok = refl
   log_seen (c ∷ cs) w s t h ok =
@@ -135,20 +136,20 @@ module _ (ws : List ℕ) (accept : plan_verdict ws ≡ accepted) (class : Operat
 
     request_at : (b : Bool) (w : ℕ → Kept) (m : ℕ) (t : Snapshots) (q client k : ℕ) (ps : List ℕ) → Agrees w t →
         Agrees (step_at ws w (request q client k ps)) (cond b t (note_taken S (seen M w) m t (call_seen (request q client k ps))))
-    request_at true w m t q client k ps a d = by_same d q (λ e. rw (eqb_yes e) (rw e (a q))) (λ e. rw (eqb_no e) (a d))
-    request_at false w m t q client k ps a d = by_same d q (λ e. rw (eqb_yes e) (rw e (a q))) (λ e. rw (eqb_no e) (a d))
+    request_at true w m t q client k ps a d = by_same d q (λ e. rw (eq-eqb _ _ e) (rw e (a q))) (λ e. rw (ne_eqb _ _ e) (a d))
+    request_at false w m t q client k ps a d = by_same d q (λ e. rw (eq-eqb _ _ e) (rw e (a q))) (λ e. rw (ne_eqb _ _ e) (a d))
 
     visit_at : (w : ℕ → Kept) (m : ℕ) (t : Snapshots) (q : ℕ) (ft out replies : List ℕ) → Agrees w t → (b : Bool) →
         is_refused_forwarding (visit_result ws (w q).holding (w q).snapshot ft out replies).answer ≡ b →
         Agrees (step_at ws w (visit q ft out replies)) (cond b t (note_taken S (seen M w) m t (call_seen (visit q ft out replies))))
     visit_at w m t q ft out replies a true i d =
         by_same d q
-        (λ e. rw (eqb_yes e) (rw (e, refused_left ws (w q).holding (w q).snapshot ft out replies i) (a q)))
-        (λ e. rw (eqb_no e) (a d))
+        (λ e. rw (eq-eqb _ _ e) (rw (e, refused_left ws (w q).holding (w q).snapshot ft out replies i) (a q)))
+        (λ e. rw (ne_eqb _ _ e) (a d))
     visit_at w m t q ft out replies a false i d =
         by_same d q
-        (λ e. rw (eqb_yes e) (sym (shared_left ws (w q).holding (w q).snapshot ft out replies i x shared)))
-        (λ e. rw (eqb_no e) (a d))
+        (λ e. rw (eq-eqb _ _ e) (sym (shared_left ws (w q).holding (w q).snapshot ft out replies i x shared)))
+        (λ e. rw (ne_eqb _ _ e) (a d))
 
     call_at : (w : ℕ → Kept) (m : ℕ) (t : Snapshots) (c : Call) → Agrees w t →
         Agrees (step_at ws w c) (cond (is_refused (outcome_at ws w c)) t (note_taken S (seen M w) m t (call_seen c)))

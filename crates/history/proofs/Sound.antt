@@ -9,9 +9,9 @@ use native.Mathlib.Omega.{arith}
 use lib.Dec.{ltb, leb}
 use lib.ListN.{length}
 use borrow.Author.Tests.{leb-true, eqb-true, lt-ltb, eq-eqb}
-use Rattle.std.specs.List.{list_all}
-use Rattle.lists.specs.Lists.{All}
-use Rattle.lists.proofs.Laws.{and_fst, and_snd, and_true}
+use Rattle.std.specs.List.{list_all, AllByRecursion}
+use Rattle.std.proofs.lemmas.Bool.{and_from}
+use Rattle.lists.proofs.Laws.{and_fst, and_snd}
 use Rattle.plan.specs.Decode.{plan_of}
 use Rattle.queue.specs.declared.record.Request.{Request}
 use Rattle.desk.specs.Holding.{Holding, waiting_at}
@@ -28,7 +28,7 @@ pub record Sound (ws : List ℕ) (records : ℕ → ℕ) (p : ℕ) (h : Holding)
   pub fits : desk_fits (plan_of ws) h.state h.queue ≡ true
   pub size : length h.queue ≡ records p
   pub room : h.state.waiting ≤ length h.queue
-  pub runs : All (Runs (plan_of ws)) (waiting_at h)
+  pub runs : AllByRecursion (Runs (plan_of ws)) (waiting_at h)
 
 -- 6, part by part
 pub record Six (ws : List ℕ) (h : Holding) : Type 0 where
@@ -58,8 +58,8 @@ unfolding desk_fits
 start_sound ws cells rows snapshots p h =
     record {
       desk = refl;
-      fits = and_true _ _ (lt-ltb p (plan_of ws).desks h)
-          (and_true _ _ refl (and_true _ _ (eq-eqb (p % (plan_of ws).desks) p (mod-eq_of_lt h)) (none_waits (plan_of ws) p
+      fits = and_from _ _ (lt-ltb p (plan_of ws).desks h)
+          (and_from _ _ refl (and_from _ _ (eq-eqb (p % (plan_of ws).desks) p (mod-eq_of_lt h)) (none_waits (plan_of ws) p
           (rows p) 0 refl)));
       size = refl;
       room = omega arith;

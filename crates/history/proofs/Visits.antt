@@ -13,7 +13,7 @@ use lib.Seq.{take-append_seam, length-take-le}
 use borrow.Author.Tests.{ltb-true, eqb-true, eq-eqb}
 use Rattle.verdict.specs.Verdict.{Verdict, accepted, refused, is_accepted}
 use Rattle.verdict.proofs.Verdicts.{ask_then_accepted, then_accepted}
-use Rattle.lists.proofs.Laws.{and_true}
+use Rattle.std.proofs.lemmas.Bool.{and_from}
 use Rattle.word.specs.Field.{addressed_desk}
 use Rattle.plan.specs.Decode.{head_of, plan_of}
 use Rattle.plan.specs.Admission.{plan_verdict}
@@ -133,9 +133,9 @@ module _ (ws : List ℕ) (accept : plan_verdict ws ≡ accepted) (sizes : Sizes)
       let s = six ws h ok.fits in
       record {
         desk = refl;
-        fits = and_true _ _ s.below
-            (and_true _ _ refl
-            (and_true _ _ (eq-eqb ((frame_visit ft + n) % n) d.desk
+        fits = and_from _ _ s.below
+            (and_from _ _ refl
+            (and_from _ _ (eq-eqb ((frame_visit ft + n) % n) d.desk
             (add-mod_right (frame_visit ft) n ∙ ap (λ (v : ℕ). v % n) t.number ∙ s.turn))
             (none_waits (plan_of ws) d.desk h.queue 0 refl)));
         size = ok.size;

@@ -10,7 +10,8 @@ use mathlib.Core.List.{List, [], ◌∷◌, ◌++◌, map}
 use lib.Dec.{eqb}
 use lib.ListN.{length, get_or}
 use Rattle.verdict.specs.Verdict.{accepted}
-use Rattle.lists.proofs.Laws.{by_same, eqb_yes, eqb_no}
+use Rattle.std.proofs.lemmas.Bool.{eq-eqb, ne_eqb}
+use Rattle.lists.proofs.Laws.{by_same}
 use Rattle.plan.specs.Plan.{Plan}
 use Rattle.plan.specs.Decode.{plan_of}
 use Rattle.plan.specs.Admission.{plan_verdict}
@@ -48,9 +49,9 @@ module _ (p : Plan) (class : Operation → Class) (q : ℕ) where
     request_in_order local false d r = e
     request_in_order global true d r =
         by_same q d
-        (λ f. rw (eqb_yes f)
+        (λ f. rw (eq-eqb _ _ f)
         (ap (λ (l : List Request). join_queue (is_urgent p) l r) (ap s.queues (sym f) ∙ e) ∙ first_joins (is_urgent p) rs r))
-        (λ f. rw (eqb_no f) e)
+        (λ f. rw (ne_eqb _ _ f) e)
     request_in_order global false d r = e
 
     call_in_order : (b : Bool) (c : Call) → (note p class b s c).queues q ≡ urgent_first (is_urgent p) (arrived_by p class q b rs c)

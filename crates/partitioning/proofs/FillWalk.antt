@@ -9,7 +9,7 @@ use native.Mathlib.Nat.{mul-div_right}
 use native.Mathlib.Omega.{arith}
 use lib.ListN.{length, get_or, set, take, drop, length-set, drop_of_length-le}
 use lib.Seq.{take-suc, take-suc-set, drop-set-lt, take_all}
-use Rattle.lists.proofs.Laws.{drop_here}
+use Rattle.std.proofs.lemmas.List.{drop_more}
 use Rattle.plan.specs.Decode.{is_open}
 use Rattle.partitioning.specs.Filling.{fill, with_field}
 use Rattle.partitioning.specs.Best.{open_words, candidate, candidate_count, filling_count, filling, filled_by}
@@ -39,7 +39,7 @@ pub fillings_behind : (ws : List ℕ) (i n : ℕ) → i < length ws → is_open 
     → n / candidate_count (get_or ws i 0) ≡ fillings_from ws (i + 1)
 unfolding filling_count
 fillings_behind ws i n h e f =
-    ap (λ (m : ℕ). m / candidate_count (get_or ws i 0)) (f ∙ ap (λ (l : List ℕ). filling_count (open_words l)) (drop_here ws i 0 h) ∙ rw e)
+    ap (λ (m : ℕ). m / candidate_count (get_or ws i 0)) (f ∙ ap (λ (l : List ℕ). filling_count (open_words l)) (drop_more ws i 0 h) ∙ rw e)
     ∙ mul-div_right (fillings_from ws (i + 1)) (omega arith)
 
 pub some_behind : (ws : List ℕ) (i n : ℕ) → i < length ws → is_open (get_or ws i 0) ≡ true → n ≡ fillings_from ws i
@@ -47,7 +47,7 @@ pub some_behind : (ws : List ℕ) (i n : ℕ) → i < length ws → is_open (get
 some_behind ws i n h e f = rw (fillings_behind ws i n h e f) (count_pos (open_words (drop (i + 1) ws)))
 
 pub fillings_past : (ws : List ℕ) (i : ℕ) → i < length ws → is_open (get_or ws i 0) ≡ false → fillings_from ws i ≡ fillings_from ws (i + 1)
-fillings_past ws i h e = ap (λ (l : List ℕ). filling_count (open_words l)) (drop_here ws i 0 h) ∙ rw e
+fillings_past ws i h e = ap (λ (l : List ℕ). filling_count (open_words l)) (drop_more ws i 0 h) ∙ rw e
 
 pub ruleset walk_fillings = (some_behind, fillings_behind, fillings_past)
 
@@ -72,7 +72,7 @@ module _ (m : ℕ) (whole ws : List ℕ) (i n r : ℕ) (p : FilledTo m whole ws 
             ∙ append_assoc (take i ws) (x ∷ []) (filled_by (drop (i + 1) ws) (r % k))
             ∙ ap (λ (y : ℕ). take i ws ++ (y ∷ filled_by (drop (i + 1) ws) (r % k))) b
             ∙ ap (λ (l : List ℕ). take i ws ++ l) (sym (fill_open (get_or ws i 0) (drop (i + 1) ws) r e k behind))
-            ∙ ap (λ (l : List ℕ). take i ws ++ filled_by l r) (sym (drop_here ws i 0 h))
+            ∙ ap (λ (l : List ℕ). take i ws ++ filled_by l r) (sym (drop_more ws i 0 h))
             ∙ p.filled;
       }
 
@@ -84,7 +84,7 @@ module _ (m : ℕ) (whole ws : List ℕ) (i n r : ℕ) (p : FilledTo m whole ws 
         ap (λ (l : List ℕ). l ++ filled_by (drop (i + 1) ws) r) (ap (λ (j : ℕ). take j ws) (add-one i) ∙ take-suc ws i 0 h)
         ∙ append_assoc (take i ws) (get_or ws i 0 ∷ []) (filled_by (drop (i + 1) ws) r)
         ∙ ap (λ (l : List ℕ). take i ws ++ l) (sym (fill_not (get_or ws i 0) (drop (i + 1) ws) r e))
-        ∙ ap (λ (l : List ℕ). take i ws ++ filled_by l r) (sym (drop_here ws i 0 h))
+        ∙ ap (λ (l : List ℕ). take i ws ++ filled_by l r) (sym (drop_more ws i 0 h))
         ∙ p.filled;
   }
 

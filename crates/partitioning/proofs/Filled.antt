@@ -10,7 +10,8 @@ use lib.ListN.{length, get_or, take, drop}
 use Rattle.verdict.specs.Verdict.{accepted}
 use Rattle.verdict.proofs.Verdicts.{ask_then_accepted}
 use Rattle.std.specs.List.{list_all}
-use Rattle.lists.proofs.Laws.{and_fst, and_snd, and_true}
+use Rattle.std.proofs.lemmas.Bool.{and_from}
+use Rattle.lists.proofs.Laws.{and_fst, and_snd}
 use Rattle.word.specs.Field.{head_transactions, parameter_count, step_count, partitioning_field}
 use Rattle.plan.specs.Plan.{Transaction}
 use Rattle.plan.specs.Decode.{is_open, step_of, part_by, transaction_of, transactions_of, plan_of, head_of}
@@ -97,7 +98,7 @@ module _ (n w : ℕ) (ws fs : List ℕ) (e : well_formed (suc n) (w ∷ ws) ≡ 
   first_exists : parameters_exist (transaction_of w ws) ≡ true → parameters_exist (filled_transaction fs w ws) ≡ true
   unfolding parameters_exist
   first_exists q =
-      and_true (part_exists (parameter_count w) (part_by (partitioning_field (put_field (get_or fs 0 0) w)))) _
+      and_from (part_exists (parameter_count w) (part_by (partitioning_field (put_field (get_or fs 0 0) w)))) _
       (put_exists (get_or fs 0 0) w here parts.form (and_fst (part_exists (parameter_count w) (part_by (partitioning_field w))) _ q))
       (and_snd (part_exists (parameter_count w) (part_by (partitioning_field w))) _ q)
 
@@ -120,7 +121,7 @@ fill_exists zero ws fs e c q = refl
 fill_exists (suc n) [] fs e c q = refl
 fill_exists (suc n) (w ∷ ws) fs e c q =
     ap (list_all parameters_exist) (fill_transactions_lem n w ws fs e c)
-    ∙ and_true (parameters_exist (filled_transaction fs w ws)) _
+    ∙ and_from (parameters_exist (filled_transaction fs w ws)) _
     (first_exists n w ws fs e c (and_fst (parameters_exist (transaction_of w ws)) _ q))
     (fill_exists n (drop (step_count w) ws) (fields_behind fs w) (formed_parts n w ws e).rest (candidates_past n w ws fs e c)
     (and_snd (parameters_exist (transaction_of w ws)) _ q))
@@ -132,7 +133,7 @@ fill_decided zero ws fs e c = refl
 fill_decided (suc n) [] fs e c = refl
 fill_decided (suc n) (w ∷ ws) fs e c =
     ap (list_all decided) (fill_transactions_lem n w ws fs e c)
-    ∙ and_true (decided (filled_transaction fs w ws)) _
+    ∙ and_from (decided (filled_transaction fs w ws)) _
     (first_decided n w ws fs e c)
     (fill_decided n (drop (step_count w) ws) (fields_behind fs w) (formed_parts n w ws e).rest (candidates_past n w ws fs e c))
 

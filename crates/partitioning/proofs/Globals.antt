@@ -12,8 +12,9 @@ use lib.Count.{ones}
 use lib.ListN.{length, get_or}
 use borrow.Author.Tests.{lt-ltb, ltb-true}
 use Rattle.verdict.specs.Verdict.{accepted}
-use Rattle.lists.proofs.Laws.{and_fst, and_snd, and_true, bool_ext, by_same, by_less, every_member}
-use Rattle.lists.proofs.Laws.{member_some, some_member, some_below_number, number_some_below}
+use Rattle.std.proofs.lemmas.Bool.{and_from}
+use Rattle.lists.proofs.Laws.{and_fst, and_snd, bool_ext, by_same, by_less, all_member}
+use Rattle.lists.proofs.Laws.{member_any, any_member, any_below_number, number_any_below}
 use Rattle.plan.specs.Plan.{writes, Step, cell, Transaction, Plan, no_transaction, transaction_at}
 use Rattle.plan.specs.Decode.{plan_of}
 use Rattle.plan.specs.Admission.{plan_verdict}
@@ -38,14 +39,14 @@ use Rattle.partitioning.specs.Cost.{HasGlobalMeans, CostMeans}
 shared_cell : (p : Plan) (s : Step) → writes_shared p s ≡ true → (c : ℕ) × (step_writes s c ≡ true) × (1 < ones (desk_mask p c))
 unfolding writes_shared
 shared_cell p s e =
-    let m = some_below_number store_size (λ c. step_writes s c && shared p c) e in
+    let m = any_below_number store_size (λ c. step_writes s c && shared p c) e in
     (m.0, and_fst (step_writes s m.0) _ m.2, ltb-true 1 _ (and_snd (step_writes s m.0) _ m.2))
 
 cell_shared : (p : Plan) (s : Step) (c : ℕ) → c < store_size → step_writes s c ≡ true → 1 < ones (desk_mask p c) → writes_shared p s ≡ true
 unfolding writes_shared
 cell_shared p s c l w h =
-    number_some_below store_size (λ c. step_writes s c && shared p c) c l
-    (and_true (step_writes s c) (shared p c) w (lt-ltb 1 (ones (desk_mask p c)) h))
+    number_any_below store_size (λ c. step_writes s c && shared p c) c l
+    (and_from (step_writes s c) (shared p c) w (lt-ltb 1 (ones (desk_mask p c)) h))
 
 module _ (ws : List ℕ) (e : plan_verdict ws ≡ accepted) where
   -- ---- the test finds a global operation
@@ -94,8 +95,8 @@ module _ (ws : List ℕ) (e : plan_verdict ws ≡ accepted) where
         let fits = (sound_at ws e o.transaction (transaction_below p o i)).fits in
         let n = names_of writes o.params t.steps c m in
         let v = value_low o.params writes n.table n.column n.row (fits _ n.step)
-        (every_member (row_in_range o.params) t.steps _ (rows_passed p o i) n.step) in
-        member_some (writes_shared p) (cell writes n.table n.column n.row) t.steps n.step
+        (all_member (row_in_range o.params) t.steps _ (rows_passed p o i) n.step) in
+        member_any (writes_shared p) (cell writes n.table n.column n.row) t.steps n.step
         (cell_shared p (cell writes n.table n.column n.row) c
         (cells_low writes o.params t.steps fits (rows_passed p o i) c m)
         (cell_found n.table n.column n.row o.params c v n.is) h)
@@ -121,7 +122,7 @@ module _ (ws : List ℕ) (e : plan_verdict ws ≡ accepted) where
   has_global_gives : (k : ℕ) → k < length (plan_of ws).transactions
       → has_global (plan_of ws) (transaction_at (plan_of ws) k) ≡ true → HasGlobal (plan_of ws) k
   has_global_gives k below h =
-      let s = some_member (writes_shared (plan_of ws)) (transaction_at (plan_of ws) k).steps h in
+      let s = any_member (writes_shared (plan_of ws)) (transaction_at (plan_of ws) k).steps h in
       let c = shared_cell (plan_of ws) s.0 s.2 in
       let o = writer_of k below s.0 s.1 c.0 c.1 in
       (o.0, o.1, o.2, shared_global o.0 o.1 c.0 o.3 c.2)

@@ -1,6 +1,6 @@
 -- Sets of rows as masks of 32 bits: whether one is empty, and the rows that a step can name.
 -- Assumes nothing.
-use mathlib.Core.Path.{◌≡◌, refl, ◌∙◌, ap}
+use mathlib.Core.Path.{◌≡◌, refl, sym, ◌∙◌, ap}
 use mathlib.Core.Bool.{Bool, true, false, not, ◌||◌, cond}
 use Prim.Native.Nat.{ℕ, zero, suc, ◌+◌, ◌-◌, ◌*◌, ◌^◌, ◌<◌}
 use native.Mathlib.Nat.{zero-add, zero-mul}
@@ -8,8 +8,8 @@ use native.Mathlib.Omega.{arith}
 use lib.Dec.{eqb, eqb→eq}
 use lib.Pow.{pow_pos}
 use borrow.Author.Tests.{ne_eqb}
-use Rattle.lists.specs.Lists.{some_below}
-use Rattle.lists.proofs.Laws.{below_at}
+use Rattle.lists.specs.Lists.{any_below}
+use Rattle.lists.proofs.Laws.{below_at, any_below_more}
 use Rattle.word.specs.Field.{row_source, fixed_row}
 use Rattle.plan.specs.Plan.{param, fixed}
 use Rattle.plan.specs.Decode.{row_of}
@@ -18,12 +18,12 @@ use Rattle.conflict.specs.Written.{row_given}
 use Rattle.partitioning.specs.Touched.{rows_of}
 
 -- a set is empty exactly if no row is in it
-pub mask_empty : (n : ℕ) (f : ℕ → Bool) → not (eqb (mask_of n f) 0) ≡ some_below n f
-unfolding mask_of some_below
+pub mask_empty : (n : ℕ) (f : ℕ → Bool) → not (eqb (mask_of n f) 0) ≡ any_below n f
+unfolding mask_of any_below
 mask_empty zero f = refl
-mask_empty (suc n) f = go (f n) (mask_empty n f)
+mask_empty (suc n) f = go (f n) (mask_empty n f) ∙ sym (any_below_more n f)
   where
-    go : (b : Bool) → not (eqb (mask_of n f) 0) ≡ some_below n f → not (eqb (bit b * 2 ^ n + mask_of n f) 0) ≡ (b || some_below n f)
+    go : (b : Bool) → not (eqb (mask_of n f) 0) ≡ any_below n f → not (eqb (bit b * 2 ^ n + mask_of n f) 0) ≡ (b || any_below n f)
     go true h = ap not (ne_eqb (1 * 2 ^ n + mask_of n f) 0 (λ e. omega (arith, pow_pos n)))
     go false h = ap (λ (x : ℕ). not (eqb x 0)) (ap (λ (x : ℕ). x + mask_of n f) (zero-mul (2 ^ n)) ∙ zero-add (mask_of n f)) ∙ h
 

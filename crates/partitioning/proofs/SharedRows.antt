@@ -13,9 +13,10 @@ use lib.Dec.{ltb, leb, eqb}
 use lib.ListN.{get_or}
 use borrow.Author.Tests.{eq-eqb, ne_eqb, eqb-true, leb-true, leb-false}
 use Rattle.std.specs.List.{list_all}
-use Rattle.lists.specs.Lists.{some_below}
-use Rattle.lists.proofs.Laws.{and_fst, and_snd, and_true, bool_ext, by_same, get_or_tabulate}
-use Rattle.lists.proofs.Laws.{some_below_number, number_some_below, some_below_none}
+use Rattle.lists.specs.Lists.{any_below}
+use Rattle.std.proofs.lemmas.Bool.{and_from}
+use Rattle.lists.proofs.Laws.{and_fst, and_snd, bool_ext, by_same, get_or_tabulate}
+use Rattle.lists.proofs.Laws.{any_below_number, number_any_below, any_below_none}
 use Rattle.word.specs.Field.{kind_of, table_field, column_field}
 use Rattle.plan.specs.Plan.{Step, Plan}
 use Rattle.plan.specs.Decode.{step_of, row_of, transactions_of}
@@ -100,7 +101,7 @@ module _ (p : Plan) (ws : List ℕ) (m q : ℕ) (few : p.desks ≤ 8) (some_desk
 
     -- a write step's word, by the rows of its table column
     word_rows : (w : ℕ) → not (eqb (bit_and (get_or sets (table_column w) 0) (rows_of w)) 0)
-        ≡ some_below 32 (λ r. shared p (cell_in (table_column w) r) && row_given (row_of w) r)
+        ≡ any_below 32 (λ r. shared p (cell_in (table_column w) r) && row_given (row_of w) r)
     word_rows w =
         let l : table_column w < 32 = omega arith in
         ap (λ (x : ℕ). not (eqb x 0)) (ap₂ bit_and (get_or_tabulate 32 (shared_in p.desks t) (table_column w) 0 l ∙ shared_column
@@ -111,27 +112,27 @@ module _ (p : Plan) (ws : List ℕ) (m q : ℕ) (few : p.desks ≤ 8) (some_desk
     -- ---- the step in a word
 
     -- the shared cells of a write step are those of its table column's rows
-    rows_cells : (w : ℕ) → some_below 32 (λ r. shared p (cell_in (table_column w) r) && row_given (row_of w) r)
-        ≡ some_below store_size (λ c. cell_given (table_field w) (column_field w) (row_of w) c && shared p c)
+    rows_cells : (w : ℕ) → any_below 32 (λ r. shared p (cell_in (table_column w) r) && row_given (row_of w) r)
+        ≡ any_below store_size (λ c. cell_given (table_field w) (column_field w) (row_of w) c && shared p c)
     unfolding cell_given
     rows_cells w =
         let f : ℕ → Bool = λ c. cell_given (table_field w) (column_field w) (row_of w) c && shared p c in
         let g : ℕ → Bool = λ r. shared p (cell_in (table_column w) r) && row_given (row_of w) r in
         bool_ext _ _
-        (λ e. let i = some_below_number 32 g e in
+        (λ e. let i = any_below_number 32 g e in
         let c = cell_in (table_column w) i.0 in
         let b = step_parts w i.0 i.1 in
-        number_some_below store_size f c b.3
+        number_any_below store_size f c b.3
         (rw (eq-eqb (c / 128) (table_field w) b.0, eq-eqb (c % 4) (column_field w) b.1, b.2)
-        (and_true _ _ (and_snd (shared p c) _ i.2) (and_fst (shared p c) _ i.2))))
-        (λ e. let i = some_below_number store_size f e in
+        (and_from _ _ (and_snd (shared p c) _ i.2) (and_fst (shared p c) _ i.2))))
+        (λ e. let i = any_below_number store_size f e in
         let c = i.0 in
         let given = and_fst (cell_given (table_field w) (column_field w) (row_of w) c) _ i.2 in
         let behind = and_snd (eqb (c / 128) (table_field w)) _ given in
         let back : c ≡ cell_in (table_column w) (c / 4 % 32) = parts_step w c (eqb-true (c / 128) (table_field w) (and_fst _ _ given))
         (eqb-true (c % 4) (column_field w) (and_fst _ _ behind)) in
-        number_some_below 32 g (c / 4 % 32) (omega arith)
-        (and_true _ _ (subst (λ (x : ℕ). shared p x ≡ true) back (and_snd (cell_given (table_field w) (column_field w) (row_of w) c) _ i.2))
+        number_any_below 32 g (c / 4 % 32) (omega arith)
+        (and_from _ _ (subst (λ (x : ℕ). shared p x ≡ true) back (and_snd (cell_given (table_field w) (column_field w) (row_of w) c) _ i.2))
         (and_snd (eqb (c % 4) (column_field w)) _ behind)))
 
     -- the code's test is the one of the cost
@@ -143,9 +144,9 @@ module _ (p : Plan) (ws : List ℕ) (m q : ℕ) (few : p.desks ≤ 8) (some_desk
         (λ e. rw (ne_eqb (kind_of w) 4 e) (sym (go (leb (kind_of w) 4) refl e)))
       where
         go : (b : Bool) → leb (kind_of w) 4 ≡ b → (kind_of w ≡ 4 → ⊥)
-            → some_below store_size (λ c. step_writes (step_of w) c && shared p c) ≡ false
+            → any_below store_size (λ c. step_writes (step_of w) c && shared p c) ≡ false
         go true h e =
-            rw (step_reads w (omega (arith, e, leb-true (kind_of w) 4 h, step_kind_low w f))) (some_below_none store_size)
+            rw (step_reads w (omega (arith, e, leb-true (kind_of w) 4 h, step_kind_low w f))) (any_below_none store_size)
         go false h e =
-            step_above_4 (λ (s : Step). some_below store_size (λ c. step_writes s c && shared p c) ≡ false) w
-            (leb-false (kind_of w) 4 h) (λ g v. some_below_none store_size) (some_below_none store_size)
+            step_above_4 (λ (s : Step). any_below store_size (λ c. step_writes s c && shared p c) ≡ false) w
+            (leb-false (kind_of w) 4 h) (λ g v. any_below_none store_size) (any_below_none store_size)

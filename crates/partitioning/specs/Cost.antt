@@ -6,7 +6,7 @@
 use Rattle.std.specs.Prelude.{ℕ, suc, ◌+◌, ◌<◌, ◌≡◌, Bool, true, ◌&&◌, cond, List, [], ◌∷◌, ◌↔◌, length}
 use Rattle.verdict.specs.Verdict.{accepted}
 use Rattle.std.specs.List.{list_any}
-use Rattle.lists.specs.Lists.{some_below}
+use Rattle.lists.specs.Lists.{any_below}
 use Rattle.plan.specs.Plan.{Step, Transaction, Plan, transaction_at}
 use Rattle.plan.specs.Decode.{plan_of}
 use Rattle.plan.specs.Admission.{plan_verdict}
@@ -43,7 +43,7 @@ shared p c = is_shared (desk_mask p c)
 
 -- the step may write such a cell
 unfoldable pub writes_shared : Plan → Step → Bool
-writes_shared p s = some_below store_size (λ c. step_writes s c && shared p c)
+writes_shared p s = any_below store_size (λ c. step_writes s c && shared p c)
 
 abbrev pub has_global : Plan → Transaction → Bool
 has_global p t = list_any (writes_shared p) t.steps

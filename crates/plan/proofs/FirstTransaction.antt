@@ -4,7 +4,7 @@ use Rattle.std.proofs.Common.{ℕ, zero, suc, ◌+◌, ◌-◌, ◌<◌, ◌≤�
 use Rattle.std.proofs.lemmas.Bool.{false≢true}
 use lib.Seq.{length-take-le}
 use borrow.Author.Tests.{leb-true}
-use Rattle.lists.proofs.Laws.{take_remainder}
+use Rattle.std.proofs.lemmas.List.{take_rest}
 use Rattle.word.specs.Field.{step_count}
 use Rattle.plan.specs.Decode.{step_of, transaction_of, transactions_of}
 use Rattle.plan.specs.Admission.{well_formed, tell_count, most_tells}
@@ -37,7 +37,7 @@ first_transaction (suc n) (w ∷ ws) e h =
         steps = p.steps;
         tells_few = leb-true (tell_count (map step_of (take (step_count w) ws))) most_tells p.tells_few;
       };
-      rest = rw (take_remainder (w ∷ ws) (1 + step_count w), m, k) p.rest;
-      decoded = rw (take_remainder (w ∷ ws) (1 + step_count w), m, k);
+      rest = rw (take_rest (w ∷ ws) (1 + step_count w), m, k) p.rest;
+      decoded = rw (take_rest (w ∷ ws) (1 + step_count w), m, k);
       steps = rw s;
     }

@@ -9,7 +9,9 @@ use lib.ListN.{length, get_or, take, drop, take-append-drop}
 use lib.Dec.{eqb}
 use borrow.Author.Tests.{eq-eqb, ne_eqb, eqb-true}
 use Rattle.std.specs.List.{list_all, list_any}
-use Rattle.lists.proofs.Laws.{and_fst, and_snd, some_here, some_past, some_append}
+use Rattle.std.proofs.lemmas.List.Folds.{list_any-append}
+use Rattle.std.proofs.lemmas.List.{at_drop_more, at_drop_all}
+use Rattle.lists.proofs.Laws.{and_fst, and_snd}
 use Rattle.word.specs.Field.{kind_of, head_transactions, step_count, partitioning_field}
 use Rattle.plan.specs.Decode.{open_field, is_open, part_by, transactions_of, plan_of}
 use Rattle.plan.specs.Admission.{transaction_formed, step_formed, well_formed, part_decided, decided, OpenFound}
@@ -60,7 +62,8 @@ transactions_decided (suc n) (w ∷ ws) f =
     ∙ not_or (is_open w) (list_any is_open (drop (step_count w) ws))
     ∙ ap (λ (x : Bool). not (is_open w || x))
     (ap (λ (x : Bool). x || list_any is_open (drop (step_count w) ws)) (sym steps)
-    ∙ sym (some_append is_open (take (step_count w) ws) (drop (step_count w) ws)) ∙ ap (list_any is_open) (take-append-drop (step_count w) ws))
+    ∙ sym (list_any-append is_open (take (step_count w) ws) (drop (step_count w) ws))
+    ∙ ap (list_any is_open) (take-append-drop (step_count w) ws))
 
 -- the head is of kind 1
 pub open_found : OpenFound
@@ -84,8 +87,8 @@ open_all ws = refl
 module _ (ws : List ℕ) (i : ℕ) where
   pub open_here : i < length ws → some_open_from ws i ≡ (is_open (get_or ws i 0) || some_open_from ws (i + 1))
   unfolding some_open_from
-  open_here h = some_here is_open ws i 0 h
+  open_here h = at_drop_more (list_any is_open) ws i 0 h
 
   pub open_none : length ws ≤ i → some_open_from ws i ≡ false
   unfolding some_open_from
-  open_none h = some_past is_open ws i h
+  open_none h = at_drop_all (list_any is_open) ws i h

@@ -13,7 +13,8 @@ use lib.ListN.{length, get_or, take, drop, drop_of_length-le}
 use lib.Seq.{drop-cons}
 use Rattle.verdict.specs.Verdict.{Verdict, accepted, refused, ask, ◌then◌}
 use Rattle.std.specs.List.{list_all}
-use Rattle.lists.proofs.Laws.{and_fst, and_snd, left_suc, drop_here, drop_cases}
+use Rattle.std.proofs.lemmas.List.{drop_more}
+use Rattle.lists.proofs.Laws.{and_fst, and_snd, left_suc, drop_cases}
 use Rattle.word.specs.Field.{parameter_count, step_count, partitioning_field}
 use Rattle.plan.specs.Decode.{transactions_of, step_of, part_by}
 use Rattle.plan.specs.Admission.{well_formed, parameters_exist, transaction_formed, step_formed}
@@ -110,7 +111,7 @@ pub stands : (form : ℕ → Bool) (plan : List ℕ) (at : ℕ) → formed_at fo
     → (at < length plan) × (drop at plan ≡ get_or plan at 0 ∷ drop (at + 1) plan) × (form (get_or plan at 0) ≡ true)
 stands form plan at f =
     let l = ltb-true at (length plan) (and_fst (ltb at (length plan)) _ f) in
-    (l, drop_here plan at 0 l, and_snd (ltb at (length plan)) _ f)
+    (l, drop_more plan at 0 l, and_snd (ltb at (length plan)) _ f)
 
 -- the verdict from a place of the walk on, in the walk's own variables. Both are shut, so that antt reads their arguments off a goal
 pub rest_at : (txs t : ℕ) (plan : List ℕ) (at : ℕ) (m : Bool) → Verdict

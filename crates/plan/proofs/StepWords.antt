@@ -10,7 +10,7 @@ use native.Mathlib.Omega.{arith}
 use lib.ListN.{length, take, drop, length-drop}
 use lib.Seq.{drop-cons, get_or-drop, get_or-take, length-take-le}
 use Rattle.std.specs.List.{list_all}
-use Rattle.lists.proofs.Laws.{and_fst, and_snd, left_suc, every_index}
+use Rattle.lists.proofs.Laws.{and_fst, and_snd, left_suc, all_index}
 use Rattle.plan.specs.Plan.{Step}
 use Rattle.plan.specs.Decode.{step_of}
 use Rattle.plan.specs.Admission.{step_formed}
@@ -42,7 +42,7 @@ module _ (ws : List ℕ) (at s : ℕ) (p : StandsAt ws at) (h : s < steps_at ws 
       (omega (arith, p.room, length-drop (at + 1) ws)) in
       let k : s < length (take (steps_at ws at) (drop (at + 1) ws)) = omega (arith, l) in
       rw e (rw (get_or-take (steps_at ws at) (drop (at + 1) ws) s 0 h, get_or-drop (at + 1) ws s 0) at
-      (every_index step_formed (take (steps_at ws at) (drop (at + 1) ws)) s 0 p.steps k))
+      (all_index step_formed (take (steps_at ws at) (drop (at + 1) ws)) s 0 p.steps k))
 
 -- what holds of every step holds of each, as the walk meets it
 module _ (f : Step → Bool) (ws : List ℕ) (at : ℕ) (p : StandsAt ws at) (e : list_all f (transaction_from ws at).steps ≡ true) where

@@ -9,7 +9,8 @@ use Prim.Native.Nat.{ℕ, ◌+◌, ◌≤◌, ◌<◌}
 use native.Mathlib.Omega.{arith}
 use lib.ListN.{length, take, drop, drop_of_length-le}
 use lib.Seq.{get_or-take, length-take-le}
-use Rattle.lists.proofs.Laws.{drop_here, length_tabulate, get_or_tabulate}
+use Rattle.std.proofs.lemmas.List.{drop_more}
+use Rattle.lists.proofs.Laws.{length_tabulate, get_or_tabulate}
 use Rattle.queue.specs.declared.record.Request.{Request}
 use Rattle.queue.specs.Queue.{no_request}
 use Rattle.queue.specs.Words.{record_in, records_in}
@@ -21,7 +22,7 @@ module _ (row : List ℕ) (waiting : ℕ) (few : waiting ≤ 32) where
   pub waiting_here : (i : ℕ) → i < waiting
       → drop i (take waiting (records_in row)) ≡ record_in row i ∷ drop (i + 1) (take waiting (records_in row))
   waiting_here i h =
-      drop_here (take waiting (records_in row)) i no_request (omega (arith, waiting_length))
+      drop_more (take waiting (records_in row)) i no_request (omega (arith, waiting_length))
       ∙ ap (λ (r : Request). r ∷ drop (i + 1) (take waiting (records_in row)))
       (get_or-take waiting (records_in row) i no_request h ∙ get_or_tabulate 32 (record_in row) i no_request (omega arith))
 

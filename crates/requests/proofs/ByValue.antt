@@ -13,7 +13,8 @@ use native.Mathlib.Omega.{arith}
 use lib.ListN.{length, take, drop, drop_of_length-le}
 use lib.Seq.{take_all}
 use borrow.Author.Tests.{eq-eqb, ne_eqb}
-use Rattle.lists.specs.Lists.{overwritten, inserted}
+use Rattle.std.specs.List.{insert}
+use Rattle.lists.specs.Lists.{overwritten}
 use Rattle.lists.proofs.Laws.{by_same}
 use Rattle.plan.specs.Decode.{plan_of}
 use Rattle.queue.specs.declared.record.Request.{Request}
@@ -125,8 +126,8 @@ module _ (ws : List ℕ) (d : Desk) (cells : List ℕ) (size : ℕ) (row : List 
         ∙ ap (λ (m : ℕ). without_queue (request_result ws (holding d cells (queue_in (take m row))) r)) is
         ∙ sym (result_beside ws d cells r (queue_of size row) (queue_in (take (words_of size) row)) (lent_same d.waiting size row long)))
         (ap (queue_of size) as_it_was
-        ∙ sym (ap (λ (b : Bool). cond b (overwritten (inserted (place_in (plan_of ws) d.waiting (queue_of size row) r) r
-        (waiting_in d.waiting (queue_of size row))) (queue_of size row)) (queue_of size row)) no_wait))
+        ∙ sym (ap (λ (b : Bool). cond b (overwritten (insert (waiting_in d.waiting (queue_of size row)) (place_in (plan_of ws) d.waiting
+        (queue_of size row) r) r) (queue_of size row)) (queue_of size row)) no_wait))
 
     none_row : row' ≡ row_left_of size row (queue_of size row')
     unfolding row_left_of

@@ -10,7 +10,8 @@ use Prim.Native.Nat.{ℕ, ◌+◌, ◌<◌}
 use native.Mathlib.Omega.{arith}
 use lib.ListN.{length}
 use lib.Seq.{length-take-le, take_at}
-use Rattle.lists.specs.Lists.{overwritten, inserted}
+use Rattle.std.specs.List.{insert}
+use Rattle.lists.specs.Lists.{overwritten}
 use Rattle.lists.proofs.Laws.{overwritten_length}
 use Rattle.plan.specs.Plan.{Plan}
 use Rattle.queue.specs.declared.record.Request.{Request}
@@ -35,6 +36,6 @@ module _ (h : Holding) (p : Plan) (r : Request) where
     enqueued_length = overwritten_length (join_queue (is_urgent p) (waiting_at h) r) h.queue (omega (arith, joined_length))
 
   pub enqueued_moved : urgent_lead (is_urgent p) (waiting_at h) ≡ true
-      → (enqueued h p r).queue ≡ overwritten (inserted (place_in p h.state.waiting h.queue r) r (waiting_at h)) h.queue
+      → (enqueued h p r).queue ≡ overwritten (insert (waiting_at h) (place_in p h.state.waiting h.queue r) r) h.queue
   enqueued_moved e =
       ap (λ (rs : List Request). overwritten rs h.queue) (joins_at_place Request (is_urgent p) (waiting_at h) r e)

@@ -19,7 +19,8 @@ use lib.Seq.{length-take-le}
 use borrow.Author.Tests.{eqb-true, ltb-true}
 use Rattle.verdict.specs.Verdict.{Verdict, accepted, refused, ask, ◌then◌}
 use Rattle.verdict.proofs.Verdicts.{then_accepted, ask_then_accepted, then_only_after_yes}
-use Rattle.lists.specs.Lists.{overwritten, inserted}
+use Rattle.std.specs.List.{insert}
+use Rattle.lists.specs.Lists.{overwritten}
 use Rattle.lists.proofs.Laws.{and_snd}
 use Rattle.plan.specs.Plan.{Plan}
 use Rattle.plan.specs.Decode.{plan_of}
@@ -196,7 +197,7 @@ module _ (ws : List ℕ) (d : Desk) (cells : List ℕ) (q : List Request) (r : R
   queue_left = by_test (is_waits all.answer) refl
     where
       by_test : (b : Bool) → is_waits all.answer ≡ b → all.queue
-          ≡ cond b (overwritten (inserted (place_in (plan_of ws) d.waiting q r) r (waiting_in d.waiting q)) q) q
+          ≡ cond b (overwritten (insert (waiting_in d.waiting q) (place_in (plan_of ws) d.waiting q r) r) q) q
       by_test true e = (waits_only e).queue ∙ enqueued_moved (holding d cells q) (plan_of ws) r (waits_ordered e)
       by_test false e = (else_kept e).queue
 
@@ -214,7 +215,7 @@ module _ (ws : List ℕ) (d : Desk) (cells : List ℕ) (q : List Request) (r : R
   refused_left question v result u =
       let none : is_waits (response_of result.answer) ≡ false = ap (λ (s : Requested). is_waits s.answer) (u cells) in (
         left_whole result cells q (u cells ∙ left_beside ws d cells q r (refused question) v)
-            (sym (ap (λ (b : Bool). cond b (overwritten (inserted (place_in (plan_of ws) d.waiting q r) r (waiting_in d.waiting q)) q) q)
+            (sym (ap (λ (b : Bool). cond b (overwritten (insert (waiting_in d.waiting q) (place_in (plan_of ws) d.waiting q r) r) q) q)
             none)),
         sym (ap (λ (b : Bool). cond b (place_in (plan_of ws) d.waiting q r) d.waiting) none),
       )
@@ -243,7 +244,7 @@ module _ (ws : List ℕ) (d : Desk) (cells : List ℕ) (size : ℕ) (row : List 
 
     -- it waits: the records from its place on are stored back
     waiting_stored : is_waits (response_of result.answer) ≡ true → stored_back queue row' from end
-        ≡ overwritten (inserted (place_in (plan_of ws) d.waiting queue r) r (waiting_in d.waiting queue)) queue
+        ≡ overwritten (insert (waiting_in d.waiting queue) (place_in (plan_of ws) d.waiting queue r) r) queue
     waiting_stored e =
         let w = waits_only ws d cells queue r (ap is_waits (sym answers) ∙ e) in
         let long : length queue ≡ 32 = waits_long ws d cells queue r (ap is_waits (sym answers) ∙ e) in
@@ -265,9 +266,9 @@ module _ (ws : List ℕ) (d : Desk) (cells : List ℕ) (size : ℕ) (row : List 
         ∙ queue_left ws d cells (queue_of size row) r
         ∙ ap₂ (λ (a : Response) (q : List Request). queue_after a (plan_of ws) d.waiting q r)
         (sym (ap (λ (s : Requested). s.answer) left)) lent
-        ∙ ap (λ (b : Bool). cond b (overwritten (inserted (place_in (plan_of ws) d.waiting (records_in row) r) r
-        (waiting_in d.waiting (records_in row))) (records_in row)) (records_in row)) e
-        ∙ ap (λ (rs : List Request). overwritten (inserted (join_place (is_urgent (plan_of ws)) rs r) r rs) (records_in row)) (sym front))
+        ∙ ap (λ (b : Bool). cond b (overwritten (insert (waiting_in d.waiting (records_in row)) (place_in (plan_of ws) d.waiting
+        (records_in row) r) r) (records_in row)) (records_in row)) e
+        ∙ ap (λ (rs : List Request). overwritten (insert rs (join_place (is_urgent (plan_of ws)) rs r) r) (records_in row)) (sym front))
 
     pub by_waiting_records : requested_of result cells' (stored_back queue row' from end) ≡ whole
     by_waiting_records = left_whole ws d cells queue r result cells' (stored_back queue row' from end) beside stored
@@ -276,7 +277,7 @@ module _ (ws : List ℕ) (d : Desk) (cells : List ℕ) (size : ℕ) (row : List 
         stored = by_test (is_waits (response_of result.answer)) refl
           where
             by_test : (b : Bool) → is_waits (response_of result.answer) ≡ b → stored_back queue row' from end
-                ≡ cond b (overwritten (inserted (place_in (plan_of ws) d.waiting queue r) r (waiting_in d.waiting queue)) queue) queue
+                ≡ cond b (overwritten (insert (waiting_in d.waiting queue) (place_in (plan_of ws) d.waiting queue r) r) queue) queue
             by_test true e = waiting_stored e
             by_test false e =
                 let k = else_kept ws d cells queue r (ap is_waits (sym answers) ∙ e) in

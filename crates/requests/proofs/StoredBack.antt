@@ -9,8 +9,10 @@ use native.Mathlib.Nat.{min-eq_left}
 use native.Mathlib.Omega.{arith}
 use lib.ListN.{length, get_or, take, drop, get_or-append}
 use lib.Seq.{ext_get_or, length-take-le, get_or-take, get_or-drop, get_or-append-add}
-use Rattle.lists.specs.Lists.{overwritten, inserted}
-use Rattle.lists.proofs.Laws.{by_less, get_or_tabulate, overwritten_length, length_inserted, get_or_inserted_before}
+use Rattle.std.specs.List.{insert}
+use Rattle.lists.specs.Lists.{overwritten}
+use Rattle.std.proofs.lemmas.List.Edits.{length-insert}
+use Rattle.lists.proofs.Laws.{by_less, get_or_tabulate, overwritten_length, get_or_insert_before}
 use Rattle.queue.specs.declared.record.Request.{Request}
 use Rattle.queue.specs.Queue.{no_request, record_at}
 use Rattle.queue.specs.Words.{record_in, records_in, stored_back}
@@ -18,16 +20,16 @@ use Rattle.queue.proofs.StoringBack.{length_stored_back, get_or_stored_back_with
 
 module _ (queue : List Request) (ws : List ℕ) (behind : List Request) (place waiting : ℕ) (r : Request) (fits : place ≤ waiting)
     (room : waiting < length queue) (long : length queue ≡ 32)
-    (left : records_in ws ≡ overwritten (inserted place r (take waiting queue)) behind) where
+    (left : records_in ws ≡ overwritten (insert (take waiting queue) place r) behind) where
   front : List Request
-  front = inserted place r (take waiting queue)
+  front = insert (take waiting queue) place r
 
   taken : length (take waiting queue) ≡ waiting
   taken = length-take-le waiting queue (omega arith)
 
   front_length : length front ≡ waiting + 1
   unfolding front
-  front_length = length_inserted (take waiting queue) place r (omega (arith, taken)) ∙ ap (λ (n : ℕ). n + 1) taken
+  front_length = length-insert (take waiting queue) place r (omega (arith, taken)) ∙ ap (λ (n : ℕ). n + 1) taken
 
   -- the record that stands at a place of the queue then
   stands : ℕ → Request
@@ -44,7 +46,7 @@ module _ (queue : List Request) (ws : List ℕ) (behind : List Request) (place w
   unfolding stands front
   before i h =
       sym (get_or-take waiting queue i no_request (omega arith))
-      ∙ sym (get_or_inserted_before (take waiting queue) place queue r i no_request (omega (arith, taken)) h)
+      ∙ sym (get_or_insert_before (take waiting queue) place queue r i no_request (omega (arith, taken)) h)
 
   past : (i : ℕ) → waiting + 1 ≤ i → record_at queue i ≡ stands i
   unfolding stands
@@ -65,7 +67,7 @@ module _ (queue : List Request) (ws : List ℕ) (behind : List Request) (place w
       (λ b. get_or_stored_back_within queue ws place (waiting + 1) i l b (omega (arith, end_is)) ∙ in_front i h))
       (λ h. get_or_stored_back_outside queue ws place (waiting + 1) i (inr (omega (arith, end_is))) ∙ past i h)
 
-  pub inserted_back : stored_back queue ws place (waiting + 1) ≡ overwritten (inserted place r (take waiting queue)) queue
+  pub inserted_back : stored_back queue ws place (waiting + 1) ≡ overwritten (insert (take waiting queue) place r) queue
   unfolding stands front
   inserted_back =
       let size : length (stored_back queue ws place (waiting + 1)) ≡ length queue = length_stored_back queue ws place (waiting + 1) in

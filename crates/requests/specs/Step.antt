@@ -6,7 +6,8 @@
 --     opening_verdict    questions 1 to 4, 17 and 5
 use Rattle.std.specs.Prelude.{ℕ, cond, List, []}
 use Rattle.verdict.specs.Verdict.{Verdict, ask, ◌then◌}
-use Rattle.lists.specs.Lists.{overwritten, inserted}
+use Rattle.std.specs.List.{insert}
+use Rattle.lists.specs.Lists.{overwritten}
 use Rattle.plan.specs.Plan.{Plan}
 use Rattle.plan.specs.Admission.{plan_verdict}
 use Rattle.queue.specs.declared.record.Request.{Request}
@@ -24,7 +25,7 @@ place_in p waiting queue r = join_place (is_urgent p) (waiting_in waiting queue)
 -- place `waiting` is overwritten
 abbrev pub queue_after : Response → Plan → ℕ → List Request → Request → List Request
 queue_after a p waiting queue r =
-    cond (is_waits a) (overwritten (inserted (place_in p waiting queue r) r (waiting_in waiting queue)) queue) queue
+    cond (is_waits a) (overwritten (insert (waiting_in waiting queue) (place_in p waiting queue r) r) queue) queue
 
 -- where none has changed it is the place behind those that wait
 abbrev pub store_from : Response → Plan → ℕ → List Request → Request → ℕ

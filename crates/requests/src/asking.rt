@@ -6,7 +6,8 @@
 //     record_of, request_step    the record of a request; the request
 ghost use Rattle.std.specs.Prelude.{◌≡◌, cond, IfSome, IfOk, List, [], ℕ, ◌<◌, ltb, length, ◌≤◌};
 ghost use Rattle.verdict.specs.Verdict.{ask, ◌then◌, verdict_of};
-ghost use Rattle.lists.specs.Lists.{overwritten, inserted};
+ghost use Rattle.std.specs.List.{insert};
+ghost use Rattle.lists.specs.Lists.{overwritten};
 ghost use Rattle.plan.specs.Plan.{Plan as Decoded};
 ghost use Rattle.plan.specs.Decode.{plan_of};
 ghost use Rattle.plan.specs.Accepted.{the_plan};
@@ -113,7 +114,7 @@ fn with_state(served: Result<(RequestAnswer, Desk), Refusal>, state: Desk) -> Re
 fn join(plan: &Plan, waiting: usize, row: &mut [u32], request: Request) -> usize
     requires { (waiting < queue_size) × (length row.old ≡ queue_words) }
     ensures { (result ≡ place_in (the_plan plan.now) waiting (records_in row.old) request)
-        × (records_in row.new ≡ overwritten (inserted result request (waiting_in waiting (records_in row.old)))
+        × (records_in row.new ≡ overwritten (insert (waiting_in waiting (records_in row.old)) result request)
         (records_in row.old)) }
 {
     let place = desk::join_place(plan, waiting, row, &request);

@@ -7,8 +7,9 @@ use mathlib.Core.Logic.{◌≢◌}
 use mathlib.Core.Bool.{Bool, true, false, cond, true≢false}
 use mathlib.Core.List.{List, [], ◌∷◌, map, Memᴰ}
 use native.Mathlib.Omega.{arith}
-use Rattle.lists.proofs.Laws.{by_same, eqb_yes, eqb_no, eqb_self, All_left, All_right}
-use Rattle.lists.specs.Lists.{All}
+use Rattle.std.proofs.lemmas.Bool.{eq-eqb, ne_eqb}
+use Rattle.lists.proofs.Laws.{by_same, All_left, All_right}
+use Rattle.std.specs.List.{AllByRecursion}
 use Rattle.serial.specs.Store.{Store}
 use Rattle.serial.specs.Frame.{Frame}
 use Rattle.serial.specs.Desk.{Request, Desk, Call, request, visit, desk_called, Answer, refused, waits, is_refused, given}
@@ -58,7 +59,7 @@ module _ (S : System) where
 
   module _ (w : ℕ → Desk Op) (p : ℕ) (f : Frame) (x : Extra) (accepted : is_refused (answer_at S w (visit p f x)) ≡ false) where
     pub visit_answers_queue_in_order : AnswersQueue p (w p) f (step_at S w (visit p f x) p, answer_at S w (visit p f x))
-    visit_answers_queue_in_order = rw (eqb_self p) (answers_queue p (w p) f (admits (w p) (visit p f x)) accepted)
+    visit_answers_queue_in_order = rw (eq-eqb p p refl) (answers_queue p (w p) f (admits (w p) (visit p f x)) accepted)
 
 module _ (S : System) (L : Laws S) where
   open S use {n, Op, Extra, Reply, reply, admits}
@@ -86,7 +87,7 @@ module _ (S : System) (L : Laws S) where
   -- a request that is told to wait is in its desk's queue
   pub waits_in_queue : (w : ℕ → Desk Op) (p : ℕ) (r : Request Op) (x : Extra) → answer_at S w (request p r x) ≡ waits →
       Waits r (step_at S w (request p r x) p)
-  waits_in_queue w p r x e = rw (eqb_self p) (joins (route S p r.op) (w p) r (admits (w p) (request p r x)) e)
+  waits_in_queue w p r x e = rw (eq-eqb p p refl) (joins (route S p r.op) (w p) r (admits (w p) (request p r x)) e)
 
   -- ---- it stays there until an accepted visit at its desk
 
@@ -94,20 +95,21 @@ module _ (S : System) (L : Laws S) where
   met_by d c o = cond o (accepted_step S d c) (d, refused)
 
   keeps : (d : Desk Op) (c : Call Op Extra) (o : Bool) (r : Request Op) →
-      All (NotAt (desk_called c)) (cond (is_refused (met_by d c o).1) [] (visit_of S d c)) → Waits r d → Waits r (met_by d c o).0
+      AllByRecursion (NotAt (desk_called c)) (cond (is_refused (met_by d c o).1) [] (visit_of S d c)) → Waits r d → Waits r (met_by d c o).0
   keeps d c false r h m = m
   keeps d (request p t x) true r h m = route_keeps (route S p t.op) d t r m
   keeps d (visit p f x) true r h m = absurd (h.0 refl)
 
-  stays : (w : ℕ → Desk Op) (c : Call Op Extra) (p : ℕ) (r : Request Op) → All (NotAt p) (visits_at S w c) → Waits r (w p) →
+  stays : (w : ℕ → Desk Op) (c : Call Op Extra) (p : ℕ) (r : Request Op) → AllByRecursion (NotAt p) (visits_at S w c) → Waits r (w p) →
       Waits r (step_at S w c p)
   stays w c p r h m =
       let q : ℕ = desk_called c in
       by_same p q
-      (λ e. rw (eqb_yes e) (keeps (w q) c (admits (w q) c) r (rw e at h) (rw e at m)))
-      (λ e. rw (eqb_no e) m)
+      (λ e. rw (eq-eqb _ _ e) (keeps (w q) c (admits (w q) c) r (rw e at h) (rw e at m)))
+      (λ e. rw (ne_eqb _ _ e) m)
 
-  pub waits_on : (cs : List (Call Op Extra)) (w : ℕ → Desk Op) (p : ℕ) (r : Request Op) → All (NotAt p) (visits S w cs) → Waits r (w p) →
+  pub waits_on : (cs : List (Call Op Extra)) (w : ℕ → Desk Op) (p : ℕ) (r : Request Op) → AllByRecursion (NotAt p) (visits S w cs)
+      → Waits r (w p) →
       Waits r (desks_after S w cs p)
   waits_on [] w p r h m = m
   waits_on (c ∷ cs) w p r h m =
@@ -116,7 +118,7 @@ module _ (S : System) (L : Laws S) where
 
   -- r waits at desk p; the calls of cs have no accepted visit there; then one is accepted: it answers r, with its client's word
   pub answered_at_next_visit : (w : ℕ → Desk Op) (cs : List (Call Op Extra)) (p : ℕ) (r : Request Op) (f : Frame) (x : Extra) →
-      Memᴰ r (w p).queue → All (NotAt p) (visits S w cs) → is_refused (answer_at S (desks_after S w cs) (visit p f x)) ≡ false →
+      Memᴰ r (w p).queue → AllByRecursion (NotAt p) (visits S w cs) → is_refused (answer_at S (desks_after S w cs) (visit p f x)) ≡ false →
       (s : Store) × Memᴰ (r.client, reply r.op s) (given (answer_at S (desks_after S w cs) (visit p f x)))
   answered_at_next_visit w cs p r f x m h a =
       (visit_answers_queue_in_order S (desks_after S w cs) p f x a).each_answered r (waits_on cs w p r h m)

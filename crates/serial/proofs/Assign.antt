@@ -4,7 +4,8 @@ use Prim.Native.Nat.{ℕ}
 use mathlib.Core.Path.{◌≡◌, refl, fun_ext}
 use mathlib.Core.Bool.{Bool, true, false, cond}
 use lib.Dec.{eqb}
-use Rattle.lists.proofs.Laws.{by_same, eqb_yes, eqb_no, eqb_self}
+use Rattle.std.proofs.lemmas.Bool.{eq-eqb, ne_eqb}
+use Rattle.lists.proofs.Laws.{by_same}
 use Rattle.lists.specs.Lists.{assign}
 
 cond_map : {A B : Type 0} (f : A → B) (b : Bool) (x y : A) → f (cond b x y) ≡ cond b (f x) (f y)
@@ -16,7 +17,7 @@ pub assign_map : {A B : Type 0} (f : A → B) (p : ℕ) (x : A) (w : ℕ → A) 
 assign_map f p x w = fun_ext (λ q. cond_map f (eqb q p) x (w q))
 
 pub assign_same : {A : Type 0} (p : ℕ) (x : A) (w : ℕ → A) → assign p x w p ≡ x
-assign_same p x w = rw (eqb_self p) refl
+assign_same p x w = rw (eq-eqb p p refl) refl
 
 pub assign_self : {A : Type 0} (p : ℕ) (w : ℕ → A) → assign p (w p) w ≡ w
-assign_self p w = fun_ext (λ q. by_same q p (λ e. rw (eqb_yes e) (rw e refl)) (λ e. rw (eqb_no e) refl))
+assign_self p w = fun_ext (λ q. by_same q p (λ e. rw (eq-eqb _ _ e) (rw e refl)) (λ e. rw (ne_eqb _ _ e) refl))

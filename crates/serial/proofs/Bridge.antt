@@ -5,8 +5,10 @@ use Prim.Native.Nat.{ℕ, ◌<◌}
 use mathlib.Core.Path.{◌≡◌, refl, sym, ◌∙◌, ap}
 use mathlib.Core.List.Memᴰ
 use mathlib.Core.List.{List, [], ◌∷◌, ◌++◌, map, map-append, Memᴰ}
-use Rattle.lists.proofs.Laws.{by_same, eqb_yes, eqb_no}
-use Rattle.lists.specs.Lists.{All, assign}
+use Rattle.std.proofs.lemmas.Bool.{eq-eqb, ne_eqb}
+use Rattle.lists.proofs.Laws.{by_same}
+use Rattle.std.specs.List.{AllByRecursion}
+use Rattle.lists.specs.Lists.{assign}
 use Rattle.serial.proofs.Assign.{assign_map}
 use Rattle.serial.specs.Store.{Store}
 use Rattle.serial.specs.Frame.{Frame, start_frame}
@@ -36,7 +38,7 @@ module _ {S : System} (M : Machine S) where
     p = at_desk M c
 
     ok_step : AllOk (machine_step M w c)
-    ok_step q l = by_same q p (λ e. rw (eqb_yes e) (rw e (M.ok_does (w p) c h.0 h.1 (ok p h.0)))) (λ e. rw (eqb_no e) (ok q l))
+    ok_step q l = by_same q p (λ e. rw (eq-eqb _ _ e) (rw e (M.ok_does (w p) c h.0 h.1 (ok p h.0)))) (λ e. rw (ne_eqb _ _ e) (ok q l))
 
     seen_step : seen M (machine_step M w c) ≡ assign p (serve S (seen M w p) (call_of c)).0 (seen M w)
     seen_step =
@@ -47,20 +49,20 @@ module _ {S : System} (M : Machine S) where
     seen_answer = M.answer_does (w p) c h.0 h.1 (ok p h.0)
 
   -- the machine's history, seen through the view, is the abstract one
-  pub seen_answers : (cs : List C) (w : ℕ → State) → All Called cs → AllOk w →
+  pub seen_answers : (cs : List C) (w : ℕ → State) → AllByRecursion Called cs → AllOk w →
       answers_seen M w cs ≡ answers S (seen M w) (map call_of cs)
   seen_answers [] w h ok = refl
   seen_answers (c ∷ cs) w h ok =
       rw (seen_answer w c h.0 ok, ← seen_step w c h.0 ok, seen_answers cs (machine_step M w c) h.1 (ok_step w c h.0 ok)) refl
 
-  pub seen_after : (cs : List C) (w : ℕ → State) → All Called cs → AllOk w →
+  pub seen_after : (cs : List C) (w : ℕ → State) → AllByRecursion Called cs → AllOk w →
       seen M (machine_after M w cs) ≡ desks_after S (seen M w) (map call_of cs)
   seen_after [] w h ok = refl
   seen_after (c ∷ cs) w h ok =
       seen_after cs (machine_step M w c) h.1 (ok_step w c h.0 ok)
       ∙ ap (λ (v : ℕ → Desk S.Op). desks_after S v (map call_of cs)) (seen_step w c h.0 ok)
 
-  pub ok_after : (cs : List C) (w : ℕ → State) → All Called cs → AllOk w → AllOk (machine_after M w cs)
+  pub ok_after : (cs : List C) (w : ℕ → State) → AllByRecursion Called cs → AllOk w → AllOk (machine_after M w cs)
   ok_after [] w h ok = ok
   ok_after (c ∷ cs) w h ok = ok_after cs (machine_step M w c) h.1 (ok_step w c h.0 ok)
 
@@ -73,7 +75,7 @@ module _ {S : System} (M : Machine S) (N : Words M) where
   framed ws c (request p r x) e h = tt
   framed ws c (visit p f x) e h = rw (N.shown_frame c p f x e) (Memᴰ.map frame_of h)
 
-  pub proper_called : (cs : List C) (w : ℕ → State) (ws : List W) → MachineProper M N w ws cs → All (Called M) cs
+  pub proper_called : (cs : List C) (w : ℕ → State) (ws : List W) → MachineProper M N w ws cs → AllByRecursion (Called M) cs
   proper_called [] w ws pr = tt
   proper_called (c ∷ cs) w ws pr =
       ((pr.0, pr.1), proper_called cs (machine_step M w c) (ws ++ out (does (w (at_desk M c)) c).1) pr.3)
@@ -102,7 +104,7 @@ module _ {S : System} (M : Machine S) (N : Words M) where
 
   module _ (b : Store) (w : ℕ → State) (ok : AllOk M w) (e : seen M w ≡ new_desks S b) (cs : List C)
       (pr : MachineProper M N w (N.start ∷ []) cs) where
-    pub machine_called : All (Called M) cs
+    pub machine_called : AllByRecursion (Called M) cs
     machine_called = proper_called cs w (N.start ∷ []) pr
 
     pub machine_proper : ProperFrom S b (map call_of cs)

@@ -5,8 +5,10 @@ use mathlib.Core.Path.{◌≡◌, refl, sym, ◌∙◌, ap}
 use mathlib.Core.List.{List, [], ◌∷◌, ◌++◌, append-nil, Memᴰ}
 use native.Mathlib.Omega.{arith}
 use lib.ListN.{length, length-append}
-use Rattle.lists.proofs.Laws.{by_same, eqb_yes, eqb_no, All_mem, mem_All, one_more, snoc_nil}
-use Rattle.lists.specs.Lists.{All, assign}
+use Rattle.std.proofs.lemmas.Bool.{eq-eqb, ne_eqb}
+use Rattle.lists.proofs.Laws.{by_same, All_mem, mem_All, one_more, snoc_nil}
+use Rattle.std.specs.List.{AllByRecursion}
+use Rattle.lists.specs.Lists.{assign}
 use Rattle.serial.proofs.Assign.{assign_map, assign_same, assign_self}
 use Rattle.serial.specs.Store.{Store}
 use Rattle.serial.specs.Frame.{Frame}
@@ -64,13 +66,14 @@ Replies R = List (List (ℕ × R))
 module _ (S : System) (L : Laws S) (b : Store) where
   open S use {n, Op, Reply, desk, join}
 
-  all_join : (p : ℕ) (q : List (Request Op)) (r : Request Op) → All (OfDesk S p) q → desk r.op ≡ p → All (OfDesk S p) (join q r)
+  all_join : (p : ℕ) (q : List (Request Op)) (r : Request Op) → AllByRecursion (OfDesk S p) q → desk r.op ≡ p
+      → AllByRecursion (OfDesk S p) (join q r)
   all_join p q r h e = mem_All (OfDesk S p) (join q r) (λ t m. All_mem (OfDesk S p) t (r ∷ q) (L.join_only q r t m) (e, h))
 
   module _ {w : ℕ → Desk Op} {s : Serial Op} {past : Replies Reply} {fs : List Frame} {tk : Frame} (k : Good S b w s past fs tk)
       (p : ℕ) where
     -- with nothing answered, any queues that hold only their desk's requests
-    quiet_inv : (queues' : ℕ → List (Request Op)) → ((q : ℕ) → All (OfDesk S q) (queues' q)) →
+    quiet_inv : (queues' : ℕ → List (Request Op)) → ((q : ℕ) → AllByRecursion (OfDesk S q) (queues' q)) →
         Inv S b (stores_of w) queues' (awaited_of w) s.heard (length s.globals) (order S s) (past ++ ([] ∷ [])) fs tk
     quiet_inv queues' h =
         let I = k.inv in
@@ -137,8 +140,8 @@ module _ (S : System) (L : Laws S) (b : Store) where
           latest_heard = k.latest_heard;
           inv = rw (part_kept a_store d refl, part_put a_queue d, part_kept an_awaited d refl, append-nil fs)
               (quiet_inv (assign p d.queue (queues_of w))
-              (λ q. by_same q p (λ e. rw (eqb_yes e) (rw e (all_join p (w p).queue r (k.inv.queued p) h.1)))
-              (λ e. rw (eqb_no e) (k.inv.queued q))));
+              (λ q. by_same q p (λ e. rw (eq-eqb _ _ e) (rw e (all_join p (w p).queue r (k.inv.queued p) h.1)))
+              (λ e. rw (ne_eqb _ _ e) (k.inv.queued q))));
         }
     request_good below redirect r h = still_good
 

@@ -8,8 +8,9 @@ use native.Mathlib.Omega.{arith}
 use native.Mathlib.Nat.{div-add-mod', mul-le-mul_right, add-mod_right, suc-mul, add-zero}
 use lib.ListN.{length, drop, get_or, length-append, length-drop}
 use lib.Seq.{drop-append-le, drop-cons}
-use Rattle.lists.proofs.Laws.{by_same, by_less, eqb_yes, eqb_no}
-use Rattle.lists.specs.Lists.{All}
+use Rattle.std.proofs.lemmas.Bool.{eq-eqb, ne_eqb}
+use Rattle.lists.proofs.Laws.{by_same, by_less}
+use Rattle.std.specs.List.{AllByRecursion}
 use Rattle.serial.specs.Store.{Update}
 use Rattle.serial.specs.Frame.{foreign}
 use Rattle.serial.specs.Visits.{Visit, appended, last_of}
@@ -20,17 +21,17 @@ use Rattle.serial.proofs.Turns.{MarkedBy, Entry}
 pub foreign_append : (p : ℕ) (us vs : List (ℕ × Update)) → foreign p (us ++ vs) ≡ foreign p us ++ foreign p vs
 foreign_append p [] vs = refl
 foreign_append p (u ∷ us) vs =
-    by_same u.0 p (λ e. rw (eqb_yes e) (foreign_append p us vs))
-    (λ e. rw (eqb_no e) (ap (λ (l : List (ℕ × Update)). u ∷ l) (foreign_append p us vs)))
+    by_same u.0 p (λ e. rw (eq-eqb _ _ e) (foreign_append p us vs))
+    (λ e. rw (ne_eqb _ _ e) (ap (λ (l : List (ℕ × Update)). u ∷ l) (foreign_append p us vs)))
 
-foreign_own : (p : ℕ) (us : List (ℕ × Update)) → All (MarkedBy p) us → foreign p us ≡ []
+foreign_own : (p : ℕ) (us : List (ℕ × Update)) → AllByRecursion (MarkedBy p) us → foreign p us ≡ []
 foreign_own p [] h = refl
-foreign_own p (u ∷ us) h = rw (eqb_yes h.0) (foreign_own p us h.1)
+foreign_own p (u ∷ us) h = rw (eq-eqb _ _ h.0) (foreign_own p us h.1)
 
-foreign_other : (p q : ℕ) (us : List (ℕ × Update)) → q ≢ p → All (MarkedBy q) us → foreign p us ≡ us
+foreign_other : (p q : ℕ) (us : List (ℕ × Update)) → q ≢ p → AllByRecursion (MarkedBy q) us → foreign p us ≡ us
 foreign_other p q [] ne h = refl
 foreign_other p q (u ∷ us) ne h =
-    rw (eqb_no (λ (e : u.0 ≡ p). ne (sym h.0 ∙ e))) (ap (λ (l : List (ℕ × Update)). u ∷ l) (foreign_other p q us ne h.1))
+    rw (ne_eqb _ _ (λ (e : u.0 ≡ p). ne (sym h.0 ∙ e))) (ap (λ (l : List (ℕ × Update)). u ∷ l) (foreign_other p q us ne h.1))
 
 pub appended_append : (us vs : List Visit) → appended (us ++ vs) ≡ appended us ++ appended vs
 appended_append [] vs = refl

@@ -8,7 +8,7 @@ use native.Mathlib.Omega.{arith}
 use native.Mathlib.Nat.{mul-le-mul_right, suc-mul, le_refl}
 use lib.ListN.{length}
 use Rattle.lists.proofs.Laws.{by_less}
-use Rattle.lists.specs.Lists.{All}
+use Rattle.std.specs.List.{AllByRecursion}
 use Rattle.serial.specs.Store.{Store, Same}
 use Rattle.serial.specs.Frame.{Frame}
 use Rattle.serial.specs.Desk.{Request, Desk}
@@ -35,7 +35,7 @@ module _ {A : Type 0} (key : A → ℕ) where
   Past j e = j < key e
 
   abbrev High : List A → Type 0
-  High es = (j : ℕ) → All (Past j) (beyond key j es)
+  High es = (j : ℕ) → AllByRecursion (Past j) (beyond key j es)
 
   insert_high : (e : A) (es : List A) → High es → High (insert key e es)
   insert_high e es h j =
@@ -56,15 +56,15 @@ module _ (S : System) (L : Laws S) where
       (λ i. absurd (omega (arith, mul-le-mul_right {m = k} {n = g} (span n) i)))
   between g p h (immediate_run k q) e l u a = a
 
-  all_between : (g p : ℕ) → p < n → (es : List (Finished Op)) → All (Past (place n) (place_at n g 0)) es →
-      All (Low (place n) (place_at n g (suc p))) es → All (AtOnce S) es → All (Leaves S (Unowned S)) es
+  all_between : (g p : ℕ) → p < n → (es : List (Finished Op)) → AllByRecursion (Past (place n) (place_at n g 0)) es →
+      AllByRecursion (Low (place n) (place_at n g (suc p))) es → AllByRecursion (AtOnce S) es → AllByRecursion (Leaves S (Unowned S)) es
   all_between g p h [] l u a = tt
   all_between g p h (e ∷ es) l u a =
       (between g p h e.slot e l.0 u.0 a.0, all_between g p h es l.1 u.1 a.1)
 
   module _ {b : Store} {w : ℕ → Desk Op} {s : Serial Op} {past : Replies Reply} {fs : List Frame} {tk : Frame}
       (k : Good S b w s past fs tk) (p : ℕ) (below : p < n) where
-    pub store_at_heard : All (AtOnce S) s.finished →
+    pub store_at_heard : AllByRecursion (AtOnce S) s.finished →
         Same (Unowned S) (w p).store (store_after S (through S (s.heard p) (order S s)) b)
     store_at_heard a =
         let es : List (Finished Op) = order S s in

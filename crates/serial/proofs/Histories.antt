@@ -6,7 +6,7 @@ use mathlib.Core.Bool.{Bool, true, false, cond}
 use mathlib.Core.List.{List, [], ◌∷◌, ◌++◌, map, append_assoc, append-nil}
 use native.Mathlib.Omega.{arith}
 use native.Mathlib.Nat.{le_refl, mod-eq_of_lt}
-use Rattle.lists.proofs.Laws.{true_T}
+use Rattle.std.proofs.lemmas.Float.{T_from_true}
 use Rattle.lists.specs.Lists.{assign}
 use Rattle.serial.specs.Store.{Store}
 use Rattle.serial.specs.Frame.{Frame, start_frame}
@@ -46,7 +46,7 @@ module _ (S : System) (L : Laws S) (b : Store) where
   module _ {w : ℕ → Desk Op} {s : Serial Op} {past : Replies Reply} {fs : List Frame} {tk : Frame} (k : Good S b w s past fs tk) where
     -- an accepted visit brings the latest frame
     pub accepted_latest : (p : ℕ) (f : Frame) (x : Extra) → p < n → admits (w p) (visit p f x) ≡ true → Framed S fs (visit p f x) → f ≡ tk
-    accepted_latest p f x below e fr = frame_is_latest S L b k p below f fr (L.awaited_only (w p) p f x (true_T _ e))
+    accepted_latest p f x below e fr = frame_is_latest S L b k p below f fr (L.awaited_only (w p) p f x (T_from_true _ e))
 
     met : (c : Call Op Extra) (o : Bool) → admits (w (desk_called c)) c ≡ o → desk_called c < n →
         (is_refused (cond o (accepted_step S (w (desk_called c)) c) (w (desk_called c), refused)).1 ≡ false → Framed S fs c) →
@@ -57,7 +57,7 @@ module _ (S : System) (L : Laws S) (b : Store) where
         (request_good S L b k p below (route S p r.op) r (routed S p r.op))
     met (visit p f x) true e below fr =
         let i : f ≡ tk = accepted_latest p f x below e (fr refl) in
-        rw i (visit_good S L b k p below (rw i at (L.awaited_only (w p) p f x (true_T _ e))))
+        rw i (visit_good S L b k p below (rw i at (L.awaited_only (w p) p f x (T_from_true _ e))))
 
     pub call_good : (c : Call Op Extra) → desk_called c < n → (is_refused (answer_at S w c) ≡ false → Framed S fs c) →
         Next w s past fs tk c (serve S (w (desk_called c)) c)

@@ -1,13 +1,15 @@
 -- A free or local operation that runs at once: it enters the serial order in the middle, and what holds after every call is kept.
 -- Assumes nothing.
 use Prim.Native.Nat.{ℕ, suc, ◌≤◌, ◌<◌}
-use mathlib.Core.Path.{◌≡◌, sym, ◌∙◌, ap}
+use mathlib.Core.Path.{◌≡◌, sym, ◌∙◌, ap, refl}
 use mathlib.Core.Logic.{◌≢◌, inl, inr}
 use mathlib.Core.List.{List, [], ◌∷◌, ◌++◌}
 use native.Mathlib.Omega.{arith}
 use native.Mathlib.Nat.{le_refl}
 use lib.ListN.{length, get_or, get_or-eq_default}
-use Rattle.lists.proofs.Laws.{by_same, by_less, eqb_no, eqb_self, All_part, snoc_own, snoc_other}
+use Rattle.std.proofs.lemmas.Bool.{ne_eqb, eq-eqb}
+use Rattle.std.proofs.lemmas.List.{get_or_push}
+use Rattle.lists.proofs.Laws.{by_same, by_less, All_part, snoc_other}
 use Rattle.lists.specs.Lists.{assign}
 use Rattle.serial.specs.Store.{Store, Update, apply_update, apply_all, Same, Within}
 use Rattle.serial.specs.Frame.{Frame}
@@ -103,8 +105,9 @@ module _ (S : System) (L : Laws S) where
       immediate_serial_at_place q h =
           let k : ℕ = place_at n (g q) (suc q) in
           by_same q p
-          (λ e. rw (e, eqb_self p, new_upto spot (le_refl _), left_store) (apply_same made (stores p) at_spot (I.serial_at_place p below)))
-          (λ e. rw (eqb_no e)
+          (λ e. rw (e, eq-eqb p p refl, new_upto spot (le_refl _), left_store) (apply_same made (stores p) at_spot
+          (I.serial_at_place p below)))
+          (λ e. rw (ne_eqb _ _ e)
           (by_less k spot (λ l. rw (Sorting.upto_insert_lo (place n) k new es l) (I.serial_at_place q h))
           (λ l. rw (new_upto k l)
           (Same_trans (stores q) (store_after S (upto (place n) k es) b) (apply_update made (store_after S (upto (place n) k es) b))
@@ -117,14 +120,14 @@ module _ (S : System) (L : Laws S) where
           by_same q p
           (λ e. rw (
             e,
-            eqb_self p,
+            eq-eqb p p refl,
             new_end,
             left_store,
             Token.owed_past S L aw p made tk.updates (stores p) made_own
                 (All_part (Tagged S) (λ (u : ℕ × Update). Within (OutCell S u.0) u.1) tk.updates (λ u h. h.1) I.tags),
           )
           (apply_same made (apply_all (owed aw p tk.updates) (stores p)) (store_after S es b) (I.serial_with_owed p below)))
-          (λ e. rw (eqb_no e, new_end)
+          (λ e. rw (ne_eqb _ _ e, new_end)
           (Same_trans (apply_all (owed aw q tk.updates) (stores q)) (store_after S es b) (apply_update made (store_after S es b))
           (I.serial_with_owed q h) (unheard q e (store_after S es b))))
 
@@ -133,7 +136,7 @@ module _ (S : System) (L : Laws S) where
       immediate_giving i =
           by_same i (length past)
           (λ e. rw e
-          (snoc_own past said
+          (get_or_push past said [] (length past) refl
           ∙ rw (Runs.reply_same S L {P = Hears S p} t.op (stores p) at_spot reads_heard (I.serial_at_place p below))
           (sym (Runs.mid_due_own S L p new hr (upto (place n) spot es) (beyond (place n) spot es) b (I.own_not_beyond p below)
           (rw (Sorting.upto_beyond (place n) spot es) (sym (I.giving (length past)) ∙ get_or-eq_default past [] (le_refl _)))))))

@@ -4,8 +4,8 @@ use Prim.Native.Nat.{ℕ, suc}
 use mathlib.Core.Path.{◌≡◌, refl, ap}
 use mathlib.Core.Logic.{◌≢◌}
 use mathlib.Core.List.{List, [], ◌∷◌}
-use Rattle.lists.proofs.Laws.{eqb_no, eqb_self}
-use Rattle.lists.specs.Lists.{All}
+use Rattle.std.proofs.lemmas.Bool.{ne_eqb, eq-eqb}
+use Rattle.std.specs.List.{AllByRecursion}
 use Rattle.serial.specs.Store.{Store, apply_all, Same, Within}
 use Rattle.serial.specs.Desk.{Request}
 use Rattle.serial.specs.System.{System, Laws}
@@ -21,7 +21,8 @@ module _ (S : System) (L : Laws S) where
   -- ---- A queue of requests
 
   module _ (P : ℕ → Type 0) where
-    pub replies_same : (ts : List (Request Op)) (a b : Store) → All (ReadsIn S P) ts → Same P a b → replies_of S ts a ≡ replies_of S ts b
+    pub replies_same : (ts : List (Request Op)) (a b : Store) → AllByRecursion (ReadsIn S P) ts → Same P a b
+        → replies_of S ts a ≡ replies_of S ts b
     replies_same [] a b h s = refl
     replies_same (t ∷ ts) a b h s =
         rw (
@@ -30,7 +31,8 @@ module _ (S : System) (L : Laws S) where
               (run_one_same S L {P = P} t.op a b h.0 s),
         ) refl
 
-    pub updates_same : (ts : List (Request Op)) (a b : Store) → All (ReadsIn S P) ts → Same P a b → updates_of S ts a ≡ updates_of S ts b
+    pub updates_same : (ts : List (Request Op)) (a b : Store) → AllByRecursion (ReadsIn S P) ts → Same P a b
+        → updates_of S ts a ≡ updates_of S ts b
     updates_same [] a b h s = refl
     updates_same (t ∷ ts) a b h s =
         rw (
@@ -39,7 +41,8 @@ module _ (S : System) (L : Laws S) where
           update_same S L {P = P} t.op a b h.0 s,
         ) refl
 
-    pub run_all_same : (ts : List (Request Op)) (a b : Store) → All (ReadsIn S P) ts → Same P a b → Same P (run_all S ts a) (run_all S ts b)
+    pub run_all_same : (ts : List (Request Op)) (a b : Store) → AllByRecursion (ReadsIn S P) ts → Same P a b
+        → Same P (run_all S ts a) (run_all S ts b)
     run_all_same [] a b h s = s
     run_all_same (t ∷ ts) a b h s = run_all_same ts (run_one S t.op a) (run_one S t.op b) h.1
         (run_one_same S L {P = P} t.op a b h.0 s)
@@ -48,7 +51,8 @@ module _ (S : System) (L : Laws S) where
   run_all_updates [] b = refl
   run_all_updates (t ∷ ts) b = run_all_updates ts (run_one S t.op b)
 
-  pub updates_out : (p : ℕ) (ts : List (Request Op)) (b : Store) → All (OfDesk S p) ts → All (Within (OutCell S p)) (updates_of S ts b)
+  pub updates_out : (p : ℕ) (ts : List (Request Op)) (b : Store) → AllByRecursion (OfDesk S p) ts
+      → AllByRecursion (Within (OutCell S p)) (updates_of S ts b)
   updates_out p [] b h = tt
   updates_out p (t ∷ ts) b h = (
     Within_part (Writes t.op) (OutCell S p) (update t.op b) (λ c k. (t.op, h.0, k))
@@ -65,8 +69,8 @@ module _ (S : System) (L : Laws S) where
   pub ranked_due : (i k : ℕ) (ts : List (Request Op)) (b : Store) → due S i (ranked S i k ts) b ≡ replies_of S ts b
   ranked_due i k [] b = refl
   ranked_due i k (t ∷ ts) b =
-      rw (eqb_self i) (ap (λ (l : List (ℕ × Reply)). (t.client, reply t.op b) ∷ l) (ranked_due i (suc k) ts (run_one S t.op b)))
+      rw (eq-eqb i i refl) (ap (λ (l : List (ℕ × Reply)). (t.client, reply t.op b) ∷ l) (ranked_due i (suc k) ts (run_one S t.op b)))
 
   pub ranked_due_other : (i j k : ℕ) (ts : List (Request Op)) (b : Store) → i ≢ j → due S j (ranked S i k ts) b ≡ []
   ranked_due_other i j k [] b h = refl
-  ranked_due_other i j k (t ∷ ts) b h = rw (eqb_no h) (ranked_due_other i j (suc k) ts (run_one S t.op b) h)
+  ranked_due_other i j k (t ∷ ts) b h = rw (ne_eqb _ _ h) (ranked_due_other i j (suc k) ts (run_one S t.op b) h)

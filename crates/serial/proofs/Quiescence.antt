@@ -7,7 +7,7 @@ use mathlib.Core.Path.{◌≡◌, refl, sym, ◌∙◌, subst}
 use mathlib.Core.Logic.{◌≢◌}
 use mathlib.Core.List.{List, [], ◌∷◌}
 use lib.ListN.{get_or}
-use Rattle.lists.specs.Lists.{All}
+use Rattle.std.specs.List.{AllByRecursion}
 use Rattle.serial.specs.Store.{Store, Update, apply_all, Same}
 use Rattle.serial.specs.Desk.{Call}
 use Rattle.serial.specs.System.{System, Laws, Touches}
@@ -23,12 +23,12 @@ use Rattle.serial.proofs.Standing.{shared_hears, store_with_owed_is_serial}
 abbrev pub Idle : Visit → Type 0
 Idle v = v.updates ≡ []
 
-idle_none : (vs : List Visit) → All Idle vs → appended vs ≡ []
+idle_none : (vs : List Visit) → AllByRecursion Idle vs → appended vs ≡ []
 idle_none [] h = refl
 idle_none (v ∷ vs) h = rw h.0 (idle_none vs h.1)
 
 module _ (S : System) (L : Laws S) (b : Store) (cs : List (Call S.Op S.Extra)) (pr : ProperFrom S b cs)
-    (quiet : All Idle (last_of S.n (visits_of S b cs))) where
+    (quiet : AllByRecursion Idle (last_of S.n (visits_of S b cs))) where
   open S use {n, Op, desk}
 
   pub quiet_frame : (latest_of S b cs).updates ≡ []

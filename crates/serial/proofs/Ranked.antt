@@ -6,7 +6,7 @@ use mathlib.Core.List.{List, [], ◌∷◌, ◌++◌, append_assoc, append-nil}
 use native.Mathlib.Omega.{arith}
 use native.Mathlib.Nat.{suc-mul, add-zero}
 use lib.ListN.{length}
-use Rattle.lists.specs.Lists.{All}
+use Rattle.std.specs.List.{AllByRecursion}
 use Rattle.lists.proofs.Laws.{All_append, All_part}
 use Rattle.serial.specs.Desk.{Request}
 use Rattle.serial.specs.System.{System, Laws}
@@ -21,7 +21,7 @@ module _ (S : System) (L : Laws S) where
 
   -- ---- A queue that becomes the last globals
 
-  pub ranked_low : (i k : ℕ) (ts : List (Request Op)) → All (Low (place n) (place_at n (k + length ts) 0)) (ranked S i k ts)
+  pub ranked_low : (i k : ℕ) (ts : List (Request Op)) → AllByRecursion (Low (place n) (place_at n (k + length ts) 0)) (ranked S i k ts)
   ranked_low i k [] = tt
   ranked_low i k (t ∷ ts) = (
     place_mono S L {j = suc k} {k = k + suc (length ts)} 0 (omega arith),
@@ -29,17 +29,18 @@ module _ (S : System) (L : Laws S) where
         (λ e h. omega (arith, place_mono S L {j = suc k + length ts} {k = k + suc (length ts)} 0 (omega arith))) (ranked_low i (suc k) ts),
   )
 
-  pub ranked_high : (i j k : ℕ) (ts : List (Request Op)) → j ≤ place_at n k n → All (λ (e : Finished Op). j < place n e) (ranked S i k ts)
+  pub ranked_high : (i j k : ℕ) (ts : List (Request Op)) → j ≤ place_at n k n
+      → AllByRecursion (λ (e : Finished Op). j < place n e) (ranked S i k ts)
   ranked_high i j k [] h = tt
   ranked_high i j k (t ∷ ts) h = (omega (arith, suc-mul k (span n)), ranked_high i j (suc k) ts (omega (arith, suc-mul k (span n))))
 
-  pub ranked_all : (P : Op → Type 0) (i k : ℕ) (ts : List (Request Op)) → All (λ (t : Request Op). P t.op) ts →
-      All (λ (e : Finished Op). P e.request.op) (ranked S i k ts)
+  pub ranked_all : (P : Op → Type 0) (i k : ℕ) (ts : List (Request Op)) → AllByRecursion (λ (t : Request Op). P t.op) ts →
+      AllByRecursion (λ (e : Finished Op). P e.request.op) (ranked S i k ts)
   ranked_all P i k [] h = tt
   ranked_all P i k (t ∷ ts) h = (h.0, ranked_all P i (suc k) ts h.1)
 
   -- sorted behind all that is there
-  pub ranked_sort : (i k : ℕ) (es : List (Finished Op)) (ts : List (Request Op)) → All (Low (place n) (place_at n k n)) es →
+  pub ranked_sort : (i k : ℕ) (es : List (Finished Op)) (ts : List (Request Op)) → AllByRecursion (Low (place n) (place_at n k n)) es →
       sort_onto (place n) es (ranked S i k ts) ≡ es ++ ranked S i k ts
   ranked_sort i k es [] h = sym (append-nil es)
   ranked_sort i k es (t ∷ ts) h =
@@ -55,13 +56,13 @@ module _ (S : System) (L : Laws S) where
 
   -- what is true beyond the last global stays so: there is nothing if the queue was not empty
   pub ranked_beyond : (P : Finished Op → Type 0) (q i m : ℕ) (es : List (Finished Op)) (ts : List (Request Op)) →
-      All (Low (place n) (place_at n m n)) es →
-      All P (beyond (place n) (place_at n m (suc q)) es) →
-      All P (beyond (place n) (place_at n (m + length ts) (suc q)) (es ++ ranked S i m ts))
+      AllByRecursion (Low (place n) (place_at n m n)) es →
+      AllByRecursion P (beyond (place n) (place_at n m (suc q)) es) →
+      AllByRecursion P (beyond (place n) (place_at n (m + length ts) (suc q)) (es ++ ranked S i m ts))
   ranked_beyond P q i m es [] l h = rw (append-nil es, add-zero m) h
   ranked_beyond P q i m es (t ∷ ts) l h =
       let k : ℕ = m + suc (length ts) in
-      subst (All P)
+      subst (AllByRecursion P)
       (sym (Sorting.beyond_none (place n) (place_at n k (suc q)) (es ++ ranked S i m (t ∷ ts))
       (All_append (Low (place n) (place_at n k (suc q))) es (ranked S i m (t ∷ ts))
       (All_part (Low (place n) (place_at n m n)) (Low (place n) (place_at n k (suc q))) es

@@ -5,7 +5,8 @@ use mathlib.Core.Path.{◌≡◌, refl, sym, ◌∙◌}
 use mathlib.Core.Logic.{◌≢◌, inl, inr}
 use mathlib.Core.Bool.{Bool, true, false, false≢true}
 use lib.Dec.{eqb, eqb→eq}
-use Rattle.lists.proofs.Laws.{true_T, eqb_yes}
+use Rattle.std.proofs.lemmas.Float.{T_from_true}
+use Rattle.std.proofs.lemmas.Bool.{eq-eqb}
 use Rattle.serial.specs.System.{Class, free, local, global, System}
 use Rattle.serial.specs.Step.{Route, immediate, enqueue, redirect, route_by, route}
 use Rattle.serial.proofs.Conflicts.{RunsAt}
@@ -21,10 +22,10 @@ module _ (S : System) where
 
   module _ (p : ℕ) (o : Op) where
     own : eqb (desk o) p ≡ true → desk o ≡ p
-    own t = eqb→eq (desk o) p (true_T _ t)
+    own t = eqb→eq (desk o) p (T_from_true _ t)
 
     other : eqb (desk o) p ≡ false → desk o ≢ p
-    other f e = false≢true (sym f ∙ eqb_yes e)
+    other f e = false≢true (sym f ∙ eq-eqb _ _ e)
 
     waiting : class o ≡ global → desk o ≡ p → Routed enqueue p o
     waiting e d = (e, d)

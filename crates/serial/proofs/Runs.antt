@@ -4,8 +4,9 @@ use Prim.Native.Nat.{ℕ}
 use mathlib.Core.Path.{◌≡◌, refl, sym, ◌∙◌, ap}
 use mathlib.Core.Logic.{◌≢◌, inl, inr}
 use mathlib.Core.List.{List, [], ◌∷◌, ◌++◌}
-use Rattle.lists.proofs.Laws.{by_same, eqb_yes, eqb_no, eqb_self, none_left, none_right}
-use Rattle.lists.specs.Lists.{All}
+use Rattle.std.proofs.lemmas.Bool.{eq-eqb, ne_eqb}
+use Rattle.lists.proofs.Laws.{by_same, none_left, none_right}
+use Rattle.std.specs.List.{AllByRecursion}
 use Rattle.serial.specs.Store.{Store, Update, apply_update, Same, Within}
 use Rattle.serial.specs.System.{System, Laws, Touches}
 use Rattle.serial.specs.Step.{run_one}
@@ -55,12 +56,12 @@ module _ (S : System) (L : Laws S) where
   pub due_append : (i : ℕ) (xs ys : List (Finished Op)) (b : Store) → due S i (xs ++ ys) b ≡ due S i xs b ++ due S i ys (store_after S xs b)
   due_append i [] ys b = refl
   due_append i (x ∷ xs) ys b =
-      by_same x.by i (λ e. rw (eqb_yes e)
+      by_same x.by i (λ e. rw (eq-eqb _ _ e)
       (ap (λ (l : List (ℕ × Reply)). (x.request.client, reply x.request.op b) ∷ l)
       (due_append i xs ys (run_one S x.request.op b))))
-      (λ e. rw (eqb_no e) (due_append i xs ys (run_one S x.request.op b)))
+      (λ e. rw (ne_eqb _ _ e) (due_append i xs ys (run_one S x.request.op b)))
 
-  pub store_after_off : {P : ℕ → Type 0} (es : List (Finished Op)) (b : Store) → All (Leaves S P) es →
+  pub store_after_off : {P : ℕ → Type 0} (es : List (Finished Op)) (b : Store) → AllByRecursion (Leaves S P) es →
       Same P (store_after S es b) b
   store_after_off {P} [] b h = Same_refl P b
   store_after_off {P} (e ∷ es) b h =
@@ -69,14 +70,14 @@ module _ (S : System) (L : Laws S) where
       (run_one_off e.request.op b h.0)
 
   module _ (p : ℕ) (u : Update) (w : Within (OwnCell S p) u) where
-    pub store_after_past : (es : List (Finished Op)) (b : Store) → All (BehindOf S p) es →
+    pub store_after_past : (es : List (Finished Op)) (b : Store) → AllByRecursion (BehindOf S p) es →
         store_after S es (apply_update u b) ≡ apply_update u (store_after S es b)
     store_after_past [] b h = refl
     store_after_past (e ∷ es) b h =
         rw (run_one_past {Q = OwnCell S p} e.request.op u b w (not_own S L p e.request.op h.0))
         (store_after_past es (run_one S e.request.op b) h.1)
 
-    pub due_past : (i : ℕ) (es : List (Finished Op)) (b : Store) → All (BehindOf S p) es →
+    pub due_past : (i : ℕ) (es : List (Finished Op)) (b : Store) → AllByRecursion (BehindOf S p) es →
         due S i es (apply_update u b) ≡ due S i es b
     due_past i [] b h = refl
     due_past i (e ∷ es) b h =
@@ -89,7 +90,7 @@ module _ (S : System) (L : Laws S) where
 
   -- e ran at desk p at once, and behind it stands nothing of desk p's
   module _ (p : ℕ) (e : Finished Op) (here : RunsAt S p e.request.op) (xs ys : List (Finished Op)) (b : Store)
-      (rest : All (BehindOf S p) ys) where
+      (rest : AllByRecursion (BehindOf S p) ys) where
     abbrev pub made : Update
     made = update e.request.op (store_after S xs b)
 
@@ -108,12 +109,12 @@ module _ (S : System) (L : Laws S) where
         rw (due_append i xs (e ∷ ys) b)
         (ap (λ (l : List (ℕ × Reply)). due S i xs b ++ l)
         (by_same e.by i
-        (λ k. rw (eqb_yes k) (ap (λ (l : List (ℕ × Reply)). (e.request.client, reply e.request.op (store_after S xs b)) ∷ l)
+        (λ k. rw (eq-eqb _ _ k) (ap (λ (l : List (ℕ × Reply)). (e.request.client, reply e.request.op (store_after S xs b)) ∷ l)
         (due_past p made made_own i ys (store_after S xs b) rest)))
-        (λ k. rw (eqb_no k) (due_past p made made_own i ys (store_after S xs b) rest))))
+        (λ k. rw (ne_eqb _ _ k) (due_past p made made_own i ys (store_after S xs b) rest))))
 
     pub mid_due_other : (i : ℕ) → e.by ≢ i → due S i (xs ++ (e ∷ ys)) b ≡ due S i (xs ++ ys) b
-    mid_due_other i k = mid_due i ∙ rw (eqb_no k) (sym (due_append i xs ys b))
+    mid_due_other i k = mid_due i ∙ rw (ne_eqb _ _ k) (sym (due_append i xs ys b))
 
     pub mid_due_own : due S e.by (xs ++ ys) b ≡ [] → due S e.by (xs ++ (e ∷ ys)) b
         ≡ (e.request.client, reply e.request.op (store_after S xs b)) ∷ []
@@ -123,6 +124,6 @@ module _ (S : System) (L : Laws S) where
         rw (
           none_left (due S e.by xs b) (due S e.by ys (store_after S xs b)) a,
           none_right (due S e.by xs b) (due S e.by ys (store_after S xs b)) a,
-          eqb_self e.by,
+          eq-eqb e.by e.by refl,
         )
         refl

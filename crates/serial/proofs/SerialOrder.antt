@@ -9,7 +9,8 @@ use native.Mathlib.Omega.{arith}
 use native.Mathlib.Nat.{mul-le-mul_right, suc-mul, le_refl}
 use lib.ListN.{length, length-append}
 use Rattle.lists.proofs.Laws.{by_same, by_less, All_append, All_part, Pairs_append, Pairs_part}
-use Rattle.lists.specs.Lists.{All, Pairs}
+use Rattle.std.specs.List.{AllByRecursion}
+use Rattle.lists.specs.Lists.{Pairs}
 use Rattle.serial.specs.Desk.{Request, Call, request, visit, desk_called}
 use Rattle.serial.specs.System.{System}
 use Rattle.serial.specs.Step.{Route, immediate, enqueue, redirect, route}
@@ -124,17 +125,17 @@ module _ (S : System) where
 
   -- what holds of the finished operations of a serial run
   record Noted (s : Serial Op) : Type 0 where
-    old : All (Old s.calls (length s.globals)) s.finished
-    ranged : All InRange s.finished
+    old : AllByRecursion (Old s.calls (length s.globals)) s.finished
+    ranged : AllByRecursion InRange s.finished
     running : Pairs Ran s.finished
 
-  older : (i j m k : ℕ) → i ≤ j → m ≤ k → (es : List (Finished Op)) → All (Old i m) es → All (Old j k) es
+  older : (i j m k : ℕ) → i ≤ j → m ≤ k → (es : List (Finished Op)) → AllByRecursion (Old i m) es → AllByRecursion (Old j k) es
   older i j m k h l es a =
       All_part (Old i m) (Old j k) es (λ e o. (omega (arith, o.0), under_more i j m k h l e.slot e.by o.1)) a
 
   -- ---- a queue that becomes the last globals
 
-  ranked_ran : (i m : ℕ) (q : List (Request Op)) (e : Finished Op) → Under i m e.slot e.by → All (Ran e) (ranked S i m q)
+  ranked_ran : (i m : ℕ) (q : List (Request Op)) (e : Finished Op) → Under i m e.slot e.by → AllByRecursion (Ran e) (ranked S i m q)
   ranked_ran i m [] e u = tt
   ranked_ran i m (r ∷ q) e u = (
     under_global i m e.slot e.by u,
@@ -146,11 +147,11 @@ module _ (S : System) where
   ranked_running i m (r ∷ q) =
       (ranked_ran i (suc m) q (record { slot = global_run (suc m); by = i; request = r }) (le_refl _), ranked_running i (suc m) q)
 
-  ranked_old : (i m k : ℕ) (q : List (Request Op)) → m + length q ≤ k → All (Old (suc i) k) (ranked S i m q)
+  ranked_old : (i m k : ℕ) (q : List (Request Op)) → m + length q ≤ k → AllByRecursion (Old (suc i) k) (ranked S i m q)
   ranked_old i m k [] h = tt
   ranked_old i m k (r ∷ q) h = ((le_refl _, omega arith), ranked_old i (suc m) k q (omega arith))
 
-  ranked_ranged : (i m : ℕ) (q : List (Request Op)) → All InRange (ranked S i m q)
+  ranked_ranged : (i m : ℕ) (q : List (Request Op)) → AllByRecursion InRange (ranked S i m q)
   ranked_ranged i m [] = tt
   ranked_ranged i m (r ∷ q) = (tt, ranked_ranged i (suc m) q)
 
@@ -173,7 +174,7 @@ module _ (S : System) where
           old = All_append (Old (suc s.calls) (length s.globals)) s.finished (e ∷ []) still.old ((le_refl _, le_refl _), tt);
           ranged = All_append InRange s.finished (e ∷ []) k.ranged (h, tt);
           running = Pairs_append Ran s.finished (e ∷ []) k.running (tt, tt)
-              (All_part (Old s.calls (length s.globals)) (λ (x : Finished Op). All (Ran x) (e ∷ [])) s.finished
+              (All_part (Old s.calls (length s.globals)) (λ (x : Finished Op). AllByRecursion (Ran x) (e ∷ [])) s.finished
               (λ x o. (earlier_immediate x.slot (s.heard p) p x.by s.calls o.0, tt)) k.old);
         }
     noted_request enqueue p r h = record { old = still.old; ranged = k.ranged; running = k.running }
@@ -190,7 +191,7 @@ module _ (S : System) where
               (ranked_old s.calls m (length (s.globals ++ q)) q (omega arith));
           ranged = All_append InRange s.finished (ranked S s.calls m q) k.ranged (ranked_ranged s.calls m q);
           running = Pairs_append Ran s.finished (ranked S s.calls m q) k.running (ranked_running s.calls m q)
-              (All_part (Old s.calls m) (λ (x : Finished Op). All (Ran x) (ranked S s.calls m q)) s.finished
+              (All_part (Old s.calls m) (λ (x : Finished Op). AllByRecursion (Ran x) (ranked S s.calls m q)) s.finished
               (λ x o. ranked_ran s.calls m q x o.1) k.old);
         }
 
@@ -199,7 +200,7 @@ module _ (S : System) where
     noted false (request p r x) h = noted_request (route S p r.op) p r h
     noted false (visit p f x) h = noted_visit p
 
-  noted_all : (cs : List (Call Op Extra)) (rs : List Bool) (s : Serial Op) → Noted s → All AtDesk cs → Noted (note_all S s cs rs)
+  noted_all : (cs : List (Call Op Extra)) (rs : List Bool) (s : Serial Op) → Noted s → AllByRecursion AtDesk cs → Noted (note_all S s cs rs)
   noted_all [] rs s k h = k
   noted_all (c ∷ cs) [] s k h = k
   noted_all (c ∷ cs) (r ∷ rs) s k h = noted_all cs rs (note S r s c) (noted k r c h.0) h.1
@@ -209,7 +210,8 @@ module _ (S : System) where
   by_rule e f r t (inr h) = same_slot e.slot f.slot e.by f.by (place_same n e.slot f.slot r t h.0) h.1
 
   -- the serial order follows the rule, for any list of calls at desks below n, whichever were refused
-  pub order_follows_rule : (cs : List (Call Op Extra)) (rs : List Bool) → All AtDesk cs → Pairs Precedes (order S (serial S cs rs))
+  pub order_follows_rule : (cs : List (Call Op Extra)) (rs : List Bool) → AllByRecursion AtDesk cs
+      → Pairs Precedes (order S (serial S cs rs))
   order_follows_rule cs rs h =
       let s : Serial Op = serial S cs rs in
       let k : Noted s = noted_all cs rs (new_serial S) (record { old = tt; ranged = tt; running = tt }) h in

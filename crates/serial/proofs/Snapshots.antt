@@ -9,8 +9,11 @@ use native.Mathlib.Omega.{arith}
 use native.Mathlib.Nat.{le_refl}
 use lib.ListN.{length, length-append, get_or-append}
 use lib.Seq.{get_or-append_seam}
-use Rattle.lists.proofs.Laws.{by_same, eqb_yes, eqb_no, true_T}
-use Rattle.lists.specs.Lists.{All, assign}
+use Rattle.std.proofs.lemmas.Float.{T_from_true}
+use Rattle.std.proofs.lemmas.Bool.{eq-eqb, ne_eqb}
+use Rattle.lists.proofs.Laws.{by_same}
+use Rattle.std.specs.List.{AllByRecursion}
+use Rattle.lists.specs.Lists.{assign}
 use Rattle.serial.specs.Store.{Store}
 use Rattle.serial.specs.Frame.{Frame, start_frame}
 use Rattle.serial.specs.Desk.{Request, Desk, Call, request, visit, desk_called, Answer, refused, is_refused}
@@ -63,7 +66,7 @@ module _ (S : System) (L : Laws S) (b : Store) where
   open S use {n, Op, Extra, Reply, admits}
 
   module _ {w : ℕ → Desk Op} {s : Serial Op} {past : Replies Reply} {fs : List Frame} {tk : Frame} (k : Good S b w s past fs tk)
-      (a : All (AtOnce S) s.finished) {t : Snapshots} (g : Taken S b w s t tk) where
+      (a : AllByRecursion (AtOnce S) s.finished) {t : Snapshots} (g : Taken S b w s t tk) where
     -- ---- a call that counts no visit
 
     still_taken : (p : ℕ) (d : Desk Op) (s' : Serial Op) → d.awaited ≡ (w p).awaited → s'.heard ≡ s.heard →
@@ -73,7 +76,7 @@ module _ (S : System) (L : Laws S) (b : Store) where
         let f : After S s s' = record { grown = λ q h. rw i (le_refl _); cut_same = c } in
         record {
           count = g.count;
-          heard_is = λ q h. by_same q p (λ j. rw (eqb_yes j, e, i, ← j) (g.heard_is q h)) (λ j. rw (eqb_no j, i) (g.heard_is q h));
+          heard_is = λ q h. by_same q p (λ j. rw (eq-eqb _ _ j, e, i, ← j) (g.heard_is q h)) (λ j. rw (ne_eqb _ _ j, i) (g.heard_is q h));
           shows = λ q h. shows_after S f t.counts (le_refl _) (λ l. refl) (g.shows q h);
         }
 
@@ -103,8 +106,8 @@ module _ (S : System) (L : Laws S) (b : Store) where
       visit_after =
           record {
             grown = λ q h. by_same q p
-                (λ e. rw (eqb_yes e) (omega (arith, k.inv.g_low q, length-append s.globals (s.queues p))))
-                (λ e. rw (eqb_no e) (le_refl _));
+                (λ e. rw (eq-eqb _ _ e) (omega (arith, k.inv.g_low q, length-append s.globals (s.queues p))))
+                (λ e. rw (ne_eqb _ _ e) (le_refl _));
             cut_same = λ m h. cut_visit S L k p below m (h p below);
           }
 
@@ -120,12 +123,12 @@ module _ (S : System) (L : Laws S) (b : Store) where
             count = length-append t.counts (m ∷ []) ∙ omega (arith, g.count);
             heard_is = λ q h. by_same q p
                 (λ e. let z : suc (tk.number + n) - n ≡ suc (length t.counts) = omega (arith, g.count) in
-                rw (eqb_yes e, z) (sym (get_or-append_seam t.counts m [] 0)))
-                (λ e. rw (eqb_no e)
+                rw (eq-eqb _ _ e, z) (sym (get_or-append_seam t.counts m [] 0)))
+                (λ e. rw (ne_eqb _ _ e)
                 (g.heard_is q h
                 ∙ sym (counted t.counts m (suc (w q).awaited - n) (omega (arith, g.count, k.inv.wait_high q h)))));
-            shows = λ q h. by_same q p (λ e. rw (eqb_yes e) (visit_shows m _ _ before_shows))
-                (λ e. rw (eqb_no e) (visit_shows m _ _ (g.shows q h)));
+            shows = λ q h. by_same q p (λ e. rw (eq-eqb _ _ e) (visit_shows m _ _ before_shows))
+                (λ e. rw (ne_eqb _ _ e) (visit_shows m _ _ (g.shows q h)));
           }
 
     -- ---- any call
@@ -146,10 +149,10 @@ module _ (S : System) (L : Laws S) (b : Store) where
         (request_taken p below (route S p r.op) r)
     met (visit p f x) true e below fr =
         let i : f ≡ tk = accepted_latest S L b k p f x below e (fr refl) in
-        rw i (visit_taken p below (rw i at (L.awaited_only (w p) p f x (true_T _ e))) x)
+        rw i (visit_taken p below (rw i at (L.awaited_only (w p) p f x (T_from_true _ e))) x)
 
   taken : (cs : List (Call Op Extra)) {w : ℕ → Desk Op} {s : Serial Op} {past : Replies Reply} {fs : List Frame} {tk : Frame} →
-      Good S b w s past fs tk → All (AtOnce S) s.finished → Proper S w fs cs → (t : Snapshots) → Taken S b w s t tk →
+      Good S b w s past fs tk → AllByRecursion (AtOnce S) s.finished → Proper S w fs cs → (t : Snapshots) → Taken S b w s t tk →
       Taken S b (desks_after S w cs) (note_all S s cs (map is_refused (answers S w cs))) (snapshots_after S w s t cs)
       (latest_frame tk (answers S w cs))
   taken [] k a pr t g = g

@@ -6,8 +6,8 @@ use mathlib.Core.Path.{◌≡◌, sym, ◌∙◌, ap}
 use mathlib.Core.Logic.{◌≢◌}
 use mathlib.Core.Bool.{true}
 use mathlib.Core.List.{List, [], ◌∷◌, Memᴰ}
-use Rattle.lists.proofs.Laws.{true_T}
-use Rattle.lists.specs.Lists.{All}
+use Rattle.std.proofs.lemmas.Float.{T_from_true}
+use Rattle.std.specs.List.{AllByRecursion}
 use Rattle.serial.specs.Store.{Store, apply_all, Same}
 use Rattle.serial.specs.Frame.{Frame}
 use Rattle.serial.specs.Desk.{Call, visit}
@@ -50,7 +50,7 @@ module _ (S : System) (L : Laws S) (b : Store) (cs : List (Call S.Op S.Extra)) (
   store_is_serial_at_place p h = (history_good S L b cs pr).inv.serial_at_place p h
 
   -- behind its place stands nothing of desk p's but free operations
-  pub nothing_own_behind : (p : ℕ) → p < n → All (BehindOf S p) (beyond (place n) (place_of_desk p) (order_of S b cs))
+  pub nothing_own_behind : (p : ℕ) → p < n → AllByRecursion (BehindOf S p) (beyond (place n) (place_of_desk p) (order_of S b cs))
   nothing_own_behind p h = (history_good S L b cs pr).inv.own_not_beyond p h
 
   -- whose turn comes first has heard least: at its turn, what a desk has heard every desk has
@@ -66,7 +66,7 @@ module _ (S : System) (L : Laws S) (b : Store) (cs : List (Call S.Op S.Extra)) (
   pub visit_heard_least : (p : ℕ) (f : Frame) (x : S.Extra) → p < n → Memᴰ f (frames_of S b cs) →
       S.admits (desks_of S b cs p) (visit p f x) ≡ true → (q : ℕ) → q < n → (serial_of S b cs).heard p ≤ (serial_of S b cs).heard q
   visit_heard_least p f x below known accepted q h =
-      let a : f.number ≡ (desks_of S b cs p).awaited = L.awaited_only (desks_of S b cs p) p f x (true_T _ accepted) in
+      let a : f.number ≡ (desks_of S b cs p).awaited = L.awaited_only (desks_of S b cs p) p f x (T_from_true _ accepted) in
       let i : f ≡ latest_of S b cs = visit_brings_latest S L b cs pr p f x below known accepted in
       heard_by_turn p q below h (turn_is_first p q h (sym a ∙ ap (λ (g : Frame). g.number) i))
 

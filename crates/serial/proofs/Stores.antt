@@ -7,7 +7,7 @@ use mathlib.Core.List.{List, [], ◌∷◌, ◌++◌}
 use native.Mathlib.Omega.{arith}
 use lib.ListN.{length, get_or, set, length-set}
 use lib.Seq.{get_or-set_same, get_or-set_other, set_out, set_comm}
-use Rattle.lists.proofs.Laws.{eq_or_ne, lt_or_ge}
+use Rattle.std.proofs.lemmas.Bool.{cases_eq, cases_lt}
 use Rattle.serial.specs.Store.{Store, Update, apply_update, apply_all, Same, Within}
 
 -- ---- Two stores that agree
@@ -25,7 +25,7 @@ pub Same_part : {P Q : ℕ → Type 0} (a b : Store) → ((c : ℕ) → Q c → 
 Same_part a b f s = (s.0, λ c h. s.1 c (f c h))
 
 set_cell : (a b : Store) (i v c : ℕ) → length a ≡ length b → get_or a c 0 ≡ get_or b c 0 → get_or (set a i v) c 0 ≡ get_or (set b i v) c 0
-set_cell a b i v c l h = go (eq_or_ne c i) (lt_or_ge i (length a))
+set_cell a b i v c l h = go (cases_eq c i) (cases_lt i (length a))
   where
     go : (c ≡ i) ⊎ (c ≢ i) → (i < length a) ⊎ (length a ≤ i) → get_or (set a i v) c 0 ≡ get_or (set b i v) c 0
     go (inl e) (inl k) = rw e (get_or-set_same a i v 0 k ∙ sym (get_or-set_same b i v 0 (omega arith)))

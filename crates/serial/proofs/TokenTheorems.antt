@@ -9,7 +9,7 @@ use mathlib.Core.List.{List, [], ◌∷◌, ◌++◌, append_assoc, append-nil, 
 use native.Mathlib.Omega.{arith}
 use lib.ListN.{length, drop, get_or, length-append}
 use lib.Seq.{drop-nil}
-use Rattle.lists.proofs.Laws.{true_T}
+use Rattle.std.proofs.lemmas.Float.{T_from_true}
 use Rattle.serial.specs.Store.{Store}
 use Rattle.serial.specs.Frame.{Frame, foreign}
 use Rattle.serial.specs.Desk.{Desk, Call, visit}
@@ -86,7 +86,7 @@ module _ (S : System) (L : Laws S) (b : Store) where
       visit_takes_in =
           let w : Desk Op = desks_of S b cs p in
           let vs : List Visit = visits_of S b cs in
-          let a : f.number ≡ w.awaited = L.awaited_only w p f x (true_T _ accepted) in
+          let a : f.number ≡ w.awaited = L.awaited_only w p f x (T_from_true _ accepted) in
           let v : w.awaited ≡ length vs = sym a ∙ ap (λ (g : Frame). g.number) visit_brings_latest ∙ latest_number in
           let e : p ≡ length vs % n = sym ((history_good S L b cs pr).inv.wait_mod p below) ∙ ap (λ (i : ℕ). i % n) v in
           rw (visit_brings_latest, frame_carries_last_n)

@@ -5,8 +5,8 @@ use mathlib.Core.Path.{◌≡◌, refl, sym, ◌∙◌, ap}
 use mathlib.Core.Logic.{◌⊎◌, inl, inr}
 use mathlib.Core.Bool.{Bool, true, false, cond}
 use mathlib.Core.List.{List, [], ◌∷◌, ◌++◌}
-use Rattle.lists.proofs.Laws.{true_T}
-use Rattle.lists.specs.Lists.{All}
+use Rattle.std.proofs.lemmas.Float.{T_from_true}
+use Rattle.std.specs.List.{AllByRecursion}
 use Rattle.serial.specs.Store.{Store, Update}
 use Rattle.serial.specs.Frame.{Frame, foreign, tag}
 use Rattle.serial.specs.Desk.{Desk, Call, request, visit, desk_called, Answer, refused, is_refused}
@@ -26,7 +26,7 @@ MarkedBy p u = u.0 ≡ p
 pub record Entry (n k : ℕ) (v : Visit) : Type 0 where
   pub number_is : v.number ≡ k
   pub desk_is : v.desk ≡ k % n
-  pub marked : All (MarkedBy v.desk) v.updates
+  pub marked : AllByRecursion (MarkedBy v.desk) v.updates
 
 -- the frame after the visit v that brought the frame tk
 abbrev pub frame_behind : Frame → Visit → Frame
@@ -37,7 +37,7 @@ abbrev pub Turn : ℕ → Frame → List Visit → Frame → Type 0
 Turn n tk vs tk' =
     ((vs ≡ []) × (tk' ≡ tk)) ⊎ ((v : Visit) × (vs ≡ v ∷ []) × Entry n tk.number v × (tk' ≡ frame_behind tk v))
 
-all_marked : (p : ℕ) (us : List Update) → All (MarkedBy p) (tag p us)
+all_marked : (p : ℕ) (us : List Update) → AllByRecursion (MarkedBy p) (tag p us)
 all_marked p [] = tt
 all_marked p (u ∷ us) = (refl, all_marked p us)
 
@@ -56,7 +56,7 @@ module _ (S : System) (L : Laws S) {b : Store} {w : ℕ → Desk S.Op} {s : Seri
       rw (request_open S (route S p r.op) (w p) r, request_frame S (route S p r.op) (w p) r tk) (inl (refl, refl))
   by_admission (visit p f x) true e below fr =
       let i : f ≡ tk = accepted_latest S L b k p f x below e (fr refl) in
-      let a : tk.number ≡ (w p).awaited = rw i at (L.awaited_only (w p) p f x (true_T _ e)) in
+      let a : tk.number ≡ (w p).awaited = rw i at (L.awaited_only (w p) p f x (T_from_true _ e)) in
       rw i
       (inr (
         record { desk = p; number = tk.number; updates = made S p (w p) tk },

@@ -7,8 +7,11 @@ use mathlib.Core.List.{List, [], ◌∷◌, ◌++◌, append-nil}
 use native.Mathlib.Omega.{arith}
 use native.Mathlib.Nat.{add-mod_right, le_refl}
 use lib.ListN.{length, get_or, get_or-eq_default}
-use Rattle.lists.proofs.Laws.{by_same, by_less, eqb_yes, eqb_no, eqb_self, All_append, All_part, snoc_own, snoc_other}
-use Rattle.lists.specs.Lists.{All, assign}
+use Rattle.std.proofs.lemmas.Bool.{eq-eqb, ne_eqb}
+use Rattle.std.proofs.lemmas.List.{get_or_push}
+use Rattle.lists.proofs.Laws.{by_same, by_less, All_append, All_part, snoc_other}
+use Rattle.std.specs.List.{AllByRecursion}
+use Rattle.lists.specs.Lists.{assign}
 use Rattle.serial.specs.Store.{Store, Update, apply_all, Same, Within}
 use Rattle.serial.specs.Frame.{Frame, foreign, tag}
 use Rattle.serial.specs.Desk.{Request, Desk, given, sent}
@@ -82,7 +85,7 @@ module _ (S : System) (L : Laws S) where
           (All_part (Tagged S) (λ (u : ℕ × Update). u.0 ≢ p → aw p < aw u.0) tk.updates (λ u h. later u.0 h.0) I.tags))
           (I.serial_with_owed p below)
 
-      reading : All (ReadsIn S (Hears S p)) queue
+      reading : AllByRecursion (ReadsIn S (Hears S p)) queue
       reading = All_part (OfDesk S p) (ReadsIn S (Hears S p)) queue (λ t d c r. Conflicts.desk_hears S L p t.op c d (inl r))
           (I.queued p)
 
@@ -98,7 +101,7 @@ module _ (S : System) (L : Laws S) where
           ∙ sym (Queues.run_all_updates S L queue end) ∙ sym end_queue
 
       -- what each desk is owed by the frame that goes out
-      sent_tags : All (Tagged S) out.updates
+      sent_tags : AllByRecursion (Tagged S) out.updates
       sent_tags =
           All_append (Tagged S) (foreign p tk.updates) (tag p news) (Token.all_foreign (Tagged S) p tk.updates I.tags)
           (Token.all_tagged (Tagged S) p news
@@ -109,29 +112,30 @@ module _ (S : System) (L : Laws S) where
       owed_own =
           Token.owed_none aw' p out.updates
           (All_part (Tagged S) (λ (u : ℕ × Update). aw' u.0 ≤ aw' p) out.updates
-          (λ u h. by_same u.0 p (λ e. rw (eqb_yes e, eqb_self p) (le_refl _))
-          (λ e. rw (eqb_no e, eqb_self p) (omega (arith, I.wait_high u.0 h.0)))) sent_tags)
+          (λ u h. by_same u.0 p (λ e. rw (eq-eqb _ _ e, eq-eqb p p refl) (le_refl _))
+          (λ e. rw (ne_eqb _ _ e, eq-eqb p p refl) (omega (arith, I.wait_high u.0 h.0)))) sent_tags)
 
       owed_other : (q : ℕ) → q < n → q ≢ p → owed aw' q out.updates ≡ owed aw q tk.updates ++ news
       owed_other q h ne =
           Token.owed_append aw' q (foreign p tk.updates) (tag p news)
           ∙ rw (
-            Token.owed_later aw aw' p q tk.updates (λ r k. rw (eqb_no k) refl) ne (omega (arith, later q h ne)),
-            Token.owed_all aw' q p news (rw (eqb_no ne, eqb_self p) (I.wait_high q h)),
+            Token.owed_later aw aw' p q tk.updates (λ r k. rw (ne_eqb _ _ k) refl) ne (omega (arith, later q h ne)),
+            Token.owed_all aw' q p news (rw (ne_eqb _ _ ne, eq-eqb p p refl) (I.wait_high q h)),
           )
           refl
 
-      visit_others_beyond : (q : ℕ) → q < n → All (BesideOf S q) (beyond (place n) (place_at n (m + length queue) (suc q)) (es ++ last))
+      visit_others_beyond : (q : ℕ) → q < n
+          → AllByRecursion (BesideOf S q) (beyond (place n) (place_at n (m + length queue) (suc q)) (es ++ last))
       visit_others_beyond q h = ranked_beyond S L (BesideOf S q) q (length past) m es queue I.low (I.others_beyond q h)
 
-      visit_own_not_beyond : (q : ℕ) → q < n → All (BehindOf S q) (beyond (place n) (place_at n (g' q) (suc q)) (es ++ last))
+      visit_own_not_beyond : (q : ℕ) → q < n → AllByRecursion (BehindOf S q) (beyond (place n) (place_at n (g' q) (suc q)) (es ++ last))
       visit_own_not_beyond q h =
           by_same q p
-          (λ e. rw (e, eqb_self p)
+          (λ e. rw (e, eq-eqb p p refl)
           (ranked_beyond S L (BehindOf S p) p (length past) m es queue I.low
           (Sorting.beyond_mono (place n) (BehindOf S p) (place_at n (g p) (suc p)) (place_at n m (suc p)) es
           (place_mono S L (suc p) (I.g_low p)) (I.own_not_beyond p below))))
-          (λ e. rw (eqb_no e)
+          (λ e. rw (ne_eqb _ _ e)
           (Sorting.beyond_append (place n) (BehindOf S q) (place_at n (g q) (suc q)) es last (I.own_not_beyond q h)
           (ranked_all S L (NotOf S q) (length past) m queue
           (All_part (OfDesk S p) (λ (t : Request Op). NotOf S q t.op) queue (λ t d. inr (λ k. e (sym k ∙ d))) (I.queued p)))))
@@ -141,10 +145,10 @@ module _ (S : System) (L : Laws S) where
       visit_serial_at_place q h =
           let k : ℕ = place_at n (m + length queue) (suc p) in
           by_same q p
-          (λ e. rw (e, eqb_self p)
+          (λ e. rw (e, eq-eqb p p refl)
           (Same_trans (run_all S queue mine) (store_after S (es ++ last) b) (store_after S (upto (place n) k (es ++ last)) b) mine_after
           (upto_hears S L p k (es ++ last) b (visit_others_beyond p below))))
-          (λ e. rw (eqb_no e)
+          (λ e. rw (ne_eqb _ _ e)
           (rw
           (Sorting.upto_append (place n) (place_at n (g q) (suc q)) es last
           (ranked_high S L (length past) (place_at n (g q) (suc q)) m queue
@@ -156,8 +160,8 @@ module _ (S : System) (L : Laws S) where
           (store_after S (es ++ last) b)
       visit_serial_with_owed q h =
           by_same q p
-          (λ e. rw (e, owed_own) (rw (eqb_self p) mine_after))
-          (λ e. rw (owed_other q h e) (rw (eqb_no e)
+          (λ e. rw (e, owed_own) (rw (eq-eqb p p refl) mine_after))
+          (λ e. rw (owed_other q h e) (rw (ne_eqb _ _ e)
           (rw (apply_all_append (owed aw q tk.updates) news (stores q), ← news_end)
           (apply_all_same news (apply_all (owed aw q tk.updates) (stores q)) end (I.serial_with_owed q h)))))
 
@@ -165,7 +169,8 @@ module _ (S : System) (L : Laws S) where
       visit_giving i =
           by_same i (length past)
           (λ e. rw e
-          (snoc_own past (replies_of S queue mine) ∙ Queues.replies_same S L (Hears S p) queue mine end reading mine_end
+          (get_or_push past (replies_of S queue mine) [] (length past) refl
+          ∙ Queues.replies_same S L (Hears S p) queue mine end reading mine_end
           ∙ sym
           (Runs.due_append S L (length past) es last b
           ∙ rw (← I.giving (length past), get_or-eq_default past [] (le_refl (length past)))
@@ -177,27 +182,27 @@ module _ (S : System) (L : Laws S) where
       visit_turns : (q r : ℕ) → q < n → r < n → aw' q ≤ aw' r → g' q ≤ g' r
       visit_turns q r h l k =
           by_same r p
-          (λ e. rw (eqb_yes e) (by_same q p (λ i. rw (eqb_yes i) (le_refl _)) (λ i. rw (eqb_no i) (omega (arith, I.g_low q)))))
-          (λ e. let k' : aw' q ≤ aw r = rw (eqb_no e) at k in
-          rw (eqb_no e)
-          (by_same q p (λ i. let k'' : tk.number + n ≤ aw r = rw (eqb_yes i) at k' in absurd (omega (arith, I.wait_high r l)))
-          (λ i. rw (eqb_no i) (I.turns q r h l (rw (eqb_no i) at k')))))
+          (λ e. rw (eq-eqb _ _ e) (by_same q p (λ i. rw (eq-eqb _ _ i) (le_refl _)) (λ i. rw (ne_eqb _ _ i) (omega (arith, I.g_low q)))))
+          (λ e. let k' : aw' q ≤ aw r = rw (ne_eqb _ _ e) at k in
+          rw (ne_eqb _ _ e)
+          (by_same q p (λ i. let k'' : tk.number + n ≤ aw r = rw (eq-eqb _ _ i) at k' in absurd (omega (arith, I.wait_high r l)))
+          (λ i. rw (ne_eqb _ _ i) (I.turns q r h l (rw (ne_eqb _ _ i) at k')))))
 
       pub visit_inv : Inv S b (assign p left.store stores) (assign p left.queue queues) aw' g' (m + length queue) (es ++ last)
           (past ++ (given (visit_step S p d tk).1 ∷ [])) (fs ++ sent (visit_step S p d tk).1) out
       visit_inv =
           record {
-            wait_low = λ q h. by_same q p (λ e. rw (eqb_yes e) (omega (arith, L.some_desk)))
-                (λ e. rw (eqb_no e) (omega (arith, later q h e)));
-            wait_high = λ q h. by_same q p (λ e. rw (eqb_yes e) (omega arith)) (λ e. rw (eqb_no e) (omega (arith, I.wait_high q h)));
-            wait_mod = λ q h. by_same q p (λ e. rw (eqb_yes e)
+            wait_low = λ q h. by_same q p (λ e. rw (eq-eqb _ _ e) (omega (arith, L.some_desk)))
+                (λ e. rw (ne_eqb _ _ e) (omega (arith, later q h e)));
+            wait_high = λ q h. by_same q p (λ e. rw (eq-eqb _ _ e) (omega arith)) (λ e. rw (ne_eqb _ _ e) (omega (arith, I.wait_high q h)));
+            wait_mod = λ q h. by_same q p (λ e. rw (eq-eqb _ _ e)
                 (rw e (add-mod_right tk.number n ∙ ap (λ (x : ℕ). x % n) turn ∙ I.wait_mod p below)))
-                (λ e. rw (eqb_no e) (I.wait_mod q h));
+                (λ e. rw (ne_eqb _ _ e) (I.wait_mod q h));
             frames = All_append (Known out) fs (out ∷ [])
                 (All_part (Known tk) (Known out) fs (λ f h. (omega (arith, h.0), λ e. absurd (omega (arith, h.0)))) I.frames)
                 ((le_refl _, λ e. refl), tt);
             tags = sent_tags;
-            g_low = λ q. by_same q p (λ e. rw (eqb_yes e) (le_refl _)) (λ e. rw (eqb_no e) (omega (arith, I.g_low q)));
+            g_low = λ q. by_same q p (λ e. rw (eq-eqb _ _ e) (le_refl _)) (λ e. rw (ne_eqb _ _ e) (omega (arith, I.g_low q)));
             turns = visit_turns;
             low = All_append (Low (place n) (place_at n (m + length queue) n)) es last
                 (All_part (Low (place n) (place_at n m n)) (Low (place n) (place_at n (m + length queue) n)) es
@@ -208,6 +213,6 @@ module _ (S : System) (L : Laws S) where
             others_beyond = visit_others_beyond;
             serial_at_place = visit_serial_at_place;
             serial_with_owed = visit_serial_with_owed;
-            queued = λ q. by_same q p (λ e. rw (eqb_yes e) tt) (λ e. rw (eqb_no e) (I.queued q));
+            queued = λ q. by_same q p (λ e. rw (eq-eqb _ _ e) tt) (λ e. rw (ne_eqb _ _ e) (I.queued q));
             giving = visit_giving;
           }

@@ -10,7 +10,8 @@ use lib.Dec.{ltb, leb}
 use lib.ListN.{length}
 use borrow.Author.Tests.{ltb-true, lt-ltb, leb-true, le-leb}
 use Rattle.std.specs.List.{list_all}
-use Rattle.lists.proofs.Laws.{and_fst, and_snd, and_true}
+use Rattle.std.proofs.lemmas.Bool.{and_from}
+use Rattle.lists.proofs.Laws.{and_fst, and_snd}
 use Rattle.word.specs.Field.{update_desk, cell_count, cell_field}
 use Rattle.operation.specs.Store.{Update}
 use Rattle.frame.specs.Frame.{SentUpdate, sent, update_head, write_words, update_words, updates_words}
@@ -38,7 +39,7 @@ decoded n zero (w ∷ ws) e =
       words = ap₂ ◌∷◌ (u.word ∙ ap (update_head (update_desk w)) (sym r.count)) r.words;
       count = refl;
       cells = refl;
-      each = and_true _ _ (and_true _ _ (lt-ltb (update_desk w) n u.desk) (and_true _ _ (le-leb _ 12 few) r.cells)) r.each;
+      each = and_from _ _ (and_from _ _ (lt-ltb (update_desk w) n u.desk) (and_from _ _ (le-leb _ 12 few) r.cells)) r.each;
     }
 decoded n (suc left) [] e = absurd (false≢true e)
 decoded n (suc left) (w ∷ []) e = absurd (false≢true e)
@@ -48,7 +49,7 @@ decoded n (suc left) (w ∷ v ∷ ws) e =
     record {
       words = ap₂ (λ (x : ℕ) (t : List ℕ). x ∷ v ∷ t) k r.words;
       count = ap suc r.count;
-      cells = and_true _ _ (lt-ltb (cell_field w) 1024 (omega arith)) r.cells;
+      cells = and_from _ _ (lt-ltb (cell_field w) 1024 (omega arith)) r.cells;
       each = r.each;
     }
 
@@ -90,7 +91,7 @@ encoded n (u ∷ us) h e =
     let rest = write_words u.writes ++ updates_words us in
     let count : cell_count head ≡ length u.writes = update_cells u.desk (length u.writes) low k in
     record {
-      form = and_true _ _ (update_formed_lem u.desk (length u.writes) low k n d)
+      form = and_from _ _ (update_formed_lem u.desk (length u.writes) low k n d)
           (ap (λ (m : ℕ). well_formed n m rest) count ∙ c.form ∙ r.form);
       updates = ap₂ ◌∷◌
           (ap₂ sent (update_desk_lem u.desk (length u.writes) low k) (ap (λ (m : ℕ). writes_from m rest) count ∙ c.here))

@@ -9,7 +9,8 @@ use lib.Dec.{eqb}
 use lib.ListN.{length}
 use borrow.Author.Tests.{eqb-true}
 use Rattle.std.specs.List.{list_all}
-use Rattle.lists.proofs.Laws.{and_fst, and_snd, and_true, every_append}
+use Rattle.std.proofs.lemmas.Bool.{and_from}
+use Rattle.lists.proofs.Laws.{and_fst, and_snd, all_append}
 use Rattle.operation.specs.Store.{Update}
 use Rattle.frame.specs.Frame.{SentUpdate, sent, update_words, updates_words}
 use Rattle.frame.specs.Admission.{desk_count}
@@ -32,7 +33,7 @@ every_foreign f desk (u ∷ us) e = go (eqb u.desk desk) (every_foreign f desk u
   where
     go : (own : Bool) → list_all f (foreign desk us) ≡ true → list_all f (cond own (foreign desk us) (u ∷ foreign desk us)) ≡ true
     go true r = r
-    go false r = and_true (f u) _ (and_fst (f u) _ e) r
+    go false r = and_from (f u) _ (and_fst (f u) _ e) r
 
 -- ---- how many of each desk
 
@@ -80,7 +81,7 @@ pub forwarded_fits : (n desk : ℕ) (us : List SentUpdate) (ws : List Update) �
     → list_all (update_fits n) (map (sent desk) ws) ≡ true → WellFormed n (foreign desk us ++ map (sent desk) ws)
 forwarded_fits n desk us ws f few own =
     record {
-      each = every_append (update_fits n) (foreign desk us) (map (sent desk) ws) (every_foreign (update_fits n) desk us f.each) own;
+      each = all_append (update_fits n) (foreign desk us) (map (sent desk) ws) (every_foreign (update_fits n) desk us f.each) own;
       per_desk = λ d. go d (eqb desk d) refl;
     }
   where

@@ -11,7 +11,8 @@ use borrow.Author.Tests.{eq-eqb, ne_eqb}
 use borrow.Rule.Slice.PartMut.{put_mid}
 use Rattle.std.specs.List.{slice_get}
 use Rattle.lists.specs.Lists.{overwritten}
-use Rattle.lists.proofs.Laws.{Filling, fill_none, fill_size, fill_length, fill_same, fill_part, fill_done, take_remainder}
+use Rattle.std.proofs.lemmas.List.{take_rest}
+use Rattle.lists.proofs.Laws.{Filling, fill_none, fill_size, fill_length, fill_same, fill_part, fill_done}
 use Rattle.word.specs.Field.{update_desk, cell_count, cell_field}
 use Rattle.operation.specs.Store.{Store, apply_update}
 use Rattle.frame.specs.Frame.{sent, update_head, write_words, update_words, updates_words}
@@ -173,7 +174,7 @@ module _ {desk : ℕ} {body s₀ o s t : List ℕ} {end : ℕ} {rest : List ℕ}
           ap (drop 1) (i ∙ ap₂ take one whole) in
           let size : length (take (2 * n) (drop 1 rest)) ≡ 2 * n = length-take-le (2 * n) (drop 1 rest) (omega (arith, parts.fits)) in
           let half : length (take (2 * n) (drop 1 rest)) / 2 ≡ n = omega (arith, size) in
-          rw (take_remainder u 1, cells, half) (cells_front n (drop 1 rest))
+          rw (take_rest u 1, cells, half) (cells_front n (drop 1 rest))
 
       pub forwarding_other : {s' p : List ℕ}
           → s' ≡ apply_update (writes_from (length (take (length u - 1) (drop 1 u)) / 2) (take (length u - 1) (drop 1 u))) s → p ≡ u

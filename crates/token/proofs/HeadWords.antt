@@ -6,7 +6,8 @@ use Prim.Native.Nat.{ℕ, ◌+◌, ◌*◌, ◌/◌, ◌%◌, ◌^◌, ◌≤◌
 use native.Mathlib.Omega.{arith}
 use lib.Dec.{ltb, eqb}
 use borrow.Author.Tests.{eqb-true, eq-eqb, ltb-true, lt-ltb, leb-true, le-leb}
-use Rattle.lists.proofs.Laws.{and_fst, and_snd, and_true}
+use Rattle.std.proofs.lemmas.Bool.{and_from}
+use Rattle.lists.proofs.Laws.{and_fst, and_snd}
 use Rattle.word.specs.Field.{kind_of, addressed_desk, frame_length, update_desk, cell_count, cell_field}
 use Rattle.word.specs.Reserved.{reserved_zero, source_field, zero_bits}
 use Rattle.frame.specs.Frame.{frame_head, update_head, cell_word}
@@ -82,9 +83,9 @@ module _ (d k : ℕ) (hd : d < 16) (hk : k ≤ 12) where
   pub update_formed_lem : (n : ℕ) → d < n → update_formed n (update_head d k) ≡ true
   unfolding update_formed
   update_formed_lem n h =
-      and_true _ _ (eq-eqb (kind_of (update_head d k)) 10 update_kind)
-      (and_true _ _ (by_kind (update_head d k) 10 update_kind ∙ eq-eqb (update_head d k / 2 ^ 0 % 2 ^ 20) 0 (omega arith))
-      (and_true _ _ (lt-ltb (update_desk (update_head d k)) n (omega (arith, update_desk_lem)))
+      and_from _ _ (eq-eqb (kind_of (update_head d k)) 10 update_kind)
+      (and_from _ _ (by_kind (update_head d k) 10 update_kind ∙ eq-eqb (update_head d k / 2 ^ 0 % 2 ^ 20) 0 (omega arith))
+      (and_from _ _ (lt-ltb (update_desk (update_head d k)) n (omega (arith, update_desk_lem)))
       (le-leb (cell_count (update_head d k)) 12 (omega (arith, update_cells)))))
 
 -- ---- kind 11
@@ -108,5 +109,5 @@ module _ (c : ℕ) (h : c < 1024) where
   pub cell_formed_lem : cell_formed (cell_word c) ≡ true
   unfolding cell_formed
   cell_formed_lem =
-      and_true _ _ (eq-eqb (kind_of (cell_word c)) 11 cell_kind)
+      and_from _ _ (eq-eqb (kind_of (cell_word c)) 11 cell_kind)
       (by_kind (cell_word c) 11 cell_kind ∙ eq-eqb (cell_word c / 2 ^ 10 % 2 ^ 18) 0 (omega arith))

@@ -10,7 +10,8 @@ use lib.Dec.{eqb}
 use lib.ListN.{length, get_or, take}
 use borrow.Author.Tests.{eqb-true, eq-eqb, le-leb}
 use Rattle.verdict.specs.Verdict.{accepted}
-use Rattle.lists.proofs.Laws.{and_fst, and_snd, and_true}
+use Rattle.std.proofs.lemmas.Bool.{and_from}
+use Rattle.lists.proofs.Laws.{and_fst, and_snd}
 use Rattle.word.specs.Field.{kind_of, addressed_desk, frame_length}
 use Rattle.plan.specs.Decode.{head_of}
 use Rattle.frame.specs.Frame.{SentUpdate, frame_head, write_words, updates_words, sums_of, frame_around, frame_words, longest_frame}
@@ -107,10 +108,10 @@ module _ (n v : ℕ) (us : List SentUpdate) (low : 1 ≤ n) (high : n ≤ 8) (f 
   ten =
       let fits : length body + 4 < 2 ^ 16 = omega (arith, body_length) in
       let l = frame_length_lem in
-      and_true _ _ (le-leb 4 (length frame) (omega arith))
-      (and_true _ _ (le-leb (length frame) longest_frame (omega (arith, body_length)))
-      (and_true _ _ (eq-eqb (kind_of head) 9 (head_kind (v % n) (length body + 4) desk_fits_lem fits))
-      (and_true _ _ (head_zero (v % n) (length body + 4) desk_fits_lem fits)
+      and_from _ _ (le-leb 4 (length frame) (omega arith))
+      (and_from _ _ (le-leb (length frame) longest_frame (omega (arith, body_length)))
+      (and_from _ _ (eq-eqb (kind_of head) 9 (head_kind (v % n) (length body + 4) desk_fits_lem fits))
+      (and_from _ _ (head_zero (v % n) (length body + 4) desk_fits_lem fits)
       (eq-eqb (frame_length head) (length frame) (head_length (v % n) (length body + 4) desk_fits_lem fits ∙ sym l)))))
 
   eleven : sums_right frame ≡ true
@@ -118,7 +119,7 @@ module _ (n v : ℕ) (us : List SentUpdate) (low : 1 ≤ n) (high : n ≤ 8) (f 
   eleven =
       let s = sums in
       let e : sums_of (take (length frame - 2) frame) ≡ sums = ap sums_of (laid_front head v body s.0 s.1) in
-      and_true _ _ (eq-eqb _ _ (laid_first head v body s.0 s.1 ∙ sym (ap (λ (p : ℕ × ℕ). p.0) e)))
+      and_from _ _ (eq-eqb _ _ (laid_first head v body s.0 s.1 ∙ sym (ap (λ (p : ℕ × ℕ). p.0) e)))
       (eq-eqb _ _ (laid_second head v body s.0 s.1 ∙ sym (ap (λ (p : ℕ × ℕ). p.1) e)))
 
   twelve : updates_right n frame ≡ true
@@ -127,9 +128,9 @@ module _ (n v : ℕ) (us : List SentUpdate) (low : 1 ≤ n) (high : n ≤ 8) (f 
       let fits : length body + 4 < 2 ^ 16 = omega (arith, body_length) in
       let part : updates_part frame ≡ body = laid_part head v body sums.0 sums.1 in
       let e = encoded n us high f.each in
-      and_true _ _ (eq-eqb (addressed_desk head) (v % n) (head_desk (v % n) (length body + 4) desk_fits_lem fits))
+      and_from _ _ (eq-eqb (addressed_desk head) (v % n) (head_desk (v % n) (length body + 4) desk_fits_lem fits))
       (ap (updates_admitted n) part
-      ∙ and_true _ _ e.form (ap few_per_desk e.updates ∙ counts_few us f.per_desk))
+      ∙ and_from _ _ e.form (ap few_per_desk e.updates ∙ counts_few us f.per_desk))
 
   reads : ReadsAs n frame v us
   unfolding frame_verdict frame body

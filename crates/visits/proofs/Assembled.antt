@@ -8,7 +8,8 @@ use lib.ListN.{length, take, drop, length-append, take-append-drop}
 use lib.Seq.{length-take-le, take_at, drop_at}
 use borrow.Rule.Slice.PartMut.{put_mid}
 use Rattle.lists.specs.Lists.{overwritten}
-use Rattle.lists.proofs.Laws.{overwritten_twice, Filling, fill_length, fill_part, fill_done, fill_same, take_remainder, put_remainder}
+use Rattle.std.proofs.lemmas.List.{take_rest}
+use Rattle.lists.proofs.Laws.{overwritten_twice, Filling, fill_length, fill_part, fill_done, fill_same, put_remainder}
 use Rattle.frame.specs.Frame.{frame_head, sums_of, frame_around}
 
 pub frame_length_lem : (d v : ℕ) (body : List ℕ) → length (frame_around d v body) ≡ length body + 4
@@ -38,7 +39,7 @@ pub record Joined (o F U o₁ : List ℕ) (copied : ℕ) (o₂ : List ℕ) (end 
 module _ {o F U o₁ : List ℕ} {copied : ℕ} where
   copied_in : Copied o F U o₁ copied → Filling (take 2 o ++ (F ++ U)) o o₁ copied U
   copied_in c =
-      rw (c.words, c.count, put_remainder o (overwritten F (take (length o - 2) (drop 2 o))) 2, take_remainder o 2)
+      rw (c.words, c.count, put_remainder o (overwritten F (take (length o - 2) (drop 2 o))) 2, take_rest o 2)
       (fill_part F (from_two o (F ++ U) (omega (arith, c.room))))
 
   two : Copied o F U o₁ copied → length (take 2 o) ≡ 2
@@ -57,7 +58,7 @@ module _ {o F U o₁ : List ℕ} {copied : ℕ} where
     all_in : Filling (take 2 o ++ (F ++ U)) o o₂ end []
     all_in =
         let part = take (length o₁ - copied) (drop copied o₁) in
-        rw (j.words, j.count, put_remainder o₁ (overwritten U part) copied, take_remainder o₁ copied)
+        rw (j.words, j.count, put_remainder o₁ (overwritten U part) copied, take_rest o₁ copied)
         (fill_part U (fill_same (copied_in j.before) (sym (append-nil U))))
 
     pub end_is : end ≡ 2 + length (F ++ U)

@@ -9,7 +9,8 @@ use lib.ListN.{length}
 use borrow.Author.Tests.{lt-ltb, le-leb}
 use Rattle.verdict.specs.Verdict.{accepted}
 use Rattle.std.specs.List.{list_all}
-use Rattle.lists.proofs.Laws.{and_fst, and_snd, and_true, member_every}
+use Rattle.std.proofs.lemmas.Bool.{and_from}
+use Rattle.lists.proofs.Laws.{and_fst, and_snd, member_all}
 use Rattle.plan.specs.Plan.{Plan, writes}
 use Rattle.plan.specs.Decode.{plan_of}
 use Rattle.plan.specs.Admission.{plan_verdict}
@@ -49,16 +50,16 @@ module _ (ws : List ℕ) (e : plan_verdict ws ≡ accepted) (desk : ℕ) (low : 
       let t = transaction_from ws at in
       let n = (plan_of ws).desks in
       let rows = and_snd (unused_zero t.params ps) _ (parameters_passed ws r a at refl ps refl) in
-      let cells = member_every cell_fits (run_transaction t ps s).update (λ w m.
+      let cells = member_all cell_fits (run_transaction t ps s).update (λ w m.
       lt-ltb w.0 1024 (cells_low writes ps t.steps (transaction_fits ws at) rows w.0 (writes_within t ps s w m))) in
       let few = le-leb (length (run_transaction t ps s).update) 12 (update_few ws at ps s (admitted_stands ws r a at refl)) in
       subst (λ (o : Outcome). update_fits n (sent desk o.update) ≡ true) (run_asked ws r a at refl ps refl s)
-      (and_true _ _ (lt-ltb desk n low) (and_true _ _ few cells))
+      (and_from _ _ (lt-ltb desk n low) (and_from _ _ few cells))
 
   pub all_fit : (rs : List Request) (s : Store) → list_all (is_operation (plan_of ws)) rs ≡ true
       → list_all (update_fits (plan_of ws).desks) (map (sent desk) (updates_of (plan_of ws) rs s)) ≡ true
   unfolding updates_of
   all_fit [] s h = refl
   all_fit (r ∷ rs) s h =
-      and_true _ _ (one_fits r s (and_fst (is_operation (plan_of ws) r) _ h))
+      and_from _ _ (one_fits r s (and_fst (is_operation (plan_of ws) r) _ h))
       (all_fit rs (apply_update (run (plan_of ws) (operation_of r) s).update s) (and_snd (is_operation (plan_of ws) r) _ h))

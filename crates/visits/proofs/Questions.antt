@@ -10,7 +10,7 @@ use borrow.Author.Tests.{leb-true, ltb-true, eqb-true}
 use Rattle.verdict.specs.Verdict.{accepted, ask, ◌then◌}
 use Rattle.verdict.proofs.Verdicts.{then_accepted, ask_accepted, ask_then_accepted, then_associates}
 use Rattle.std.specs.List.{list_all}
-use Rattle.lists.proofs.Laws.{and_fst, and_snd, every_member, member_every}
+use Rattle.lists.proofs.Laws.{and_fst, and_snd, all_member, member_all}
 use Rattle.word.specs.Field.{addressed_desk}
 use Rattle.plan.specs.Plan.{Plan}
 use Rattle.plan.specs.Decode.{head_of, plan_of}
@@ -33,7 +33,7 @@ use Rattle.visits.specs.Waiting.{replies_size}
 operations_here : (p : Plan) (desk : ℕ) (rs : List Request) → list_all (waits_here p desk) rs ≡ true → list_all (is_operation p) rs ≡ true
 unfolding waits_here
 operations_here p desk rs e =
-    member_every (is_operation p) rs (λ r m. and_fst (is_operation p r) _ (every_member (waits_here p desk) rs r e m))
+    member_all (is_operation p) rs (λ r m. and_fst (is_operation p r) _ (all_member (waits_here p desk) rs r e m))
 
 module _ (ws : List ℕ) (h : Holding) (snapshot frame out replies : List ℕ) where
   abbrev buffers_fit : Bool

@@ -9,7 +9,8 @@ use lib.ListN.{length, get_or, take, drop, length-append, drop_of_length-le}
 use lib.Seq.{drop-cons}
 use borrow.Rule.Slice.PartMut.{put_mid}
 use Rattle.lists.specs.Lists.{overwritten}
-use Rattle.lists.proofs.Laws.{Filling, fill_none, fill_size, fill_length, fill_same, fill_part, fill_done, take_remainder, put_remainder}
+use Rattle.std.proofs.lemmas.List.{take_rest}
+use Rattle.lists.proofs.Laws.{Filling, fill_none, fill_size, fill_length, fill_same, fill_part, fill_done, put_remainder}
 use Rattle.plan.specs.Plan.{Plan}
 use Rattle.operation.specs.Store.{Store, apply_update}
 use Rattle.execution.specs.Run.{run}
@@ -100,9 +101,9 @@ module _ (p : Plan) (desk : ℕ) (rs : List Request) (s₀ o₀ q₀ : List ℕ)
         (at + 1)
     running_next words s' o' q' x =
         let wrote : o' ≡ overwritten (made_words p desk r s) (drop end o) = x.update
-        ∙ ap (overwritten (made_words p desk r s)) (take_remainder o end) in
+        ∙ ap (overwritten (made_words p desk r s)) (take_rest o end) in
         let replied : q' ≡ overwritten (reply_words (reply_to p r s)) (drop (at * reply_size) q) =
-        x.reply ∙ ap (overwritten (reply_words (reply_to p r s))) (take_remainder q (at * reply_size)) in
+        x.reply ∙ ap (overwritten (reply_words (reply_to p r s))) (take_rest q (at * reply_size)) in
         let next : (at + 1) * reply_size ≡ at * reply_size + reply_size = omega arith in
         record {
           store = ap (run_all p (drop (at + 1) rs)) x.store ∙ sym (store_first p desk r (drop (at + 1) rs) s)

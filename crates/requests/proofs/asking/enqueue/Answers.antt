@@ -4,7 +4,8 @@ use mathlib.Core.Path.{◌≡◌, ◌∙◌, sym, ap}
 use mathlib.Core.Bool.{Bool, cond}
 use mathlib.Core.List.{List}
 use Prim.Native.Nat.{ℕ}
-use Rattle.lists.specs.Lists.{overwritten, inserted}
+use Rattle.std.specs.List.{insert}
+use Rattle.lists.specs.Lists.{overwritten}
 use Rattle.plan.specs.Plan.{Plan}
 use Rattle.plan.specs.Decode.{plan_of}
 use Rattle.queue.specs.declared.record.Request.{Request}
@@ -27,7 +28,7 @@ module _ (p : Plan) (waiting : ℕ) (queue : List Request) (r : Request) where
   from_by b = cond b (place_in p waiting queue r) waiting
 
   abbrev queue_by : Bool → List Request
-  queue_by b = cond b (overwritten (inserted (place_in p waiting queue r) r (waiting_in waiting queue)) queue) queue
+  queue_by b = cond b (overwritten (insert (waiting_in waiting queue) (place_in p waiting queue r) r) queue) queue
 
 pub returns-then-is_waits : goal.returns-then-is_waits
 returns-then-is_waits c =
@@ -38,7 +39,7 @@ returns-then-is_waits c =
     let e = found _ c.if-is_waits.true in (
       c.join.ensures.0 ∙ sym (ap (from_by p c.args.waiting q c.args.request) e),
       c.join.ensures.1
-          ∙ ap (λ (n : ℕ). overwritten (inserted n c.args.request (waiting_in c.args.waiting q)) q) c.join.ensures.0
+          ∙ ap (λ (n : ℕ). overwritten (insert (waiting_in c.args.waiting q) n c.args.request) q) c.join.ensures.0
           ∙ sym (ap (queue_by p c.args.waiting q c.args.request) e),
     )
 

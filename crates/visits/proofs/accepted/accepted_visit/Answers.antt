@@ -7,7 +7,7 @@ use native.Mathlib.Omega.{arith}
 use lib.ListN.{length, take, drop, length-drop}
 use borrow.Rule.Slice.PartMut.{put_mid}
 use Rattle.lists.specs.Lists.{overwritten}
-use Rattle.lists.proofs.Laws.{take_remainder}
+use Rattle.std.proofs.lemmas.List.{take_rest}
 use Rattle.plan.specs.Decode.{plan_of}
 use Rattle.plan.proofs.Accepted.{accepted_gives, desk_count_lem}
 use Rattle.frame.specs.Admission.{updates_from}
@@ -102,7 +102,7 @@ run_waiting-requires c =
       adm.waiting,
       c.requires.1,
       all_run _ _ _ _ _ adm _ (part_is c.args.frame.now) _ e.applied _
-          (omega (arith, copied_room k, copied_length k, ap length (take_remainder o1 n), length-drop n o1)),
+          (omega (arith, copied_room k, copied_length k, ap length (take_rest o1 n), length-drop n o1)),
     )
 
 pub overflow_add-end : goal.overflow_add-end

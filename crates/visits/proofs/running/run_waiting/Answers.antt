@@ -7,7 +7,8 @@ use Prim.Native.Nat.{ℕ, ◌*◌, ◌≤◌, ◌<◌}
 use native.Mathlib.Omega.{arith}
 use lib.ListN.{length, take, length-drop, get_or}
 use lib.Seq.{length-take-le, get_or-take}
-use Rattle.lists.proofs.Laws.{every_index, fill_length, length_tabulate, get_or_tabulate, take_remainder}
+use Rattle.std.proofs.lemmas.List.{take_rest}
+use Rattle.lists.proofs.Laws.{all_index, fill_length, length_tabulate, get_or_tabulate}
 use Rattle.verdict.specs.Verdict.{accepted}
 use Rattle.std.specs.List.{list_all}
 use Rattle.plan.specs.Decode.{plan_of}
@@ -34,7 +35,7 @@ next row waiting at r few here read =
 admitted : (ws : List ℕ) (rs : List Request) (at : ℕ) (r : Request) → plan_verdict ws ≡ accepted
     → list_all (is_operation (plan_of ws)) rs ≡ true → at < length rs → get_or rs at no_request ≡ r → Admitted ws r
 admitted ws rs at r plan operations here e =
-    operation_admitted ws _ plan (ap (is_operation (plan_of ws)) (sym e) ∙ every_index _ _ _ no_request operations here)
+    operation_admitted ws _ plan (ap (is_operation (plan_of ws)) (sym e) ∙ all_index _ _ _ no_request operations here)
 
 low : (ws : List ℕ) (r : Request) → Admitted ws r → r.transaction < 32
 low ws r a = below_32 ws r a.planned (admitted_exists ws r a)
@@ -128,8 +129,8 @@ run_one-end-requires c =
         admitted = a;
         place = place_looked_up p r a.planned (admitted_exists p r a) c.args.places.now c.requires.1;
       };
-      room = omega (arith, room, ap length (take_remainder l.out l.end), length-drop l.end l.out);
-      reply_room = omega (arith, reply_room, ap length (take_remainder l.replies i), length-drop i l.replies);
+      room = omega (arith, room, ap length (take_rest l.out l.end), length-drop l.end l.out);
+      reply_room = omega (arith, reply_room, ap length (take_rest l.replies i), length-drop i l.replies);
     }
 
 pub overflow_add-end : goal.overflow_add-end

@@ -1,7 +1,7 @@
 -- The transactions of an accepted plan stand behind its head.
 -- Assumes nothing.
 use Rattle.std.proofs.Common.{◌≡◌, ◌∙◌}
-use Rattle.lists.proofs.Laws.{take_remainder}
+use Rattle.std.proofs.lemmas.List.{take_rest}
 use Rattle.word.specs.Field.{head_transactions}
 use Rattle.plan.specs.Decode.{plan_of, head_of}
 use Rattle.plan.proofs.Accepted.{accepted_gives, transaction_count}
@@ -18,7 +18,7 @@ invariant_of-result c =
     let ws = c.args.self.now.words.now in
     let n : c.transaction_count.result ≡ head_transactions (head_of ws) = c.transaction_count.ensures.count
     ∙ transaction_count ws c.args.self.now.accepted in
-    record { formed = rw (n, take_remainder ws 1) (accepted_gives _ c.args.self.now.accepted).form }
+    record { formed = rw (n, take_rest ws 1) (accepted_gives _ c.args.self.now.accepted).form }
 
 pub returns : goal.returns
 unfolding plan_of
@@ -26,4 +26,4 @@ returns c =
     let ws = c.args.self.now.words.now in
     let n : c.transaction_count.result ≡ head_transactions (head_of ws) = c.transaction_count.ensures.count
     ∙ transaction_count ws c.args.self.now.accepted in
-    rw (n, take_remainder ws 1)
+    rw (n, take_rest ws 1)
