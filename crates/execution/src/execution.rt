@@ -57,6 +57,7 @@ pub fn apply(store: &mut [u32], update: &Update)
     ensures { store.new ≡ apply_update (update_of update.now) store.old }
 {
     for (cell, value) in update.iter() {
+        // By index: tried with get_mut, of which a proof learns the slice's length and no element.
         let at = *cell as usize;
         if at < store.len() {
             store[at] = *value;

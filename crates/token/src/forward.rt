@@ -13,6 +13,7 @@ use word::fields;
 fn put_value(cells: &mut [u32], cell: usize, value: u32)
     ensures { cells.new ≡ set cells.old cell value }
 {
+    // By index: tried with get_mut, of which a proof learns the slice's length and no element.
     if cell < cells.len() {
         cells[cell] = value;
     }

@@ -38,6 +38,7 @@ pub fn write_update(out: &mut [u32], desk: u32, update: &Update) -> usize
     ensures words { result ≡ length (update_words (sent desk (update_of update.now))) }
     ensures written { out.new ≡ overwritten (update_words (sent desk (update_of update.now))) out.old }
 {
+    // By index: tried with chunks_exact_mut and zip, in whose loop an invariant cannot name the words that are written.
     out[0] = update_head(desk, update.len());
     let mut end: usize = 1;
     for (cell, value) in update.iter() {
