@@ -57,13 +57,13 @@ pub fn visit(
         frame.now out.old replies.old }
 {
     let row = queue::copied(queue, state.waiting);
-    visits::visit_by_value(
+    let own = queue::words_of(queue.len());
+    visits::visit_on_words(
         plan,
         state,
         cells,
         snapshot,
-        queue.len(),
-        row,
+        &row[..own],
         frame,
         out,
         replies,

@@ -1,6 +1,7 @@
 pub mod WaitingRuns
 pub mod OwnUpdates
 pub mod Assembled
+pub mod Rows
 pub mod Questions
 pub mod Outgoing
 pub mod Visited

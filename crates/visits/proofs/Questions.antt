@@ -1,6 +1,6 @@
--- The order of a visit's questions, and what they give once all are answered with yes.
+-- What a visit's questions give once all are answered with yes.
 -- Assumes nothing.
-use mathlib.Core.Path.{◌≡◌, sym, ◌∙◌}
+use mathlib.Core.Path.{◌≡◌}
 use mathlib.Core.Bool.{Bool, true, ◌&&◌}
 use mathlib.Core.List.{List}
 use Prim.Native.Nat.{ℕ}
@@ -8,7 +8,7 @@ use lib.Dec.{ltb, leb, eqb}
 use lib.ListN.{length}
 use borrow.Author.Tests.{leb-true, ltb-true, eqb-true}
 use Rattle.verdict.specs.Verdict.{accepted, ask, ◌then◌}
-use Rattle.verdict.proofs.Verdicts.{then_accepted, ask_accepted, ask_then_accepted, then_associates}
+use Rattle.verdict.proofs.Verdicts.{then_accepted, ask_accepted, ask_then_accepted}
 use Rattle.std.specs.List.{list_all}
 use Rattle.lists.proofs.Laws.{and_fst, and_snd, all_member, member_all}
 use Rattle.word.specs.Field.{addressed_desk}
@@ -22,7 +22,7 @@ use Rattle.desk.specs.Admission.{desk_buffers_fit, waits_here, desk_fits}
 use Rattle.desk.proofs.QuestionSix.{fits_each}
 use Rattle.visits.specs.Admission.{visit_buffers_fit, turn_verdict}
 use Rattle.visits.specs.Visit.{visit_verdict}
-use Rattle.visits.specs.Core.{token_verdict, Passable}
+use Rattle.visits.specs.Core.{Passable}
 use Rattle.visits.specs.Running.{is_operation}
 use Rattle.operation.specs.Store.{store_size}
 use Rattle.frame.specs.Frame.{longest_frame}
@@ -39,37 +39,31 @@ module _ (ws : List ℕ) (h : Holding) (snapshot frame out replies : List ℕ) w
   abbrev buffers_fit : Bool
   buffers_fit = desk_buffers_fit h.cells h.queue && visit_buffers_fit snapshot out replies
 
-  -- 1 to 4, 17 and 5 are put before 6 and 10 to 15
-  pub buffers_before_state : visit_verdict ws h snapshot frame out replies
-      ≡ ((plan_verdict ws then ask 5 buffers_fit) then token_verdict ws h.state h.queue frame)
-  unfolding visit_verdict token_verdict
-  buffers_before_state = then_associates (plan_verdict ws) _ _
-
   module _ (e : visit_verdict ws h snapshot frame out replies ≡ accepted) where
-    opened : (plan_verdict ws then ask 5 buffers_fit) ≡ accepted
-    opened = (then_accepted (plan_verdict ws then ask 5 buffers_fit) _ (sym buffers_before_state ∙ e)).0
-
-    asked : token_verdict ws h.state h.queue frame ≡ accepted
-    asked = (then_accepted (plan_verdict ws then ask 5 buffers_fit) _ (sym buffers_before_state ∙ e)).1
+    -- questions 5, 6 and 10 to 15, behind those of the plan
+    from_buffers : (ask 5 buffers_fit then ask 6 (desk_fits (plan_of ws) h.state h.queue) then frame_verdict (plan_of ws).desks frame
+        then turn_verdict h.state frame) ≡ accepted
+    unfolding visit_verdict
+    from_buffers = (then_accepted (plan_verdict ws) _ e).1
 
     fit : buffers_fit ≡ true
-    fit = ask_accepted 5 buffers_fit (then_accepted (plan_verdict ws) _ opened).1
+    fit = (ask_then_accepted 5 buffers_fit _ from_buffers).0
 
     visit_fit : visit_buffers_fit snapshot out replies ≡ true
     visit_fit = and_snd (desk_buffers_fit h.cells h.queue) _ fit
 
     pub questions_give : Passable ws h frame out replies
-    unfolding desk_buffers_fit visit_buffers_fit desk_fits token_verdict turn_verdict
+    unfolding visit_verdict desk_buffers_fit visit_buffers_fit desk_fits turn_verdict
     questions_give =
         let desk5 = and_fst (desk_buffers_fit h.cells h.queue) _ fit in
         let visit5 = and_snd (eqb (length snapshot) store_size) _ visit_fit in
-        let q6 = ask_then_accepted 6 (desk_fits (plan_of ws) h.state h.queue) _ asked in
+        let q6 = ask_then_accepted 6 (desk_fits (plan_of ws) h.state h.queue) _ (ask_then_accepted 5 buffers_fit _ from_buffers).1 in
         let w6 = and_snd (ltb h.state.desk (plan_of ws).desks) _ q6.0 in
         let q12 = then_accepted (frame_verdict (plan_of ws).desks frame) _ q6.1 in
         let q13 = ask_then_accepted 13 (eqb (addressed_desk (head_of frame)) h.state.desk) _ q12.1 in
         let q14 = ask_then_accepted 14 (eqb (frame_visit frame) h.state.awaited) _ q13.1 in
         record {
-          plan = (then_accepted (plan_verdict ws) _ opened).0;
+          plan = (then_accepted (plan_verdict ws) _ e).0;
           cells_long = eqb-true (length h.cells) store_size (and_fst _ _ desk5);
           queue_long = eqb-true (length h.queue) queue_size (and_snd (eqb (length h.cells) store_size) _ desk5);
           room = leb-true longest_frame (length out) (and_fst _ _ visit5);

@@ -1,14 +1,12 @@
 -- What running waiting requests at a desk asks and leaves: the store, and the words behind the front of the outgoing words and replies.
 use Rattle.std.specs.Prelude.{ℕ, ◌*◌, ◌≤◌, ◌≡◌, Bool, true, List, map, length}
-use Rattle.verdict.specs.Verdict.{accepted, is_accepted}
+use Rattle.verdict.specs.Verdict.{is_accepted}
 use Rattle.std.specs.List.{list_all}
 use Rattle.lists.specs.Lists.{overwritten}
 use Rattle.plan.specs.Plan.{Plan}
-use Rattle.plan.specs.Decode.{plan_of}
-use Rattle.plan.specs.Admission.{plan_verdict}
 use Rattle.operation.specs.Admission.{operation_verdict}
 use Rattle.operation.specs.Store.{Store, apply_update}
-use Rattle.execution.specs.Run.{Outcome, run_transaction}
+use Rattle.execution.specs.Run.{Outcome, run_transaction, run}
 use Rattle.plan.specs.Transaction.{the_transaction}
 use Rattle.operation.specs.declared.operation.Operation.{Operation}
 use Rattle.frame.specs.Frame.{sent, update_words, updates_words}
@@ -19,6 +17,10 @@ use Rattle.visits.specs.Waiting.{run_all, updates_of, Answered, answered, replie
 -- a record's operation passes questions 7 and 8
 abbrev pub is_operation : Plan → Request → Bool
 is_operation p r = is_accepted (operation_verdict p (operation_of r))
+
+-- the reply to a request, with its client's word
+abbrev pub reply_to : Plan → Request → Store → Answered
+reply_to p r s = answered r.client (run p (operation_of r) s).reply
 
 -- ---- one request's operation
 
@@ -49,10 +51,9 @@ all_made p desk rs s = updates_words (map (sent desk) (updates_of p rs s))
 unfoldable pub all_replies : Plan → List Request → Store → List ℕ
 all_replies p rs s = replies_words (replies_of p rs s)
 
-pub record AllRun (ws : List ℕ) (rs : List Request) (desk : ℕ) (cells out replies : List ℕ) : Type 0 where
-  pub plan : plan_verdict ws ≡ accepted
-  pub operations : list_all (is_operation (plan_of ws)) rs ≡ true
-  pub room : length (all_made (plan_of ws) desk rs cells) ≤ length out
+pub record AllRun (p : Plan) (rs : List Request) (desk : ℕ) (cells out replies : List ℕ) : Type 0 where
+  pub operations : list_all (is_operation p) rs ≡ true
+  pub room : length (all_made p desk rs cells) ≤ length out
   pub reply_room : reply_size * length rs ≤ length replies
 
 pub record AllRan (p : Plan) (rs : List Request) (desk : ℕ) (cells out replies : List ℕ) (words : ℕ)

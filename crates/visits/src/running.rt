@@ -71,7 +71,7 @@ pub(crate) fn run_waiting(
     replies: &mut [u32],
 ) -> usize
     requires { (waiting ≤ queue_size)
-        × AllRun plan.now.words.now (take waiting (records_in row.now)) desk cells.old out.old replies.old }
+        × AllRun (the_plan plan.now) (take waiting (records_in row.now)) desk cells.old out.old replies.old }
     ensures { AllRan (the_plan plan.now) (take waiting (records_in row.now)) desk cells.old
         out.old replies.old result cells.new out.new replies.new }
 {

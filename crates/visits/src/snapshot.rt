@@ -39,7 +39,7 @@ pub(crate) fn take_snapshot(
     cells: &[u32],
     snapshot: &mut [u32],
 )
-    requires { IfSome masks.entry (λ t. t.plan.words.now ≡ plan.now.words.now)
+    requires { IfSome masks (λ t. t.plan.words.now ≡ plan.now.words.now)
         × (length cells.now ≡ store_size) × (length snapshot.old ≡ store_size) }
     ensures { snapshot.new ≡ snapshot_taken (the_plan plan.now) cells.now snapshot.old }
 {

@@ -6,7 +6,7 @@ ghost use Rattle.visits.specs.Visit.{visit_result};
 ghost use Rattle.visits.specs.Answer.{visited_of};
 
 use crate::answer::VisitResult;
-use crate::{accepted, questions, snapshot};
+use crate::{accepted, asking, snapshot};
 use desk::Desk;
 
 // The visit. Words of any other number than 192 are no queue of 32 records, and are refused with 5 in its turn. Nothing is written before
@@ -25,7 +25,7 @@ pub fn visit_on_words(
         ≡ visit_result words.now (holding state cells.old (queue_in row.now)) snapshot.old
         frame.now out.old replies.old }
 {
-    match questions::ask(words, state, cells, snapshot, row, frame, out, replies) {
+    match asking::ask(words, state, cells, snapshot, row, frame, out, replies) {
         Ok(passed) => {
             snapshot::take_snapshot(&passed.plan, passed.masks, cells, snapshot);
             accepted::accepted_visit(&passed.plan, &passed.frame, state, cells, row, out, replies)

@@ -1,26 +1,27 @@
--- The snapshot: the table is filled, and the cells are copied by it.
+-- The snapshot: the cells are copied by a table of the plan's masks.
 -- Assumes nothing.
-use mathlib.Core.Path.{◌∙◌, ap}
+use mathlib.Core.Path.{◌≡◌, ◌∙◌, ap}
 use mathlib.Core.List.{List}
 use Prim.Native.Nat.{ℕ}
-use lib.ListN.{length, get_or}
-use Rattle.lists.proofs.Laws.{length_tabulate}
+use lib.ListN.{get_or}
+use borrow.Author.Rules.{rules}
 use Rattle.plan.specs.Decode.{plan_of}
-use Rattle.conflict.specs.Touch.{desk_mask}
+use Rattle.plan.specs.Accepted.{the_plan}
+use Rattle.conflict.specs.Touch.{mask_table}
 use Rattle.visits.specs.Snapshot.{copied_by}
 use Rattle.visits.proofs.SharedCopied.{copied_by_table}
 use Rattle.visits.proofs.snapshot.take_snapshot.Goals as goal
-
-pub copy_shared-requires : goal.copy_shared-requires
-copy_shared-requires c =
-    let d = c.before in
-    (ap length c.fill_unless_waiting.ensures ∙ length_tabulate 1024 (desk_mask (plan_of d.args.plan.now)), d.requires.2, d.requires.3)
+use Rattle.visits.proofs.snapshot.take_snapshot.Goals.{in-Some, in-None}
 
 pub returns : goal.returns
 returns c =
-    let a = c.before.args in (
-      c.fill_unless_waiting.ensures,
-      c.copy_shared.ensures
-          ∙ ap (λ (l : List ℕ). copied_by (λ c. get_or l c 0) a.cells.now a.snapshot.now) c.fill_unless_waiting.ensures
-          ∙ copied_by_table (plan_of a.plan.now) a.cells.now a.snapshot.now,
-    )
+    let a = c.args in
+    let t = c.match-masks.table in
+    let same : t.plan.words.now ≡ a.plan.now.words.now = elim c.match-masks.branch [
+      | in-Some w ↦ search rules
+      | in-None w ↦ search rules
+    ] in
+    c.copy_shared.ensures
+    ∙ ap (λ (l : List ℕ). copied_by (λ c. get_or l c 0) a.cells.now a.snapshot.now)
+    (t.filled ∙ ap (λ (ws : List ℕ). mask_table (plan_of ws)) same)
+    ∙ copied_by_table (the_plan a.plan.now) a.cells.now a.snapshot.now

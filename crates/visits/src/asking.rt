@@ -27,6 +27,7 @@ pub(crate) struct Passed<'a> {
 }
 
 // Question 5.
+#[tactic(auto, using(queue::proofs::Rows::queue_in_none, queue::proofs::Rows::length_queue_in), unfolding(desk::specs::Admission::desk_buffers_fit, crate::specs::Admission::visit_buffers_fit))]
 fn buffers_fit(cells: &[u32], snapshot: &[u32], row: &[u32], out: &[u32], replies: &[u32]) -> bool
     ensures { result ≡ (desk_buffers_fit cells.now (queue_in row.now)
         && visit_buffers_fit snapshot.now out.now replies.now) }
@@ -41,6 +42,7 @@ fn buffers_fit(cells: &[u32], snapshot: &[u32], row: &[u32], out: &[u32], replie
 }
 
 // Questions 13 to 15. The visit and the awaited number are compared in 64 bits.
+#[tactic(auto, unfolding(crate::specs::Admission::turn_verdict))]
 fn turn(state: Desk, frame: &Frame) -> Result<(), Refusal>
     ensures { verdict_of result ≡ turn_verdict state frame.now.words.now }
 {
@@ -59,6 +61,7 @@ fn turn(state: Desk, frame: &Frame) -> Result<(), Refusal>
 }
 
 // All questions of a visit, each before the next.
+#[tactic(auto, using(crate::proofs::Rows::row_fits), unfolding(crate::specs::Visit::visit_verdict))]
 pub(crate) fn ask<'a>(
     words: &'a [u32],
     state: Desk,
