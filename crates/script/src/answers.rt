@@ -1,24 +1,133 @@
-// What a call answers: a text and a number. The text of a refusal is that of the question.
-use crate::layout::{ANSWER, ANSWERED, CALLS, QUESTION, QUESTION_NUMBERS, REFUSALS, VALUE};
-use crate::memory::{Memory, add, count_above, get, on, put};
-use crate::output::say;
-use crate::texts;
+// What the engine's calls answer where no question refuses them, in text.
+use conveyor::{Cause, Reply};
+use std::fmt;
 
-// Notes what a call answers that no question refused.
-pub fn note(m: &mut Memory, text: u32, number: u32) -> &mut Memory {
-    put(put(put(m, QUESTION, 0), ANSWER, text), VALUE, number)
+// The words of a reply to a visit.
+const REPLY_WORDS: usize = 7;
+
+// The class of an operation, with its desk, and of a global one the cause.
+#[derive(Clone, Copy)]
+pub(crate) enum Class {
+    Free,
+    Local(u32),
+    Global(u32, Cause),
 }
 
-// Notes which question refused a call, 0 for none.
-pub fn note_question(m: &mut Memory, question: u32) -> &mut Memory {
-    let question = question % QUESTION_NUMBERS;
-    put(note(m, texts::QUESTIONS + question, 0), QUESTION, question)
+impl fmt::Display for Class {
+    fn fmt<W: fmt::Write>(&self, f: &mut fmt::Formatter<W>) -> fmt::Result {
+        match self {
+            Class::Free => f.write_str("free"),
+            Class::Local(desk) => write!(f, "local at desk {desk}"),
+            Class::Global(desk, cause) => {
+                write!(
+                    f,
+                    "global at desk {desk}: it may write cell {}, ",
+                    cause.cell
+                )?;
+                write!(
+                    f,
+                    "which T{} of desk {} may touch",
+                    cause.transaction, cause.desk
+                )
+            }
+        }
+    }
 }
 
-// Says the text of the answer, and before it which question refused the call. Counts the call by this text.
-pub fn say_answer(m: &mut Memory) -> &mut Memory {
-    let text = get(m, ANSWER);
-    let m = add(add(m, on(ANSWERED, text as usize), 1), CALLS, 1);
-    let m = count_above(m, REFUSALS, QUESTION, 0);
-    say(say(m, texts::REFUSED), text)
+// What becomes of a request.
+#[derive(Clone, Copy)]
+pub(crate) enum Response {
+    Replied(Reply),
+    Waits,
+    Elsewhere(u32),
+}
+
+impl fmt::Display for Response {
+    fn fmt<W: fmt::Write>(&self, f: &mut fmt::Formatter<W>) -> fmt::Result {
+        match self {
+            Response::Replied(reply) => {
+                let case = if reply.done { "done" } else { "declined" };
+                let told = Told([reply.told0, reply.told1, reply.told2, reply.told3]);
+                write!(f, "{case}, {}{told}", reply.number)
+            }
+            Response::Waits => f.write_str("waits"),
+            Response::Elsewhere(desk) => write!(f, "elsewhere, desk {desk}"),
+        }
+    }
+}
+
+// The words that a reply tells, which are written if one of them is not 0.
+#[derive(Clone, Copy, Debug)]
+struct Told([u32; 4]);
+
+impl fmt::Display for Told {
+    fn fmt<W: fmt::Write>(&self, f: &mut fmt::Formatter<W>) -> fmt::Result {
+        match self.0 {
+            [0, 0, 0, 0] => Ok(()),
+            [a, b, c, d] => write!(f, ", told {a} {b} {c} {d}"),
+        }
+    }
+}
+
+// What a visit wrote: how many words of the frame that it sends, and how many replies.
+#[derive(Clone, Copy, Debug)]
+pub(crate) struct Visited {
+    pub sent: usize,
+    pub replies: usize,
+}
+
+impl Visited {
+    // How many words the replies have.
+    pub(crate) fn reply_words(self) -> usize {
+        self.replies.saturating_mul(REPLY_WORDS)
+    }
+}
+
+// How a visit answers a client: the first word of a reply.
+#[derive(Clone, Copy, Debug)]
+enum Case {
+    Done,
+    Declined,
+    Word(u32),
+}
+
+impl From<u32> for Case {
+    fn from(word: u32) -> Case {
+        match word {
+            0xC000_0001 => Case::Done,
+            0xC000_0000 => Case::Declined,
+            _ => Case::Word(word),
+        }
+    }
+}
+
+impl fmt::Display for Case {
+    fn fmt<W: fmt::Write>(&self, f: &mut fmt::Formatter<W>) -> fmt::Result {
+        match self {
+            Case::Done => f.write_str("done"),
+            Case::Declined => f.write_str("declined"),
+            Case::Word(word) => write!(f, "word {word:08X}"),
+        }
+    }
+}
+
+// The replies of a visit, in the words that it wrote.
+#[derive(Clone, Copy, Debug)]
+pub(crate) struct Replies<'a>(pub &'a [u32]);
+
+impl fmt::Display for Replies<'_> {
+    fn fmt<W: fmt::Write>(&self, f: &mut fmt::Formatter<W>) -> fmt::Result {
+        match self.0.len() / REPLY_WORDS {
+            1 => f.write_str("1 reply")?,
+            count => write!(f, "{count} replies")?,
+        }
+        for reply in self.0.chunks(REPLY_WORDS) {
+            if let [case, client, number, a, b, c, d] = reply {
+                let case = Case::from(*case);
+                let told = Told([*a, *b, *c, *d]);
+                write!(f, ", client {client} {case}, {number}{told}")?;
+            }
+        }
+        Ok(())
+    }
 }
