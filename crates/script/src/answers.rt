@@ -1,5 +1,5 @@
 // What the engine's calls answer where no question refuses them, in text.
-use conveyor::{Cause, Reply};
+use conveyor::Cause;
 use std::fmt;
 
 // The words of a reply to a visit.
@@ -34,58 +34,9 @@ impl fmt::Display for Class {
     }
 }
 
-// What becomes of a request.
-#[derive(Clone, Copy)]
-pub(crate) enum Response {
-    Replied(Reply),
-    Waits,
-    Elsewhere(u32),
-}
-
-impl fmt::Display for Response {
-    fn fmt<W: fmt::Write>(&self, f: &mut fmt::Formatter<W>) -> fmt::Result {
-        match self {
-            Response::Replied(reply) => {
-                let case = if reply.done { "done" } else { "declined" };
-                let told = Told([reply.told0, reply.told1, reply.told2, reply.told3]);
-                write!(f, "{case}, {}{told}", reply.number)
-            }
-            Response::Waits => f.write_str("waits"),
-            Response::Elsewhere(desk) => write!(f, "elsewhere, desk {desk}"),
-        }
-    }
-}
-
-// The words that a reply tells, which are written if one of them is not 0.
-#[derive(Clone, Copy, Debug)]
-struct Told([u32; 4]);
-
-impl fmt::Display for Told {
-    fn fmt<W: fmt::Write>(&self, f: &mut fmt::Formatter<W>) -> fmt::Result {
-        match self.0 {
-            [0, 0, 0, 0] => Ok(()),
-            [a, b, c, d] => write!(f, ", told {a} {b} {c} {d}"),
-        }
-    }
-}
-
-// What a visit wrote: how many words of the frame that it sends, and how many replies.
-#[derive(Clone, Copy, Debug)]
-pub(crate) struct Visited {
-    pub sent: usize,
-    pub replies: usize,
-}
-
-impl Visited {
-    // How many words the replies have.
-    pub(crate) fn reply_words(self) -> usize {
-        self.replies.saturating_mul(REPLY_WORDS)
-    }
-}
-
-// How a visit answers a client: the first word of a reply.
-#[derive(Clone, Copy, Debug)]
-enum Case {
+// How an operation ended; in the replies of a visit a word, which may be another.
+#[derive(Clone, Copy, Debug, PartialEq, Eq)]
+pub(crate) enum Case {
     Done,
     Declined,
     Word(u32),
@@ -111,6 +62,56 @@ impl fmt::Display for Case {
     }
 }
 
+// A reply: how the operation ended, its number, and the four words that it tells, which are written if one of them is not 0.
+#[derive(Clone, Copy, Debug, PartialEq, Eq)]
+pub(crate) struct Reply {
+    pub case: Case,
+    pub number: u32,
+    pub told: [u32; 4],
+}
+
+impl fmt::Display for Reply {
+    fn fmt<W: fmt::Write>(&self, f: &mut fmt::Formatter<W>) -> fmt::Result {
+        write!(f, "{}, {}", self.case, self.number)?;
+        match self.told {
+            [0, 0, 0, 0] => Ok(()),
+            [a, b, c, d] => write!(f, ", told {a} {b} {c} {d}"),
+        }
+    }
+}
+
+// What becomes of a request.
+#[derive(Clone, Copy, Debug, PartialEq, Eq)]
+pub(crate) enum Response {
+    Replied(Reply),
+    Waits,
+    Elsewhere(u32),
+}
+
+impl fmt::Display for Response {
+    fn fmt<W: fmt::Write>(&self, f: &mut fmt::Formatter<W>) -> fmt::Result {
+        match self {
+            Response::Replied(reply) => write!(f, "{reply}"),
+            Response::Waits => f.write_str("waits"),
+            Response::Elsewhere(desk) => write!(f, "elsewhere, desk {desk}"),
+        }
+    }
+}
+
+// What a visit wrote: how many words of the frame that it sends, and how many replies.
+#[derive(Clone, Copy, Debug)]
+pub(crate) struct Visited {
+    pub sent: usize,
+    pub replies: usize,
+}
+
+impl Visited {
+    // How many words the replies have.
+    pub(crate) fn reply_words(self) -> usize {
+        self.replies.saturating_mul(REPLY_WORDS)
+    }
+}
+
 // The replies of a visit, in the words that it wrote.
 #[derive(Clone, Copy, Debug)]
 pub(crate) struct Replies<'a>(pub &'a [u32]);
@@ -123,9 +124,12 @@ impl fmt::Display for Replies<'_> {
         }
         for reply in self.0.chunks(REPLY_WORDS) {
             if let [case, client, number, a, b, c, d] = reply {
-                let case = Case::from(*case);
-                let told = Told([*a, *b, *c, *d]);
-                write!(f, ", client {client} {case}, {number}{told}")?;
+                let reply = Reply {
+                    case: Case::from(*case),
+                    number: *number,
+                    told: [*a, *b, *c, *d],
+                };
+                write!(f, ", client {client} {reply}")?;
             }
         }
         Ok(())

@@ -1,10 +1,9 @@
 // The engine's calls. Each is refused by a question, or else answers a value.
-use crate::answers::{Class, Response, Visited};
+use crate::answers::{Case, Class, Reply, Response, Visited};
 use crate::buffers::Buffers;
-use crate::command::Asked;
 use crate::holding::Holding;
 use crate::lent::Lent;
-use crate::operations::Operation;
+use crate::operations::{ClientOperation, Operation};
 use crate::question::Question;
 use conveyor::{
     Choice, ClassAnswer, Desk, DeskAnswer, FrameAnswer, RequestAnswer, Verdict, VisitAnswer,
@@ -59,9 +58,22 @@ pub(crate) fn starting_frame(out: &mut [u32]) -> Result<usize, Question> {
 }
 
 // The first items, as many as are lent, or all where there are fewer.
-fn first<T>(items: &mut [T], lent: usize) -> &mut [T] {
+fn lend<T>(items: &mut [T], lent: usize) -> &mut [T] {
     let count = lent.min(items.len());
     &mut items[..count]
+}
+
+// A reply to a request.
+fn replied(reply: conveyor::Reply) -> Reply {
+    Reply {
+        case: if reply.done {
+            Case::Done
+        } else {
+            Case::Declined
+        },
+        number: reply.number,
+        told: [reply.told0, reply.told1, reply.told2, reply.told3],
+    }
 }
 
 // A request at a desk.
@@ -69,20 +81,20 @@ pub(crate) fn request(
     plan: &[u32],
     desk: &mut Holding,
     lent: Lent,
-    asked: Asked,
+    asked: ClientOperation,
 ) -> Result<Response, Question> {
     let result = conveyor::request(
         plan,
         desk.state,
-        first(&mut desk.book, lent.book),
-        first(&mut desk.row, lent.row),
+        lend(&mut desk.book, lent.book),
+        lend(&mut desk.row, lent.row),
         asked.client,
         asked.operation.transaction,
         asked.operation.parameters(),
     );
     desk.state = result.state;
     match result.answer {
-        RequestAnswer::Replied(reply) => Ok(Response::Replied(reply)),
+        RequestAnswer::Replied(reply) => Ok(Response::Replied(replied(reply))),
         RequestAnswer::Waits => Ok(Response::Waits),
         RequestAnswer::Elsewhere(desk) => Ok(Response::Elsewhere(desk)),
         RequestAnswer::Refused(question) => Err(Question(question)),
@@ -100,9 +112,9 @@ pub(crate) fn visit(
     let result = conveyor::visit(
         plan,
         desk.state,
-        first(&mut desk.book, lent.book),
-        first(&mut desk.bulletin, lent.bulletin),
-        first(&mut desk.row, lent.row),
+        lend(&mut desk.book, lent.book),
+        lend(&mut desk.bulletin, lent.bulletin),
+        lend(&mut desk.row, lent.row),
         frame,
         &mut buffers.out,
         &mut buffers.replies,

@@ -1,8 +1,8 @@
 // What a call changed of a desk, and behind the words that it wrote.
-use crate::holding::{Holding, Record, State};
+use crate::holding::{Holding, Record, State, is_same_record, is_same_state};
 use crate::words;
 use crate::words::Others;
-use conveyor::{Desk, Request};
+use conveyor::Request;
 use std::fmt;
 
 // As many changed cells as are named.
@@ -15,18 +15,6 @@ pub(crate) struct Changes<'a> {
     pub before: &'a Holding,
     pub after: &'a Holding,
     pub others: usize,
-}
-
-// Whether two states are the same.
-fn is_same_state(a: Desk, b: Desk) -> bool {
-    (a.desk, a.waiting, a.awaited) == (b.desk, b.waiting, b.awaited)
-}
-
-// Whether two records are the same.
-fn is_same_record(a: &Request, b: &Request) -> bool {
-    a.client == b.client
-        && a.transaction == b.transaction
-        && [a.p0, a.p1, a.p2, a.p3] == [b.p0, b.p1, b.p2, b.p3]
 }
 
 impl Changes<'_> {
@@ -61,10 +49,9 @@ impl fmt::Display for ChangedCells<'_> {
                 "; {changed} {name}s changed, sums {first:08X} {second:08X}"
             );
         }
-        for (i, (before, after)) in self.before.iter().zip(self.after).enumerate() {
-            if before != after {
-                write!(f, "; {name} {i} is now {after}")?;
-            }
+        let pairs = self.before.iter().zip(self.after).enumerate();
+        for (i, (_, after)) in pairs.filter(|(_, (before, after))| before != after) {
+            write!(f, "; {name} {i} is now {after}")?;
         }
         Ok(())
     }
@@ -79,10 +66,9 @@ struct ChangedRecords<'a> {
 
 impl fmt::Display for ChangedRecords<'_> {
     fn fmt<W: fmt::Write>(&self, f: &mut fmt::Formatter<W>) -> fmt::Result {
-        for (i, (before, after)) in self.before.iter().zip(self.after).enumerate() {
-            if !is_same_record(before, after) {
-                write!(f, "; record {i} is now {}", Record(after))?;
-            }
+        let pairs = self.before.iter().zip(self.after).enumerate();
+        for (i, (_, after)) in pairs.filter(|(_, (before, after))| !is_same_record(before, after)) {
+            write!(f, "; record {i} is now {}", Record(after))?;
         }
         Ok(())
     }

@@ -1,6 +1,6 @@
 // What is counted.
-use crate::answers::{Response, Visited};
-use crate::forms::{Gathered, Name};
+use crate::answers::{Case, Response, Visited};
+use crate::gathered::{Frame, FrameName};
 use crate::question::Question;
 use std::fmt;
 
@@ -83,7 +83,7 @@ impl Counts {
     // A request that was not refused.
     pub(crate) fn add_request(&mut self, response: Response) {
         add_one(match response {
-            Response::Replied(reply) if reply.done => &mut self.requests.done,
+            Response::Replied(reply) if reply.case == Case::Done => &mut self.requests.done,
             Response::Replied(_) => &mut self.requests.declined,
             Response::Waits => &mut self.requests.waiting,
             Response::Elsewhere(_) => &mut self.requests.elsewhere,
@@ -91,7 +91,7 @@ impl Counts {
     }
 
     // A visit that was not refused.
-    pub(crate) fn add_visit(&mut self, frame: &Gathered, visited: Visited) {
+    pub(crate) fn add_visit(&mut self, frame: &Frame, visited: Visited) {
         let visits = &mut self.visits;
         add_one(&mut visits.all);
         let replies = u32::try_from(visited.replies).unwrap_or(u32::MAX);
@@ -99,7 +99,7 @@ impl Counts {
         if 1 < visited.replies {
             add_one(&mut visits.several);
         }
-        if !matches!(frame.name, Name::Sent(_)) {
+        if !matches!(frame.name, FrameName::Sent(_)) {
             add_one(&mut visits.changed_frames);
         }
         visits.longest_taken = visits.longest_taken.max(frame.words.len());

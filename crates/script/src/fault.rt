@@ -1,6 +1,6 @@
 // What can be wrong with a line, and where.
 use crate::words::MOST_WORDS;
-use std::alloc::{AllocError, AllocFailed};
+use std::alloc::AllocError;
 use thiserror::Error;
 
 // What was expected at a word, or is not there.
@@ -48,7 +48,7 @@ pub(crate) struct Fault {
 
 // Why a line was not read.
 #[derive(Debug, Drop, Error)]
-pub(crate) enum Unread {
+pub(crate) enum LineError {
     #[error(transparent)]
     Fault(#[from] Fault),
     #[error(transparent)]

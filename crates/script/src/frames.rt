@@ -1,5 +1,6 @@
 // The frames that were sent, of which the latest are kept.
-use crate::words::{Count, Groups};
+use crate::groups::Groups;
+use crate::words::Count;
 use std::alloc::{AllocError, Global};
 use std::collections::VecDeque;
 use std::fmt;

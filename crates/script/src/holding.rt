@@ -1,5 +1,6 @@
 // What a desk holds: its state, its book and its bulletin, and its row of records.
 use crate::lent::{CELLS, ROW};
+use crate::operations::ClientOperation;
 use conveyor::{Desk, Request};
 use std::alloc::{AllocError, Global};
 use std::fmt;
@@ -13,6 +14,29 @@ pub(crate) struct Holding {
     pub row: Vec<Request>,
 }
 
+// What cells are set to: all to one number, or each to one that is drawn from the one before, the first from a seed.
+#[derive(Clone, Copy, Debug, PartialEq, Eq)]
+pub(crate) enum Drawn {
+    Same(u32),
+    Seed(u32),
+}
+
+// What is set by hand at a desk that is made.
+#[derive(Clone, Copy, Debug, PartialEq, Eq)]
+pub(crate) enum Setting {
+    Cell {
+        cell: usize,
+        value: u32,
+    },
+    Cells(Drawn),
+    Bulletin,
+    Records {
+        from: usize,
+        to: usize,
+        first: ClientOperation,
+    },
+}
+
 // The record of zeros.
 const BLANK: Request = Request {
     client: 0,
@@ -22,6 +46,19 @@ const BLANK: Request = Request {
     p2: 0,
     p3: 0,
 };
+
+// The record of an operation of a client.
+fn record_of(asked: ClientOperation) -> Request {
+    let [p0, p1, p2, p3] = asked.operation.parameters();
+    Request {
+        client: asked.client,
+        transaction: asked.operation.transaction,
+        p0,
+        p1,
+        p2,
+        p3,
+    }
+}
 
 impl Holding {
     // A desk in this state with zeros in all else.
@@ -33,9 +70,53 @@ impl Holding {
             row: vec![in alloc; BLANK; ROW as usize]?,
         })
     }
+
+    pub(crate) fn set(&mut self, setting: Setting) -> Result<(), AllocError> {
+        match setting {
+            Setting::Cell { cell, value } => {
+                if let Some(cell) = self.book.get_mut(cell) {
+                    *cell = value;
+                }
+            }
+            Setting::Cells(Drawn::Same(value)) => self.book.fill(value),
+            Setting::Cells(Drawn::Seed(seed)) => self.draw_cells(seed),
+            Setting::Bulletin => self.bulletin = self.book.clone()?,
+            Setting::Records { from, to, first } => self.set_records(from, to, first),
+        }
+        Ok(())
+    }
+
+    // Each cell is drawn from the one before it, the first from the seed.
+    fn draw_cells(&mut self, seed: u32) {
+        let mut last = seed;
+        for cell in self.book.iter_mut() {
+            last = last.wrapping_mul(1_664_525).wrapping_add(1_013_904_223);
+            *cell = last;
+        }
+    }
+
+    // The records from one number up to another are the same operation, each of the next client.
+    fn set_records(&mut self, from: usize, to: usize, first: ClientOperation) {
+        let mut next = first;
+        for record in self.row.iter_mut().take(to).skip(from) {
+            *record = record_of(next);
+            next.client = next.client.wrapping_add(1);
+        }
+    }
 }
 
-// The state of the desk of this number.
+// Whether two states are the same.
+pub(crate) fn is_same_state(a: Desk, b: Desk) -> bool {
+    (a.desk, a.waiting, a.awaited) == (b.desk, b.waiting, b.awaited)
+}
+
+// Whether two records are the same.
+pub(crate) fn is_same_record(a: &Request, b: &Request) -> bool {
+    (a.client, a.transaction) == (b.client, b.transaction)
+        && [a.p0, a.p1, a.p2, a.p3] == [b.p0, b.p1, b.p2, b.p3]
+}
+
+// The state of the desk of a number.
 #[derive(Clone, Copy)]
 pub(crate) struct State(pub u32, pub Desk);
 
@@ -54,7 +135,7 @@ impl fmt::Display for State {
     }
 }
 
-// A record of the row.
+// A record of a row.
 #[derive(Clone, Copy)]
 pub(crate) struct Record<'a>(pub &'a Request);
 
@@ -70,8 +151,8 @@ impl fmt::Display for Record<'_> {
     }
 }
 
-// A desk as it is shown: its state, the records that wait, the cells that are not zero, and those of the bulletin that are not as in the
-// book.
+// The desk of a number as it is shown: its state, the records that wait, the cells that are not zero, and those of the bulletin that are
+// not as in the book.
 #[derive(Clone, Copy)]
 pub(crate) struct ShownDesk<'a>(pub u32, pub &'a Holding);
 
@@ -83,15 +164,12 @@ impl fmt::Display for ShownDesk<'_> {
         for (i, record) in desk.row.iter().enumerate().take(waiting) {
             writeln!(f, "  record {i}: {}", Record(record))?;
         }
-        for (i, cell) in desk.book.iter().enumerate() {
-            if *cell != 0 {
-                writeln!(f, "  cell {i} is {cell}")?;
-            }
+        for (i, cell) in desk.book.iter().enumerate().filter(|(_, cell)| **cell != 0) {
+            writeln!(f, "  cell {i} is {cell}")?;
         }
-        for (i, (cell, shown)) in desk.book.iter().zip(desk.bulletin.iter()).enumerate() {
-            if shown != cell {
-                writeln!(f, "  bulletin cell {i} is {shown}")?;
-            }
+        let pairs = desk.book.iter().zip(desk.bulletin.iter()).enumerate();
+        for (i, (_, shown)) in pairs.filter(|(_, (cell, shown))| cell != shown) {
+            writeln!(f, "  bulletin cell {i} is {shown}")?;
         }
         Ok(())
     }

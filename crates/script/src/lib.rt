@@ -2,16 +2,20 @@
 //
 //     fault          what can be wrong with a line, and where
 //     line           the words of a line, from left to right
-//     words          words in text: how many there are, the words, their two sums; transactions and updates among them
+//     words          words in text: how many there are, the words, and their two sums
+//     groups         transactions and updates among words
 //     question       the questions that refuse a call
-//     operations     an operation, as a line writes it
+//     operations     operations, as a line writes them
 //     plans          a plan in words, and what the chooser filled in
 //     lent           how much of what is held a call is lent
 //     holding        what a desk holds
-//     buffers        the words that a call writes to
+//     desks          the desks, each made or not
 //     frames         the frames that were sent
-//     forms          words of plans and frames, as a line writes them
+//     held           what the interpreter holds, but for the counts
+//     forms          the forms in which a line writes words
+//     gathered       the words that are gathered from them
 //     command        the commands, read from a line
+//     buffers        the words that a call writes to
 //     answers        what the engine's calls answer, in text
 //     calls          the engine's calls
 //     changes        what a call changed of a desk
@@ -26,9 +30,13 @@ mod calls;
 mod changes;
 mod command;
 mod counts;
+mod desks;
 mod fault;
 mod forms;
 mod frames;
+mod gathered;
+mod groups;
+mod held;
 mod holding;
 mod interpreter;
 mod lent;

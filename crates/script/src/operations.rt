@@ -1,4 +1,4 @@
-// An operation, as a line writes it: `T0 5 9`.
+// Operations, as a line writes them: `T0 5 9`, and of a client `client 9 T0 5 9`.
 use crate::fault::{Fault, Problem};
 use crate::line;
 use crate::line::Line;
@@ -44,5 +44,22 @@ impl fmt::Display for Operation {
             write!(f, "{before}{parameter}")?;
         }
         f.write_str(")")
+    }
+}
+
+// An operation of a client.
+#[derive(Clone, Copy, Debug, PartialEq, Eq)]
+pub(crate) struct ClientOperation {
+    pub client: u32,
+    pub operation: Operation,
+}
+
+impl ClientOperation {
+    pub(crate) fn read(line: &mut Line) -> Result<ClientOperation, Fault> {
+        line.expect(b"client", Problem::NoClient)?;
+        Ok(ClientOperation {
+            client: line.number(u32::MAX)?,
+            operation: Operation::read(line)?,
+        })
     }
 }

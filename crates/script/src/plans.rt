@@ -1,7 +1,8 @@
 // A plan in words: its verdict, its transactions with their steps, and what the chooser filled in.
+use crate::groups::{Group, Groups};
 use crate::question::Question;
 use crate::words;
-use crate::words::{Count, Group, Groups, Others};
+use crate::words::{Count, Others};
 use std::fmt;
 use word::fields;
 

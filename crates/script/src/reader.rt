@@ -1,6 +1,6 @@
 // The run of a script: its lines, from the bytes that are read, and the counts at the end.
 use crate::command::Command;
-use crate::fault::Unread;
+use crate::fault::LineError;
 use crate::interpreter::Interpreter;
 use crate::line::Line;
 use std::alloc::{AllocError, Global};
@@ -42,13 +42,13 @@ impl Script {
         if !line.has_more() {
             return Ok(());
         }
-        match Command::read(&mut line, &self.interpreter) {
+        match Command::read(&mut line, &self.interpreter.held) {
             Ok(command) => self.interpreter.perform(command, out),
-            Err(Unread::Fault(fault)) => {
+            Err(LineError::Fault(fault)) => {
                 self.interpreter.counts.add_bad_line();
                 writeln!(out, "line {number}, {fault}")
             }
-            Err(Unread::Memory(error)) => Err(io::Error::from(error)),
+            Err(LineError::Memory(error)) => Err(io::Error::from(error)),
         }
     }
 

@@ -1,0 +1,39 @@
+// The desks, each made or not.
+use crate::holding::Holding;
+use std::alloc::{AllocError, Global};
+
+// How many desks there can be.
+const MOST_DESKS: usize = 8;
+
+#[derive(Drop)]
+pub(crate) struct Desks {
+    slots: Vec<Option<Holding>>,
+}
+
+impl Desks {
+    // No desk is made.
+    pub(crate) fn new(alloc: Global) -> Result<Desks, AllocError> {
+        Ok(Desks {
+            slots: (0..MOST_DESKS).map(|_| None).collect(alloc)?,
+        })
+    }
+
+    pub(crate) fn get(&self, number: u32) -> Option<&Holding> {
+        self.slots.get(number as usize)?.as_ref()
+    }
+
+    pub(crate) fn get_mut(&mut self, number: u32) -> Option<&mut Holding> {
+        self.slots.get_mut(number as usize)?.as_mut()
+    }
+
+    pub(crate) fn is_made(&self, number: u32) -> bool {
+        self.get(number).is_some()
+    }
+
+    // The desk of this number is made, whatever it held.
+    pub(crate) fn put(&mut self, number: u32, desk: Holding) {
+        if let Some(slot) = self.slots.get_mut(number as usize) {
+            *slot = Some(desk);
+        }
+    }
+}
