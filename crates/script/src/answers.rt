@@ -3,7 +3,7 @@ use conveyor::Cause;
 use std::fmt;
 
 // The words of a reply to a visit.
-const REPLY_WORDS: usize = 7;
+pub(crate) const REPLY_WORDS: usize = 7;
 
 // The class of an operation, with its desk, and of a global one the cause.
 #[derive(Clone, Copy)]
@@ -98,22 +98,21 @@ impl fmt::Display for Response {
     }
 }
 
-// What a visit wrote: how many words of the frame that it sends, and how many replies.
+// What a call wrote: how many words of the frame that it sends, and how many replies.
 #[derive(Clone, Copy, Debug)]
-pub(crate) struct Visited {
+pub(crate) struct Written {
     pub sent: usize,
     pub replies: usize,
 }
 
-impl Visited {
-    // How many words the replies have.
-    pub(crate) fn reply_words(self) -> usize {
-        self.replies.saturating_mul(REPLY_WORDS)
-    }
-}
+// What a call writes that is refused.
+pub(crate) const NOTHING: Written = Written {
+    sent: 0,
+    replies: 0,
+};
 
 // The replies of a visit, in the words that it wrote.
-#[derive(Clone, Copy, Debug)]
+#[derive(Clone, Copy)]
 pub(crate) struct Replies<'a>(pub &'a [u32]);
 
 impl fmt::Display for Replies<'_> {

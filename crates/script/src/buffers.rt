@@ -1,4 +1,5 @@
 // The words that a call writes to. Before the call word i of a buffer is its mark, F0F00000 + i.
+use crate::answers::{REPLY_WORDS, Written};
 use crate::lent::Lent;
 use std::alloc::{AllocError, Global};
 
@@ -34,8 +35,20 @@ impl Buffers {
         })
     }
 
-    // How many words changed behind so many outgoing words and so many words of replies.
-    pub(crate) fn others(&self, sent: usize, replied: usize) -> usize {
-        others_in(&self.out, sent).saturating_add(others_in(&self.replies, replied))
+    // The words of the frame that a call wrote.
+    pub(crate) fn sent(&self, written: Written) -> &[u32] {
+        self.out.get(..written.sent).unwrap_or(&[])
+    }
+
+    // The words of the replies that a call wrote.
+    pub(crate) fn replies(&self, written: Written) -> &[u32] {
+        let words = written.replies.saturating_mul(REPLY_WORDS);
+        self.replies.get(..words).unwrap_or(&[])
+    }
+
+    // How many words changed behind those that a call wrote.
+    pub(crate) fn others(&self, written: Written) -> usize {
+        let words = written.replies.saturating_mul(REPLY_WORDS);
+        others_in(&self.out, written.sent).saturating_add(others_in(&self.replies, words))
     }
 }

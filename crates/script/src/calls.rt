@@ -1,5 +1,5 @@
 // The engine's calls. Each is refused by a question, or else answers a value.
-use crate::answers::{Case, Class, Reply, Response, Visited};
+use crate::answers::{Case, Class, Reply, Response, Written};
 use crate::buffers::Buffers;
 use crate::holding::Holding;
 use crate::lent::Lent;
@@ -51,10 +51,13 @@ pub(crate) fn new_desk(plan: &[u32], desk: u32) -> Result<Desk, Question> {
     }
 }
 
-// The starting frame: how many words it writes.
-pub(crate) fn starting_frame(out: &mut [u32]) -> Result<usize, Question> {
+// The starting frame.
+pub(crate) fn starting_frame(out: &mut [u32]) -> Result<Written, Question> {
     accepted(conveyor::starting_frame(out))?;
-    Ok(LEAST_FRAME)
+    Ok(Written {
+        sent: LEAST_FRAME,
+        replies: 0,
+    })
 }
 
 // The first items, as many as are lent, or all where there are fewer.
@@ -108,7 +111,7 @@ pub(crate) fn visit(
     lent: Lent,
     frame: &[u32],
     buffers: &mut Buffers,
-) -> Result<Visited, Question> {
+) -> Result<Written, Question> {
     let result = conveyor::visit(
         plan,
         desk.state,
@@ -121,7 +124,7 @@ pub(crate) fn visit(
     );
     desk.state = result.state;
     match result.answer {
-        VisitAnswer::Forwarded(sent, replies) => Ok(Visited { sent, replies }),
+        VisitAnswer::Forwarded(sent, replies) => Ok(Written { sent, replies }),
         VisitAnswer::Refused(question) => Err(Question(question)),
     }
 }

@@ -31,7 +31,7 @@ impl Changes<'_> {
 }
 
 // The cells that changed of a book or of a bulletin; of many their number, and the two sums of all cells.
-#[derive(Clone, Copy, Debug)]
+#[derive(Clone, Copy)]
 struct ChangedCells<'a> {
     name: &'a str,
     before: &'a [u32],

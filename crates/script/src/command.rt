@@ -9,7 +9,7 @@ use crate::operations::{ClientOperation, Operation};
 use conveyor::Desk;
 
 // What `show` shows.
-#[derive(Clone, Copy, Debug, PartialEq, Eq)]
+#[derive(Clone, Copy)]
 pub(crate) enum Shown {
     Plan,
     Desk(u32),
@@ -95,6 +95,23 @@ fn read_records(line: &mut Line) -> Result<Setting, Fault> {
     })
 }
 
+// The rest of a command whose next word is a desk that is made.
+fn read_at_desk<'a>(
+    name: &[u8],
+    line: &mut Line<'a>,
+    held: &Held,
+) -> Result<Command<'a>, LineError> {
+    match name {
+        b"request" => Ok(Command::Request(held.read_made(line)?, ClientOperation::read(line)?)),
+        b"visit" => Ok(Command::Visit(held.read_made(line)?, Frame::read(line, held)?)),
+        b"cell" => Ok(Command::Set(held.read_made(line)?, read_cell(line)?)),
+        b"cells" => Ok(Command::Set(held.read_made(line)?, read_cells(line)?)),
+        b"bulletin" => Ok(Command::Set(held.read_made(line)?, Setting::Bulletin)),
+        b"records" => Ok(Command::Set(held.read_made(line)?, read_records(line)?)),
+        _ => Err(LineError::Fault(line.fault(Problem::NoCommand))),
+    }
+}
+
 impl<'a> Command<'a> {
     // The command of a line that has words.
     pub(crate) fn read(line: &mut Line<'a>, held: &Held) -> Result<Command<'a>, LineError> {
@@ -104,20 +121,14 @@ impl<'a> Command<'a> {
             b"class" => Command::Class(Operation::read(line)?),
             b"desk" => Command::Desk(line.number(u32::MAX)?),
             b"start" => Command::Start,
-            b"request" => Command::Request(held.read_made(line)?, ClientOperation::read(line)?),
-            b"visit" => Command::Visit(held.read_made(line)?, Frame::read(line, held)?),
             b"pass" => Command::Pass(read_pass(line, held)?),
             b"read" => Command::Read(Frame::read(line, held)?),
             b"show" => Command::Show(read_shown(line, held)?),
             b"state" => Command::State(line.number(7)?, read_state(line)?),
-            b"cell" => Command::Set(held.read_made(line)?, read_cell(line)?),
-            b"cells" => Command::Set(held.read_made(line)?, read_cells(line)?),
-            b"bulletin" => Command::Set(held.read_made(line)?, Setting::Bulletin),
-            b"records" => Command::Set(held.read_made(line)?, read_records(line)?),
             b"lend" => Command::Lend(Lent::read(line)?),
             b"reset" => Command::Reset,
             b"say" => return Ok(Command::Say(line.text_behind())),
-            _ => return Err(LineError::Fault(line.fault(Problem::NoCommand))),
+            name => read_at_desk(name, line, held)?,
         };
         line.close()?;
         Ok(command)

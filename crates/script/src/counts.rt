@@ -1,5 +1,5 @@
 // What is counted.
-use crate::answers::{Case, Response, Visited};
+use crate::answers::{Case, Response, Written};
 use crate::gathered::{Frame, FrameName};
 use crate::question::Question;
 use std::fmt;
@@ -91,19 +91,19 @@ impl Counts {
     }
 
     // A visit that was not refused.
-    pub(crate) fn add_visit(&mut self, frame: &Frame, visited: Visited) {
+    pub(crate) fn add_visit(&mut self, frame: &Frame, written: Written) {
         let visits = &mut self.visits;
         add_one(&mut visits.all);
-        let replies = u32::try_from(visited.replies).unwrap_or(u32::MAX);
+        let replies = u32::try_from(written.replies).unwrap_or(u32::MAX);
         visits.replies = visits.replies.wrapping_add(replies);
-        if 1 < visited.replies {
+        if 1 < written.replies {
             add_one(&mut visits.several);
         }
         if !matches!(frame.name, FrameName::Sent(_)) {
             add_one(&mut visits.changed_frames);
         }
         visits.longest_taken = visits.longest_taken.max(frame.words.len());
-        visits.longest_sent = visits.longest_sent.max(visited.sent);
+        visits.longest_sent = visits.longest_sent.max(written.sent);
     }
 }
 

@@ -8,7 +8,7 @@ use crate::line::Line;
 use crate::words::MOST_WORDS;
 
 // One form of the language: words more, or a change to the words before it.
-#[derive(Clone, Copy, Debug, PartialEq, Eq)]
+#[derive(Clone, Copy)]
 pub(crate) enum Form {
     One(u32),
     Repeated { count: usize, period: usize },
@@ -21,8 +21,8 @@ pub(crate) enum Form {
     Frame(u32),
 }
 
-// The two numbers of `*403/13`; of `*11` the second is 1.
-fn repetition(line: &Line, numbers: &[u8]) -> Result<Form, Fault> {
+// `403/13` behind the `*`; `11` is `11/1`.
+fn read_repeated(line: &Line, numbers: &[u8]) -> Result<Form, Fault> {
     let mut parts = numbers.splitn(2, |byte| *byte == b'/');
     let count = parts.next().unwrap_or(&[]);
     let period = parts.next().unwrap_or(b"1");
@@ -33,6 +33,17 @@ fn repetition(line: &Line, numbers: &[u8]) -> Result<Form, Fault> {
         count: count as usize,
         period: period as usize,
     })
+}
+
+// `2 A1100000`, where there are so many words.
+fn read_changed(line: &mut Line, words: usize) -> Result<Form, Fault>
+    ensures { length line.new.rest.now ≤ length line.old.rest.now }
+{
+    let place = line.number(MOST_WORDS)? as usize;
+    line.demand(place < words, Problem::NoSuchWords)?;
+    let word = line.word_or_empty();
+    let word = line.hexadecimal(word)?;
+    Ok(Form::Word { place, word })
 }
 
 impl Form {
@@ -46,20 +57,14 @@ impl Form {
         ensures { length line.new.rest.now ≤ length line.old.rest.now }
     {
         match name {
-            b"word" => {
-                let place = line.number(MOST_WORDS)? as usize;
-                line.demand(place < words, Problem::NoSuchWords)?;
-                let word = line.word_or_empty();
-                let word = line.hexadecimal(word)?;
-                Ok(Form::Word { place, word })
-            }
+            b"word" => read_changed(line, words),
             b"cut" => Ok(Form::Cut(line.number(MOST_WORDS)? as usize)),
             b"sums" => Ok(Form::Sums),
             b"seal" => Ok(Form::Seal),
             b"words" => Ok(Form::Words),
             b"same" => Ok(Form::Same),
             b"frame" => Ok(Form::Frame(held.read_kept(line)?)),
-            [b'*', numbers @ ..] => repetition(line, numbers),
+            [b'*', numbers @ ..] => read_repeated(line, numbers),
             word => Ok(Form::One(line.hexadecimal(word)?)),
         }
     }

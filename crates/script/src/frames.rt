@@ -1,6 +1,6 @@
 // The frames that were sent, of which the latest are kept.
 use crate::groups::Groups;
-use crate::words::Count;
+use crate::words::{Count, Words};
 use std::alloc::{AllocError, Global};
 use std::collections::VecDeque;
 use std::fmt;
@@ -36,16 +36,20 @@ impl Frames {
         Some(frame.as_slice())
     }
 
-    // Keeps a frame that is sent, and gives its number.
-    pub(crate) fn keep(&mut self, alloc: Global, frame: &[u32]) -> Result<u32, AllocError> {
-        let frame = Vec::from_slice(alloc, frame)?;
+    // Keeps the words of a frame that is sent.
+    pub(crate) fn send<'a>(
+        &mut self,
+        alloc: Global,
+        words: &'a [u32],
+    ) -> Result<SentFrame<'a>, AllocError> {
+        let frame = Vec::from_slice(alloc, words)?;
         if MOST_KEPT <= self.kept.len() {
             let _ = self.kept.pop_front();
         }
         self.kept.push_back(frame)?;
         let number = self.sent;
         self.sent = number.wrapping_add(1);
-        Ok(number)
+        Ok(SentFrame { number, words })
     }
 
     // The desk that the latest frame is addressed to, desk 0 where none was sent.
@@ -56,8 +60,21 @@ impl Frames {
     }
 }
 
+// A frame as an answer says that it is sent.
+#[derive(Clone, Copy)]
+pub(crate) struct SentFrame<'a> {
+    number: u32,
+    words: &'a [u32],
+}
+
+impl fmt::Display for SentFrame<'_> {
+    fn fmt<W: fmt::Write>(&self, f: &mut fmt::Formatter<W>) -> fmt::Result {
+        write!(f, "sends frame {} of {}", self.number, Words(self.words))
+    }
+}
+
 // A frame as it is shown: its number and its words.
-#[derive(Clone, Copy, Debug)]
+#[derive(Clone, Copy)]
 pub(crate) struct ShownFrame<'a>(pub u32, pub &'a [u32]);
 
 impl fmt::Display for ShownFrame<'_> {
@@ -77,7 +94,7 @@ impl fmt::Display for ShownFrame<'_> {
 }
 
 // The cells of an update, each a word with its number and one with its value.
-#[derive(Clone, Copy, Debug)]
+#[derive(Clone, Copy)]
 struct Cells<'a>(&'a [u32]);
 
 impl fmt::Display for Cells<'_> {

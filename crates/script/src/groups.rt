@@ -6,7 +6,7 @@ use word::fields;
 
 // A word that counts, in bits 23-20, the parts behind it, its place, and the words of these parts: a transaction with its steps, or an
 // update with its cells.
-#[derive(Clone, Copy, Debug)]
+#[derive(Clone, Copy)]
 pub(crate) struct Group<'a> {
     pub place: usize,
     pub head: u32,
@@ -14,7 +14,7 @@ pub(crate) struct Group<'a> {
 }
 
 // The groups of words that are left, each part of so many words.
-#[derive(Clone, Copy, Debug)]
+#[derive(Clone, Copy)]
 pub(crate) struct Groups<'a> {
     place: usize,
     rest: &'a [u32],

@@ -15,14 +15,14 @@ pub(crate) struct Holding {
 }
 
 // What cells are set to: all to one number, or each to one that is drawn from the one before, the first from a seed.
-#[derive(Clone, Copy, Debug, PartialEq, Eq)]
+#[derive(Clone, Copy)]
 pub(crate) enum Drawn {
     Same(u32),
     Seed(u32),
 }
 
 // What is set by hand at a desk that is made.
-#[derive(Clone, Copy, Debug, PartialEq, Eq)]
+#[derive(Clone, Copy)]
 pub(crate) enum Setting {
     Cell {
         cell: usize,
@@ -156,21 +156,37 @@ impl fmt::Display for Record<'_> {
 #[derive(Clone, Copy)]
 pub(crate) struct ShownDesk<'a>(pub u32, pub &'a Holding);
 
-impl fmt::Display for ShownDesk<'_> {
-    fn fmt<W: fmt::Write>(&self, f: &mut fmt::Formatter<W>) -> fmt::Result {
-        let desk = self.1;
-        writeln!(f, "desk {}: {}", self.0, State(self.0, desk.state))?;
-        let waiting = desk.state.waiting as usize;
-        for (i, record) in desk.row.iter().enumerate().take(waiting) {
+impl ShownDesk<'_> {
+    fn write_records<W: fmt::Write>(&self, f: &mut fmt::Formatter<W>) -> fmt::Result {
+        let waiting = self.1.state.waiting as usize;
+        for (i, record) in self.1.row.iter().enumerate().take(waiting) {
             writeln!(f, "  record {i}: {}", Record(record))?;
         }
-        for (i, cell) in desk.book.iter().enumerate().filter(|(_, cell)| **cell != 0) {
+        Ok(())
+    }
+
+    fn write_cells<W: fmt::Write>(&self, f: &mut fmt::Formatter<W>) -> fmt::Result {
+        let cells = self.1.book.iter().enumerate();
+        for (i, cell) in cells.filter(|(_, cell)| **cell != 0) {
             writeln!(f, "  cell {i} is {cell}")?;
         }
-        let pairs = desk.book.iter().zip(desk.bulletin.iter()).enumerate();
+        Ok(())
+    }
+
+    fn write_bulletin<W: fmt::Write>(&self, f: &mut fmt::Formatter<W>) -> fmt::Result {
+        let pairs = self.1.book.iter().zip(self.1.bulletin.iter()).enumerate();
         for (i, (_, shown)) in pairs.filter(|(_, (cell, shown))| cell != shown) {
             writeln!(f, "  bulletin cell {i} is {shown}")?;
         }
         Ok(())
+    }
+}
+
+impl fmt::Display for ShownDesk<'_> {
+    fn fmt<W: fmt::Write>(&self, f: &mut fmt::Formatter<W>) -> fmt::Result {
+        writeln!(f, "desk {}: {}", self.0, State(self.0, self.1.state))?;
+        self.write_records(f)?;
+        self.write_cells(f)?;
+        self.write_bulletin(f)
     }
 }

@@ -1,5 +1,5 @@
 // What the commands do, and what is said of it.
-use crate::answers::Replies;
+use crate::answers::{NOTHING, Replies};
 use crate::buffers::Buffers;
 use crate::calls;
 use crate::changes::Changes;
@@ -22,11 +22,6 @@ use std::io::Write;
 pub(crate) struct Interpreter {
     pub held: Held,
     pub counts: Counts,
-}
-
-// The first words, or none where there are fewer.
-fn first(words: &[u32], count: usize) -> &[u32] {
-    words.get(..count).unwrap_or(&[])
 }
 
 // Says what a call changed that was refused, if it changed anything.
@@ -152,20 +147,17 @@ impl Interpreter {
         let mut buffers = Buffers::new(self.held.alloc, self.held.lent)?;
         let started = calls::starting_frame(&mut buffers.out);
         self.counts.add_call(&started);
+        let others = buffers.others(started.unwrap_or(NOTHING));
         match started {
-            Ok(sent) => {
-                let frame = first(&buffers.out, sent);
-                let number = self.held.frames.keep(self.held.alloc, frame)?;
-                let others = Others(buffers.others(sent, 0));
-                writeln!(
-                    out,
-                    "start: sends frame {number} of {}{others}",
-                    Words(frame)
-                )
+            Ok(written) => {
+                let sent = self
+                    .held
+                    .frames
+                    .send(self.held.alloc, buffers.sent(written))?;
+                writeln!(out, "start: {sent}{}", Others(others))
             }
             Err(question) => {
                 writeln!(out, "start: {question}")?;
-                let others = buffers.others(0, 0);
                 if others != 0 {
                     self.counts.add_change();
                     writeln!(out, "CHANGED{}", Others(others))?;
@@ -193,18 +185,13 @@ impl Interpreter {
             after: &after,
             others: 0,
         };
-        write!(
-            out,
-            "desk {number}: {} of client {}: ",
-            asked.operation, asked.client
-        )?;
         match response {
             Ok(response) => {
                 self.counts.add_request(response);
-                writeln!(out, "{response}{changes}")?;
+                writeln!(out, "desk {number}: {asked}: {response}{changes}")?;
             }
             Err(question) => {
-                writeln!(out, "{question}")?;
+                writeln!(out, "desk {number}: {asked}: {question}")?;
                 write_changed(&mut self.counts, changes, out)?;
             }
         }
@@ -226,29 +213,26 @@ impl Interpreter {
             &mut buffers,
         );
         self.counts.add_call(&visited);
-        let (sent, replied) = visited.map_or(
-            (0, 0),
-            |visited| (visited.sent, visited.reply_words()),
-        );
         let changes = Changes {
             number,
             before: &*desk,
             after: &after,
-            others: buffers.others(sent, replied),
+            others: buffers.others(visited.unwrap_or(NOTHING)),
         };
         match visited {
-            Ok(visited) => {
-                let sent = first(&buffers.out, sent);
-                let replies = Replies(first(&buffers.replies, replied));
-                let kept = self.held.frames.keep(self.held.alloc, sent)?;
-                self.counts.add_visit(frame, visited);
-                write!(
+            Ok(written) => {
+                self.counts.add_visit(frame, written);
+                let replies = Replies(buffers.replies(written));
+                let sent = self
+                    .held
+                    .frames
+                    .send(self.held.alloc, buffers.sent(written))?;
+                writeln!(
                     out,
-                    "desk {number}: visit {} by {}: {replies}",
+                    "desk {number}: visit {} by {}: {replies}; {sent}{changes}",
                     frame.visit(),
                     frame.name
                 )?;
-                writeln!(out, "; sends frame {kept} of {}{changes}", Words(sent))?;
             }
             Err(question) => {
                 writeln!(out, "desk {number}: visit by {}: {question}", frame.name)?;

@@ -5,7 +5,7 @@ use crate::line::Line;
 use std::fmt;
 
 // A transaction, and the parameters that the line writes.
-#[derive(Clone, Copy, Debug, PartialEq, Eq)]
+#[derive(Clone, Copy)]
 pub(crate) struct Operation {
     pub transaction: u32,
     written: [Option<u32>; 4],
@@ -48,7 +48,7 @@ impl fmt::Display for Operation {
 }
 
 // An operation of a client.
-#[derive(Clone, Copy, Debug, PartialEq, Eq)]
+#[derive(Clone, Copy)]
 pub(crate) struct ClientOperation {
     pub client: u32,
     pub operation: Operation,
@@ -61,5 +61,11 @@ impl ClientOperation {
             client: line.number(u32::MAX)?,
             operation: Operation::read(line)?,
         })
+    }
+}
+
+impl fmt::Display for ClientOperation {
+    fn fmt<W: fmt::Write>(&self, f: &mut fmt::Formatter<W>) -> fmt::Result {
+        write!(f, "{} of client {}", self.operation, self.client)
     }
 }

@@ -7,7 +7,7 @@ use std::fmt;
 use word::fields;
 
 // Where a step takes its number from: a parameter, or the step's own word.
-#[derive(Clone, Copy, Debug)]
+#[derive(Clone, Copy)]
 enum Source {
     Parameter(u32),
     Fixed(u32),
@@ -34,7 +34,7 @@ impl Source {
 }
 
 // The cell that a step reads or writes.
-#[derive(Clone, Copy, Debug)]
+#[derive(Clone, Copy)]
 struct Cell {
     table: u32,
     column: u32,
@@ -52,7 +52,7 @@ impl fmt::Display for Cell {
 }
 
 // A step of a transaction.
-#[derive(Clone, Copy, Debug)]
+#[derive(Clone, Copy)]
 enum Step {
     Read(Cell),
     Write(Cell),
@@ -130,7 +130,7 @@ impl fmt::Display for Partitioning {
 }
 
 // A transaction of a plan with its number.
-#[derive(Clone, Copy, Debug)]
+#[derive(Clone, Copy)]
 struct Transaction<'a> {
     number: usize,
     group: Group<'a>,
@@ -179,7 +179,7 @@ impl fmt::Display for Transaction<'_> {
 }
 
 // What the plan reader says of a plan.
-#[derive(Clone, Copy, Debug)]
+#[derive(Clone, Copy)]
 pub(crate) struct PlanLine<'a> {
     pub plan: &'a [u32],
     pub verdict: Result<(), Question>,
@@ -199,7 +199,7 @@ impl fmt::Display for PlanLine<'_> {
 }
 
 // A plan as it is shown: what the plan reader says, and the transactions, if they are well formed.
-#[derive(Clone, Copy, Debug)]
+#[derive(Clone, Copy)]
 pub(crate) struct ShownPlan<'a>(pub PlanLine<'a>);
 
 impl fmt::Display for ShownPlan<'_> {
@@ -219,7 +219,7 @@ impl fmt::Display for ShownPlan<'_> {
 }
 
 // What the chooser made of a plan.
-#[derive(Clone, Copy, Debug)]
+#[derive(Clone, Copy)]
 pub(crate) struct Filling<'a> {
     pub before: &'a [u32],
     pub after: &'a [u32],

@@ -91,24 +91,35 @@ impl Script {
     }
 }
 
+// Reads the next bytes of a script into a block, and runs the lines that they end; whether there were any.
+fn run_block<R: Read, W: Write>(
+    script: &mut Script,
+    block: &mut [u8],
+    input: &mut R,
+    out: &mut W,
+) -> io::Result<bool> {
+    let length = input.read(block)?;
+    for byte in block.iter().take(length) {
+        script.take(*byte, out)?;
+    }
+    out.flush()?;
+    Ok(0 < length)
+}
+
 // Reads a script, and writes what is said to it. It ends where a read or a write fails.
-pub fn run<R: Read + Drop, W: Write + Drop>(
-    alloc: Global,
-    mut input: R,
-    output: W,
-) -> io::Result<()> {
+pub fn run<R, W>(alloc: Global, input: R, output: W) -> io::Result<()>
+where
+    R: Read + Drop,
+    W: Write + Drop,
+{
+    let mut input = input;
     let mut output = BufWriter::new(alloc, output)?;
     let mut script = Script::new(alloc)?;
     let mut block = vec![in alloc; 0; BLOCK_SIZE]?;
     for _ in 0..u64::MAX {
-        let length = input.read(&mut block)?;
-        if length == 0 {
+        if !run_block(&mut script, &mut block, &mut input, &mut output)? {
             break;
         }
-        for byte in block.iter().take(length) {
-            script.take(*byte, &mut output)?;
-        }
-        output.flush()?;
     }
     script.finish(&mut output)?;
     output.flush()

@@ -21,7 +21,7 @@ pub(crate) fn count_changed(before: &[u32], after: &[u32]) -> usize {
 }
 
 // How many there are of what has this name.
-#[derive(Clone, Copy, Debug)]
+#[derive(Clone, Copy)]
 pub(crate) struct Count<'a>(pub usize, pub &'a str);
 
 impl fmt::Display for Count<'_> {
@@ -32,7 +32,7 @@ impl fmt::Display for Count<'_> {
 }
 
 // How many other words changed, if any did.
-#[derive(Clone, Copy, Debug)]
+#[derive(Clone, Copy)]
 pub(crate) struct Others(pub usize);
 
 impl fmt::Display for Others {
@@ -45,7 +45,7 @@ impl fmt::Display for Others {
 }
 
 // How many words there are, and they; of more than 16 the two sums of all but the last two, and these.
-#[derive(Clone, Copy, Debug)]
+#[derive(Clone, Copy)]
 pub(crate) struct Words<'a>(pub &'a [u32]);
 
 impl fmt::Display for Words<'_> {
