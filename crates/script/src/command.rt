@@ -1,9 +1,10 @@
 // The commands. A line is read whole before anything is done, so that a bad one changes nothing.
+use crate::desks::LAST_DESK;
 use crate::fault::{Fault, LineError, Problem};
 use crate::gathered::Frame;
 use crate::held::Held;
 use crate::holding::{Drawn, Setting};
-use crate::lent::Lent;
+use crate::lent::{CELLS, Lent, ROW};
 use crate::line::Line;
 use crate::operations::{ClientOperation, Operation};
 use conveyor::Desk;
@@ -36,11 +37,14 @@ pub(crate) enum Command<'a> {
     Say(&'a [u8]),
 }
 
+// As many visits as `pass` makes.
+const MOST_VISITS: u32 = 1_000_000;
+
 // The number of visits. The desk that the latest frame is addressed to is looked at first.
 fn read_pass(line: &mut Line, held: &Held) -> Result<u32, Fault> {
     let desk = held.frames.addressed();
     line.demand(held.desks.is_made(desk), Problem::NotMade)?;
-    line.number(1_000_000)
+    line.number(MOST_VISITS)
 }
 
 // `plan`, `desk 0` or `frame 3`.
@@ -71,7 +75,7 @@ fn read_state(line: &mut Line) -> Result<Desk, Fault> {
 // `128 7`.
 fn read_cell(line: &mut Line) -> Result<Setting, Fault> {
     Ok(Setting::Cell {
-        cell: line.number(1039)? as usize,
+        cell: line.number(CELLS - 1)? as usize,
         value: line.number(u32::MAX)?,
     })
 }
@@ -89,8 +93,8 @@ fn read_cells(line: &mut Line) -> Result<Setting, Fault> {
 // `5 31 client 100 T1 0 3`.
 fn read_records(line: &mut Line) -> Result<Setting, Fault> {
     Ok(Setting::Records {
-        from: line.number(33)? as usize,
-        to: line.number(33)? as usize,
+        from: line.number(ROW)? as usize,
+        to: line.number(ROW)? as usize,
         first: ClientOperation::read(line)?,
     })
 }
@@ -124,7 +128,7 @@ impl<'a> Command<'a> {
             b"pass" => Command::Pass(read_pass(line, held)?),
             b"read" => Command::Read(Frame::read(line, held)?),
             b"show" => Command::Show(read_shown(line, held)?),
-            b"state" => Command::State(line.number(7)?, read_state(line)?),
+            b"state" => Command::State(line.number(LAST_DESK)?, read_state(line)?),
             b"lend" => Command::Lend(Lent::read(line)?),
             b"reset" => Command::Reset,
             b"say" => return Ok(Command::Say(line.text_behind())),

@@ -68,10 +68,10 @@ impl Counts {
     // A call, by its answer.
     pub(crate) fn add_call<T>(&mut self, answer: &Result<T, Question>) {
         add_one(&mut self.calls);
-        if let Err(question) = answer {
-            if let Some(count) = self.refused.get_mut(question.0 as usize) {
-                add_one(count);
-            }
+        if let Err(question) = answer
+            && let Some(count) = self.refused.get_mut(question.0 as usize)
+        {
+            add_one(count);
         }
     }
 

@@ -2,8 +2,8 @@
 use crate::holding::Holding;
 use std::alloc::{AllocError, Global};
 
-// How many desks there can be.
-const MOST_DESKS: usize = 8;
+// The highest number of a desk.
+pub(crate) const LAST_DESK: u32 = 7;
 
 #[derive(Drop)]
 pub(crate) struct Desks {
@@ -14,7 +14,7 @@ impl Desks {
     // No desk is made.
     pub(crate) fn new(alloc: Global) -> Result<Desks, AllocError> {
         Ok(Desks {
-            slots: (0..MOST_DESKS).map(|_| None).collect(alloc)?,
+            slots: (0..=LAST_DESK).map(|_| None).collect(alloc)?,
         })
     }
 

@@ -1,7 +1,7 @@
 // What the interpreter holds, but for the counts.
 ghost use Rattle.std.specs.Prelude.{◌≤◌, length};
 
-use crate::desks::Desks;
+use crate::desks::{Desks, LAST_DESK};
 use crate::fault::{Fault, Problem};
 use crate::frames::Frames;
 use crate::lent;
@@ -38,7 +38,7 @@ impl Held {
 
     // The next word of a line is the number of a desk that is made.
     pub(crate) fn read_made(&self, line: &mut Line) -> Result<u32, Fault> {
-        let number = line.number(7)?;
+        let number = line.number(LAST_DESK)?;
         line.demand(self.desks.is_made(number), Problem::NotMade)?;
         Ok(number)
     }

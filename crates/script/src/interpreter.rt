@@ -144,16 +144,14 @@ impl Interpreter {
     }
 
     fn start<W: Write>(&mut self, out: &mut W) -> io::Result<()> {
-        let mut buffers = Buffers::new(self.held.alloc, self.held.lent)?;
+        let alloc = self.held.alloc;
+        let mut buffers = Buffers::new(alloc, self.held.lent)?;
         let started = calls::starting_frame(&mut buffers.out);
         self.counts.add_call(&started);
         let others = buffers.others(started.unwrap_or(NOTHING));
         match started {
             Ok(written) => {
-                let sent = self
-                    .held
-                    .frames
-                    .send(self.held.alloc, buffers.sent(written))?;
+                let sent = self.held.frames.send(alloc, buffers.sent(written))?;
                 writeln!(out, "start: {sent}{}", Others(others))
             }
             Err(question) => {
@@ -173,11 +171,17 @@ impl Interpreter {
         asked: ClientOperation,
         out: &mut W,
     ) -> io::Result<()> {
-        let Some(desk) = self.held.desks.get_mut(number) else {
+        let Held {
+            plan,
+            desks,
+            lent,
+            ..
+        } = &mut self.held;
+        let Some(desk) = desks.get_mut(number) else {
             return Ok(());
         };
         let mut after = desk.clone()?;
-        let response = calls::request(&self.held.plan, &mut after, self.held.lent, asked);
+        let response = calls::request(plan, &mut after, *lent, asked);
         self.counts.add_call(&response);
         let changes = Changes {
             number,
@@ -200,18 +204,19 @@ impl Interpreter {
     }
 
     fn visit<W: Write>(&mut self, number: u32, frame: &Frame, out: &mut W) -> io::Result<()> {
-        let Some(desk) = self.held.desks.get_mut(number) else {
+        let Held {
+            alloc,
+            plan,
+            desks,
+            frames,
+            lent,
+        } = &mut self.held;
+        let Some(desk) = desks.get_mut(number) else {
             return Ok(());
         };
         let mut after = desk.clone()?;
-        let mut buffers = Buffers::new(self.held.alloc, self.held.lent)?;
-        let visited = calls::visit(
-            &self.held.plan,
-            &mut after,
-            self.held.lent,
-            &frame.words,
-            &mut buffers,
-        );
+        let mut buffers = Buffers::new(*alloc, *lent)?;
+        let visited = calls::visit(plan, &mut after, *lent, &frame.words, &mut buffers);
         self.counts.add_call(&visited);
         let changes = Changes {
             number,
@@ -223,16 +228,14 @@ impl Interpreter {
             Ok(written) => {
                 self.counts.add_visit(frame, written);
                 let replies = Replies(buffers.replies(written));
-                let sent = self
-                    .held
-                    .frames
-                    .send(self.held.alloc, buffers.sent(written))?;
-                writeln!(
+                let sent = frames.send(*alloc, buffers.sent(written))?;
+                write!(
                     out,
-                    "desk {number}: visit {} by {}: {replies}; {sent}{changes}",
+                    "desk {number}: visit {} by {}",
                     frame.visit(),
                     frame.name
                 )?;
+                writeln!(out, ": {replies}; {sent}{changes}")?;
             }
             Err(question) => {
                 writeln!(out, "desk {number}: visit by {}: {question}", frame.name)?;

@@ -7,6 +7,9 @@ use std::alloc::{AllocError, Global};
 use std::io;
 use std::io::{BufWriter, Read, Write};
 
+#[cfg(test)]
+mod tests;
+
 // The longest line, and how many bytes are read at once.
 const LONGEST_LINE: usize = 65536;
 
@@ -107,12 +110,11 @@ fn run_block<R: Read, W: Write>(
 }
 
 // Reads a script, and writes what is said to it. It ends where a read or a write fails.
-pub fn run<R, W>(alloc: Global, input: R, output: W) -> io::Result<()>
+pub fn run<R, W>(alloc: Global, mut input: R, output: W) -> io::Result<()>
 where
     R: Read + Drop,
     W: Write + Drop,
 {
-    let mut input = input;
     let mut output = BufWriter::new(alloc, output)?;
     let mut script = Script::new(alloc)?;
     let mut block = vec![in alloc; 0; BLOCK_SIZE]?;
