@@ -1,5 +1,5 @@
 // The forms in which a line writes words of plans and frames.
-ghost use Rattle.std.specs.Prelude.{◌≤◌, length};
+ghost use Rattle.script.specs.Line.{GivesNothingBack};
 
 use crate::fault::{Fault, Problem};
 use crate::held::Held;
@@ -37,7 +37,7 @@ fn read_repeated(line: &Line, numbers: &[u8]) -> Result<Form, Fault> {
 
 // `2 A1100000`, where there are so many words.
 fn read_changed(line: &mut Line, words: usize) -> Result<Form, Fault>
-    ensures { length line.new.rest.now ≤ length line.old.rest.now }
+    ensures { GivesNothingBack line.old line.new }
 {
     let place = line.number(MOST_WORDS)? as usize;
     line.demand(place < words, Problem::NoSuchWords)?;
@@ -54,7 +54,7 @@ impl Form {
         words: usize,
         held: &Held,
     ) -> Result<Form, Fault>
-        ensures { length line.new.rest.now ≤ length line.old.rest.now }
+        ensures { GivesNothingBack line.old line.new }
     {
         match name {
             b"word" => read_changed(line, words),

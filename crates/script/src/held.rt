@@ -1,5 +1,5 @@
 // What the interpreter holds, but for the counts.
-ghost use Rattle.std.specs.Prelude.{◌≤◌, length};
+ghost use Rattle.script.specs.Line.{GivesNothingBack};
 
 use crate::desks::{Desks, LAST_DESK};
 use crate::fault::{Fault, Problem};
@@ -45,7 +45,7 @@ impl Held {
 
     // The next word of a line is the number of a frame that is kept.
     pub(crate) fn read_kept(&self, line: &mut Line) -> Result<u32, Fault>
-        ensures { length line.new.rest.now ≤ length line.old.rest.now }
+        ensures { GivesNothingBack line.old line.new }
     {
         let number = line.number(u32::MAX)?;
         line.demand(self.frames.get(number).is_some(), Problem::NotKept)?;

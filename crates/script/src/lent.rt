@@ -1,5 +1,5 @@
 // How much of what is held a call is lent.
-ghost use Rattle.std.specs.Prelude.{◌≤◌, length};
+ghost use Rattle.script.specs.Line.{GivesNothingBack};
 
 use crate::fault::{Fault, Problem};
 use crate::line::Line;
@@ -34,7 +34,7 @@ const REPLIES: u32 = 240;
 
 // The next word is a size up to a bound.
 fn size(line: &mut Line, most: u32) -> Result<usize, Fault>
-    ensures { length line.new.rest.now ≤ length line.old.rest.now }
+    ensures { GivesNothingBack line.old line.new }
 {
     Ok(line.number(most)? as usize)
 }

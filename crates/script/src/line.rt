@@ -1,5 +1,6 @@
 // The words of a line, from left to right. No function gives back what was taken, so a loop over the words of a line ends.
 ghost use Rattle.std.specs.Prelude.{◌<◌, ◌≤◌, length, OnSome};
+ghost use Rattle.script.specs.Line.{GivesNothingBack};
 
 use crate::fault::{Fault, Problem};
 
@@ -58,7 +59,7 @@ impl<'a> Line<'a> {
 
     // The next word, if there is one.
     pub(crate) fn next_word(&mut self) -> Option<&'a [u8]>
-        ensures within { length self.new.rest.now ≤ length self.old.rest.now }
+        ensures within { GivesNothingBack self.old self.new }
         ensures shorter { OnSome result (length self.new.rest.now < length self.old.rest.now) }
     {
         let rest = self.upcoming();
@@ -71,7 +72,7 @@ impl<'a> Line<'a> {
 
     // The next word, empty where there is none.
     pub(crate) fn word_or_empty(&mut self) -> &'a [u8]
-        ensures { length self.new.rest.now ≤ length self.old.rest.now }
+        ensures { GivesNothingBack self.old self.new }
     {
         self.next_word().unwrap_or(&[])
     }
@@ -100,7 +101,7 @@ impl<'a> Line<'a> {
 
     // The next word is this name, or else this is the problem.
     pub(crate) fn expect(&mut self, name: &[u8], problem: Problem) -> Result<(), Fault>
-        ensures { length self.new.rest.now ≤ length self.old.rest.now }
+        ensures { GivesNothingBack self.old self.new }
     {
         let is_there = self.word_or_empty() == name;
         self.demand(is_there, problem)
@@ -108,7 +109,7 @@ impl<'a> Line<'a> {
 
     // The next word is a number up to a bound.
     pub(crate) fn number(&mut self, most: u32) -> Result<u32, Fault>
-        ensures { length self.new.rest.now ≤ length self.old.rest.now }
+        ensures { GivesNothingBack self.old self.new }
     {
         let number = decimal(self.word_or_empty(), most);
         let most = u64::from(most);
