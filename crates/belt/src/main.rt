@@ -4,5 +4,5 @@
 use std::io;
 
 fn main(rt: HostRuntime) -> io::Result<()> {
-    script::run(rt.stdin(), rt.stdout())
+    script::run(rt.alloc(), rt.stdin(), rt.stdout())
 }

@@ -1,24 +1,136 @@
-// What a call answers: a text and a number. The text of a refusal is that of the question.
-use crate::layout::{ANSWER, ANSWERED, CALLS, QUESTION, QUESTION_NUMBERS, REFUSALS, VALUE};
-use crate::memory::{Memory, add, count_above, get, on, put};
-use crate::output::say;
-use crate::texts;
+// What the engine's calls answer where no question refuses them, in text.
+use conveyor::Cause;
+use std::fmt;
 
-// Notes what a call answers that no question refused.
-pub fn note(m: &mut Memory, text: u32, number: u32) -> &mut Memory {
-    put(put(put(m, QUESTION, 0), ANSWER, text), VALUE, number)
+// The words of a reply to a visit.
+pub(crate) const REPLY_WORDS: usize = 7;
+
+// The class of an operation, with its desk, and of a global one the cause.
+#[derive(Clone, Copy)]
+pub(crate) enum Class {
+    Free,
+    Local(u32),
+    Global(u32, Cause),
 }
 
-// Notes which question refused a call, 0 for none.
-pub fn note_question(m: &mut Memory, question: u32) -> &mut Memory {
-    let question = question % QUESTION_NUMBERS;
-    put(note(m, texts::QUESTIONS + question, 0), QUESTION, question)
+impl fmt::Display for Class {
+    fn fmt<W: fmt::Write>(&self, f: &mut fmt::Formatter<W>) -> fmt::Result {
+        match self {
+            Class::Free => f.write_str("free"),
+            Class::Local(desk) => write!(f, "local at desk {desk}"),
+            Class::Global(desk, cause) => {
+                write!(
+                    f,
+                    "global at desk {desk}: it may write cell {}, ",
+                    cause.cell
+                )?;
+                write!(
+                    f,
+                    "which T{} of desk {} may touch",
+                    cause.transaction, cause.desk
+                )
+            }
+        }
+    }
 }
 
-// Says the text of the answer, and before it which question refused the call. Counts the call by this text.
-pub fn say_answer(m: &mut Memory) -> &mut Memory {
-    let text = get(m, ANSWER);
-    let m = add(add(m, on(ANSWERED, text as usize), 1), CALLS, 1);
-    let m = count_above(m, REFUSALS, QUESTION, 0);
-    say(say(m, texts::REFUSED), text)
+// How an operation ended; in the replies of a visit a word, which may be another.
+#[derive(Clone, Copy, Debug, PartialEq, Eq)]
+pub(crate) enum Case {
+    Done,
+    Declined,
+    Word(u32),
+}
+
+impl From<u32> for Case {
+    fn from(word: u32) -> Case {
+        match word {
+            0xC000_0001 => Case::Done,
+            0xC000_0000 => Case::Declined,
+            _ => Case::Word(word),
+        }
+    }
+}
+
+impl fmt::Display for Case {
+    fn fmt<W: fmt::Write>(&self, f: &mut fmt::Formatter<W>) -> fmt::Result {
+        match self {
+            Case::Done => f.write_str("done"),
+            Case::Declined => f.write_str("declined"),
+            Case::Word(word) => write!(f, "word {word:08X}"),
+        }
+    }
+}
+
+// A reply: how the operation ended, its number, and the four words that it tells, which are written if one of them is not 0.
+#[derive(Clone, Copy, Debug, PartialEq, Eq)]
+pub(crate) struct Reply {
+    pub case: Case,
+    pub number: u32,
+    pub told: [u32; 4],
+}
+
+impl fmt::Display for Reply {
+    fn fmt<W: fmt::Write>(&self, f: &mut fmt::Formatter<W>) -> fmt::Result {
+        write!(f, "{}, {}", self.case, self.number)?;
+        match self.told {
+            [0, 0, 0, 0] => Ok(()),
+            [a, b, c, d] => write!(f, ", told {a} {b} {c} {d}"),
+        }
+    }
+}
+
+// What becomes of a request.
+#[derive(Clone, Copy, Debug, PartialEq, Eq)]
+pub(crate) enum Response {
+    Replied(Reply),
+    Waits,
+    Elsewhere(u32),
+}
+
+impl fmt::Display for Response {
+    fn fmt<W: fmt::Write>(&self, f: &mut fmt::Formatter<W>) -> fmt::Result {
+        match self {
+            Response::Replied(reply) => write!(f, "{reply}"),
+            Response::Waits => f.write_str("waits"),
+            Response::Elsewhere(desk) => write!(f, "elsewhere, desk {desk}"),
+        }
+    }
+}
+
+// What a call wrote: how many words of the frame that it sends, and how many replies.
+#[derive(Clone, Copy, Debug)]
+pub(crate) struct Written {
+    pub sent: usize,
+    pub replies: usize,
+}
+
+// What a call writes that is refused.
+pub(crate) const NOTHING: Written = Written {
+    sent: 0,
+    replies: 0,
+};
+
+// The replies of a visit, in the words that it wrote.
+#[derive(Clone, Copy)]
+pub(crate) struct Replies<'a>(pub &'a [u32]);
+
+impl fmt::Display for Replies<'_> {
+    fn fmt<W: fmt::Write>(&self, f: &mut fmt::Formatter<W>) -> fmt::Result {
+        match self.0.len() / REPLY_WORDS {
+            1 => f.write_str("1 reply")?,
+            count => write!(f, "{count} replies")?,
+        }
+        for reply in self.0.chunks(REPLY_WORDS) {
+            if let [case, client, number, a, b, c, d] = reply {
+                let reply = Reply {
+                    case: Case::from(*case),
+                    number: *number,
+                    told: [*a, *b, *c, *d],
+                };
+                write!(f, ", client {client} {reply}")?;
+            }
+        }
+        Ok(())
+    }
 }

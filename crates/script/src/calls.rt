@@ -1,190 +1,143 @@
-// The engine's calls on copies of what stands in memory. What a call leaves of the desk, of the plan and of the buffers goes to places of
-// its own, so that all of it can be held against what was there before.
-use crate::answers::{note, note_question};
-use crate::layout::{
-    AFTER, BEFORE, BULLETIN_AFTER, BULLETIN_BEFORE, CELL_COUNT, CLIENT, FOURTH_PARAMETER,
-    FOURTH_TOLD, HAND, HAND_WORDS, LENT_BULLETIN, LENT_CELLS, LENT_OUTGOING, LENT_REPLIES,
-    LENT_ROW, MARKS, OUTGOING, OUTGOING_WORDS, PARAMETERS, PLAN, PLAN_WORDS, RECORDS_AFTER,
-    RECORDS_BEFORE, REPLIES, REPLIES_SIZE, SECOND_PARAMETER, SECOND_TOLD, THIRD_PARAMETER,
-    THIRD_TOLD, TOLD, TRANSACTION,
+// The engine's calls. Each is refused by a question, or else answers a value.
+use crate::answers::{Case, Class, Reply, Response, Written};
+use crate::buffers::Buffers;
+use crate::holding::Holding;
+use crate::lent::Lent;
+use crate::operations::{ClientOperation, Operation};
+use crate::question::Question;
+use conveyor::{
+    Choice, ClassAnswer, Desk, DeskAnswer, FrameAnswer, RequestAnswer, Verdict, VisitAnswer,
 };
-use crate::memory::{Memory, copy, counted, get, narrow, on, put, size};
-use crate::{desks, texts};
-use conveyor::{Choice, RequestAnswer, RequestResult, Verdict, VisitAnswer, VisitResult};
 
-// Copies words from a place on to a buffer, and gives as many of them as another place says, or all where there are less.
-fn load<'a>(m: &Memory, place: usize, number: usize, into: &'a mut [u32]) -> &'a mut [u32] {
-    for i in 0..into.len() {
-        into[i] = get(m, on(place, i));
-    }
-    let lent = size(m, number);
-    if lent <= into.len() {
-        &mut into[..lent]
-    } else {
-        into
+// The words of the starting frame.
+const LEAST_FRAME: usize = 4;
+
+// A verdict of the engine.
+fn accepted(verdict: Verdict) -> Result<(), Question> {
+    match verdict {
+        Verdict::Accepted => Ok(()),
+        Verdict::Refused(question) => Err(Question(question)),
     }
 }
 
-// Copies words to memory.
-fn store<'a>(m: &'a mut Memory, place: usize, words: &[u32]) -> &'a mut Memory {
-    for i in 0..words.len() {
-        put(m, on(place, i), words[i]);
-    }
-    m
+// The plan reader.
+pub(crate) fn read_plan(plan: &[u32]) -> Result<(), Question> {
+    accepted(conveyor::read_plan(plan))
 }
 
-// The four parameters at hand.
-pub fn parameters(m: &Memory) -> [u32; 4] {
-    [
-        get(m, PARAMETERS),
-        get(m, SECOND_PARAMETER),
-        get(m, THIRD_PARAMETER),
-        get(m, FOURTH_PARAMETER),
-    ]
-}
-
-// The request itself on copies of the cells and of the row, with as much lent as is set.
-fn ask(m: &Memory, cells: &mut [u32], row: &mut [u32]) -> RequestResult {
-    conveyor::request_on_words(
-        counted(m, PLAN, PLAN_WORDS),
-        desks::state(m),
-        load(m, BEFORE, LENT_CELLS, cells),
-        load(m, RECORDS_BEFORE, LENT_ROW, row),
-        get(m, CLIENT),
-        get(m, TRANSACTION),
-        parameters(m),
-    )
-}
-
-// Notes what a request answers. The texts of what became of it stand in the order of its counts.
-fn note_request(m: &mut Memory, answer: RequestAnswer) -> &mut Memory {
-    match answer {
-        RequestAnswer::Replied(said) => {
-            let m = put(put(m, TOLD, said.told0), SECOND_TOLD, said.told1);
-            let m = put(put(m, THIRD_TOLD, said.told2), FOURTH_TOLD, said.told3);
-            if said.done {
-                note(m, texts::DONE, said.number)
-            } else {
-                note(m, texts::DECLINED, said.number)
-            }
-        }
-        RequestAnswer::Waits => note(m, texts::WAITS, 0),
-        RequestAnswer::Elsewhere(desk) => note(m, texts::ELSEWHERE, desk),
-        RequestAnswer::Refused(question) => note_question(m, question),
+// The chooser: the cost of the plan as it is filled.
+pub(crate) fn choose(plan: &mut [u32]) -> Result<u32, Question> {
+    match conveyor::choose(plan) {
+        Choice::Chosen(cost) => Ok(cost),
+        Choice::Refused(question) => Err(Question(question)),
     }
 }
 
-// A request at the desk at hand of the operation at hand. It is not lent the bulletin.
-pub fn request(m: &mut Memory) -> &mut Memory {
-    let mut cells = [0u32; 1040];
-    let mut row = [0u32; 198];
-    let result = ask(m, &mut cells, &mut row);
-    let given = result.answer;
-    let m = store(store(m, AFTER, &cells), RECORDS_AFTER, &row);
-    let m = copy(m, BULLETIN_BEFORE, BULLETIN_AFTER, CELL_COUNT);
-    note_request(desks::put_state(m, result.state), given)
-}
-
-// The visit itself by the words of the line, on copies of cells and bulletin and on marked buffers, with as much lent as is set.
-fn pass(
-    m: &Memory,
-    cells: &mut [u32],
-    bulletin: &mut [u32],
-    out: &mut [u32],
-    replies: &mut [u32],
-) -> VisitResult {
-    conveyor::visit_on_words(
-        counted(m, PLAN, PLAN_WORDS),
-        desks::state(m),
-        load(m, BEFORE, LENT_CELLS, cells),
-        load(m, BULLETIN_BEFORE, LENT_BULLETIN, bulletin),
-        counted(m, LENT_ROW, RECORDS_BEFORE),
-        counted(m, HAND, HAND_WORDS),
-        load(m, MARKS, LENT_OUTGOING, out),
-        load(m, MARKS, LENT_REPLIES, replies),
-    )
-}
-
-// Notes what a visit answers: the words that it sends, and its replies with no text.
-fn note_visit(m: &mut Memory, answer: VisitAnswer) -> &mut Memory {
-    match answer {
-        VisitAnswer::Forwarded(words, replies) => {
-            note(
-                put(m, OUTGOING, narrow(words % 8192)),
-                0,
-                narrow(replies % 64),
-            )
-        }
-        VisitAnswer::Refused(question) => note_question(put(m, OUTGOING, 0), question),
+// The classifier.
+pub(crate) fn classify(plan: &[u32], operation: &Operation) -> Result<Class, Question> {
+    match conveyor::classify(plan, operation.transaction, operation.parameters()) {
+        ClassAnswer::Free => Ok(Class::Free),
+        ClassAnswer::Local(desk) => Ok(Class::Local(desk)),
+        ClassAnswer::Global(desk, cause) => Ok(Class::Global(desk, cause)),
+        ClassAnswer::Refused(question) => Err(Question(question)),
     }
 }
 
-// A visit at the desk at hand by the words of the line. It leaves the row as it is.
-pub fn visit(m: &mut Memory) -> &mut Memory {
-    let mut cells = [0u32; 1040];
-    let mut bulletin = [0u32; 1040];
-    let mut out = [0u32; 6420];
-    let mut replies = [0u32; REPLIES_SIZE];
-    let result = pass(m, &mut cells, &mut bulletin, &mut out, &mut replies);
-    let given = result.answer;
-    let m = store(store(m, AFTER, &cells), BULLETIN_AFTER, &bulletin);
-    let m = store(m, OUTGOING_WORDS, &out);
-    let m = copy(
-        store(m, REPLIES, &replies),
-        RECORDS_BEFORE,
-        RECORDS_AFTER,
-        198,
+// The state of a new desk.
+pub(crate) fn new_desk(plan: &[u32], desk: u32) -> Result<Desk, Question> {
+    match conveyor::new_desk(plan, desk) {
+        DeskAnswer::Opened(state) => Ok(state),
+        DeskAnswer::Refused(question) => Err(Question(question)),
+    }
+}
+
+// The starting frame.
+pub(crate) fn starting_frame(out: &mut [u32]) -> Result<Written, Question> {
+    accepted(conveyor::starting_frame(out))?;
+    Ok(Written {
+        sent: LEAST_FRAME,
+        replies: 0,
+    })
+}
+
+// The first items, as many as are lent, or all where there are fewer.
+fn lend<T>(items: &mut [T], lent: usize) -> &mut [T] {
+    let count = lent.min(items.len());
+    &mut items[..count]
+}
+
+// A reply to a request.
+fn replied(reply: conveyor::Reply) -> Reply {
+    Reply {
+        case: if reply.done {
+            Case::Done
+        } else {
+            Case::Declined
+        },
+        number: reply.number,
+        told: [reply.told0, reply.told1, reply.told2, reply.told3],
+    }
+}
+
+// A request at a desk.
+pub(crate) fn request(
+    plan: &[u32],
+    desk: &mut Holding,
+    lent: Lent,
+    asked: ClientOperation,
+) -> Result<Response, Question> {
+    let result = conveyor::request(
+        plan,
+        desk.state,
+        lend(&mut desk.book, lent.book),
+        lend(&mut desk.row, lent.row),
+        asked.client,
+        asked.operation.transaction,
+        asked.operation.parameters(),
     );
-    note_visit(desks::put_state(m, result.state), given)
-}
-
-// The chooser itself on a copy of the plan.
-fn ask_chooser(m: &Memory, plan: &mut [u32]) -> Choice {
-    conveyor::choose(load(m, PLAN_WORDS, PLAN, plan))
-}
-
-// The chooser on the plan at hand. What it leaves of the plan goes to the outgoing words.
-pub fn choose(m: &mut Memory) -> &mut Memory {
-    let mut plan = [0u32; 6420];
-    let choice = ask_chooser(m, &mut plan);
-    let m = store(m, OUTGOING_WORDS, &plan);
-    match choice {
-        Choice::Chosen(cost) => note(m, texts::CHOSEN, cost),
-        Choice::Refused(question) => note_question(m, question),
+    desk.state = result.state;
+    match result.answer {
+        RequestAnswer::Replied(reply) => Ok(Response::Replied(replied(reply))),
+        RequestAnswer::Waits => Ok(Response::Waits),
+        RequestAnswer::Elsewhere(desk) => Ok(Response::Elsewhere(desk)),
+        RequestAnswer::Refused(question) => Err(Question(question)),
     }
 }
 
-// The starting frame in a marked buffer of the size that is set: 0, or the question.
-fn begin_frame(m: &Memory, out: &mut [u32]) -> u32 {
-    match conveyor::starting_frame(load(m, MARKS, LENT_OUTGOING, out)) {
-        Verdict::Accepted => 0,
-        Verdict::Refused(question) => question,
+// A visit at a desk by the words of a frame.
+pub(crate) fn visit(
+    plan: &[u32],
+    desk: &mut Holding,
+    lent: Lent,
+    frame: &[u32],
+    buffers: &mut Buffers,
+) -> Result<Written, Question> {
+    let result = conveyor::visit(
+        plan,
+        desk.state,
+        lend(&mut desk.book, lent.book),
+        lend(&mut desk.bulletin, lent.bulletin),
+        lend(&mut desk.row, lent.row),
+        frame,
+        &mut buffers.out,
+        &mut buffers.replies,
+    );
+    desk.state = result.state;
+    match result.answer {
+        VisitAnswer::Forwarded(sent, replies) => Ok(Written { sent, replies }),
+        VisitAnswer::Refused(question) => Err(Question(question)),
     }
 }
 
-// The starting frame. No replies are written.
-pub fn start(m: &mut Memory) -> &mut Memory {
-    let mut out = [0u32; 6420];
-    let question = begin_frame(m, &mut out);
-    let m = copy(store(m, OUTGOING_WORDS, &out), MARKS, REPLIES, REPLIES_SIZE);
-    note_question(
-        put(m, OUTGOING, if question == 0 { 4 } else { 0 }),
-        question,
-    )
-}
-
-// The words that the frame reader gives back for the words of the line, and how many.
-fn read_into(m: &Memory, into: &mut [u32]) -> usize {
-    let words = conveyor::read_frame(counted(m, PLAN, PLAN_WORDS), counted(m, HAND, HAND_WORDS));
-    for i in 0..into.len() {
-        into[i] = if i < words.len() { words[i] } else { 0 };
+// The frame reader: the number of the visit.
+pub(crate) fn frame_visit(plan: &[u32], frame: &[u32]) -> Result<u32, Question> {
+    match conveyor::frame_visit(plan, frame) {
+        FrameAnswer::Visit(visit) => Ok(visit),
+        FrameAnswer::Refused(question) => Err(Question(question)),
     }
-    words.len()
 }
 
-// The frame reader's first call on the words of the line: what it gives back goes to the outgoing words.
-pub fn read_frame(m: &mut Memory) -> &mut Memory {
-    let mut out = [0u32; 6420];
-    let words = read_into(m, &mut out);
-    put(store(m, OUTGOING_WORDS, &out), OUTGOING, narrow(words))
+// The frame reader: the part of the frame that holds the updates.
+pub(crate) fn read_frame<'a>(plan: &[u32], frame: &'a [u32]) -> &'a [u32] {
+    conveyor::read_frame(plan, frame)
 }

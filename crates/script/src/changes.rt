@@ -1,67 +1,100 @@
-// What a call changed of all that it was lent. The desk at hand still holds what was there before the call; what the call left of it
-// stands apart, and the lent buffers behind the frames.
-use crate::layout::{
-    AFTER, BEFORE, BULLETIN_AFTER, BULLETIN_BEFORE, CELL_COUNT, CHANGED, CHANGED_CELLS, DESK_SIZE,
-    MADE_AFTER, MADE_BEFORE, MARKS, MOST_WORDS, OTHER_WORDS, OUTGOING, OUTGOING_WORDS, QUESTION,
-    RECORDS_AFTER, RECORDS_BEFORE, REPLIES, REPLIES_SIZE, REPLY_SIZE, VALUE,
-};
-use crate::memory::{Memory, differences, get, put, size};
-use crate::output::{say, say_changes};
-use crate::{memory, sums, texts};
+// What a call changed of a desk, and behind the words that it wrote.
+use crate::holding::{Holding, Record, State, is_same_record, is_same_state};
+use crate::words;
+use crate::words::Others;
+use conveyor::Request;
+use std::fmt;
 
-// The cells that changed of the book or of the bulletin, each by one text, or by the other how many they are and the sums over all.
-fn say_cells(m: &mut Memory, before: usize, after: usize, one: u32, many: u32) -> &mut Memory {
-    let changed = differences(m, before, after, 0, CELL_COUNT);
-    if changed <= 24 {
-        return say_changes(m, one, after, before, 1, CELL_COUNT);
-    }
-    say(
-        sums::take(put(m, CHANGED_CELLS, changed), after, CELL_COUNT),
-        many,
-    )
+// As many changed cells as are named.
+const MOST_NAMED: usize = 24;
+
+// The desk of a number before the call and after it, and how many other words changed in the buffers.
+#[derive(Clone, Copy)]
+pub(crate) struct Changes<'a> {
+    pub number: u32,
+    pub before: &'a Holding,
+    pub after: &'a Holding,
+    pub others: usize,
 }
 
-// Notes how many words changed behind the outgoing ones and the replies.
-pub fn note_behind(m: &mut Memory) -> &mut Memory {
-    let words = differences(m, OUTGOING_WORDS, MARKS, size(m, OUTGOING), MOST_WORDS);
-    let replies = size(m, VALUE) % 64 * REPLY_SIZE;
-    let reply_words = differences(m, REPLIES, MARKS, replies, REPLIES_SIZE);
-    memory::add(put(m, OTHER_WORDS, words), OTHER_WORDS, reply_words)
+impl Changes<'_> {
+    // Whether nothing changed.
+    pub(crate) fn is_empty(&self) -> bool {
+        let (before, after) = (self.before, self.after);
+        let mut records = before.row.iter().zip(after.row.iter());
+        self.others == 0
+            && before.book.as_slice() == after.book.as_slice()
+            && before.bulletin.as_slice() == after.bulletin.as_slice()
+            && records.all(|(before, after)| is_same_record(before, after))
+            && is_same_state(before.state, after.state)
+    }
 }
 
-// Whether the call was refused and changed nothing, as it must be.
-fn is_idle(m: &Memory) -> bool {
-    if get(m, QUESTION) == 0 {
-        return false;
-    }
-    std::num::wrapping_add_u32(
-        differences(m, BEFORE, AFTER, 0, DESK_SIZE),
-        get(m, OTHER_WORDS),
-    ) == 0
+// The cells that changed of a book or of a bulletin; of many their number, and the two sums of all cells.
+#[derive(Clone, Copy)]
+struct ChangedCells<'a> {
+    name: &'a str,
+    before: &'a [u32],
+    after: &'a [u32],
 }
 
-// What changed, after the answer to a request or a visit: at the desk, and behind the words that it wrote. The desk then holds it.
-pub fn say_all(m: &mut Memory) -> &mut Memory {
-    if is_idle(m) {
-        return m;
+impl fmt::Display for ChangedCells<'_> {
+    fn fmt<W: fmt::Write>(&self, f: &mut fmt::Formatter<W>) -> fmt::Result {
+        let name = self.name;
+        let changed = words::count_changed(self.before, self.after);
+        if MOST_NAMED < changed {
+            let (first, second) = words::sums(self.after);
+            return write!(
+                f,
+                "; {changed} {name}s changed, sums {first:08X} {second:08X}"
+            );
+        }
+        let pairs = self.before.iter().zip(self.after).enumerate();
+        for (i, (_, after)) in pairs.filter(|(_, (before, after))| before != after) {
+            write!(f, "; {name} {i} is now {after}")?;
+        }
+        Ok(())
     }
-    let m = say(memory::count_above(m, CHANGED, QUESTION, 0), texts::CHANGED);
-    let m = say_cells(m, BEFORE, AFTER, texts::CHANGED_CELL, texts::CHANGED_CELLS);
-    let m = say_cells(
-        m,
-        BULLETIN_BEFORE,
-        BULLETIN_AFTER,
-        texts::CHANGED_BULLETIN,
-        texts::CHANGED_BULLETINS,
-    );
-    let m = say_changes(
-        m,
-        texts::CHANGED_RECORD,
-        RECORDS_AFTER,
-        RECORDS_BEFORE,
-        6,
-        33,
-    );
-    let m = say_changes(m, texts::CHANGED_STATE, MADE_AFTER, MADE_BEFORE, 5, 1);
-    memory::copy(say(m, texts::OTHER_WORDS), AFTER, BEFORE, DESK_SIZE)
+}
+
+// The records that changed of a row.
+#[derive(Clone, Copy)]
+struct ChangedRecords<'a> {
+    before: &'a [Request],
+    after: &'a [Request],
+}
+
+impl fmt::Display for ChangedRecords<'_> {
+    fn fmt<W: fmt::Write>(&self, f: &mut fmt::Formatter<W>) -> fmt::Result {
+        let pairs = self.before.iter().zip(self.after).enumerate();
+        for (i, (_, after)) in pairs.filter(|(_, (before, after))| !is_same_record(before, after)) {
+            write!(f, "; record {i} is now {}", Record(after))?;
+        }
+        Ok(())
+    }
+}
+
+impl fmt::Display for Changes<'_> {
+    fn fmt<W: fmt::Write>(&self, f: &mut fmt::Formatter<W>) -> fmt::Result {
+        let (before, after) = (self.before, self.after);
+        let book = ChangedCells {
+            name: "cell",
+            before: &before.book,
+            after: &after.book,
+        };
+        let bulletin = ChangedCells {
+            name: "bulletin cell",
+            before: &before.bulletin,
+            after: &after.bulletin,
+        };
+        let row = ChangedRecords {
+            before: &before.row,
+            after: &after.row,
+        };
+        write!(f, "{book}{bulletin}{row}")?;
+        if !is_same_state(before.state, after.state) {
+            write!(f, "; {}", State(self.number, after.state))?;
+        }
+        write!(f, "{}", Others(self.others))
+    }
 }

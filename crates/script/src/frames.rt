@@ -1,72 +1,113 @@
-// Frames that were sent; the starting frame, and the frame reader.
-use crate::layout::{
-    CHANGED, FRAMES_KEPT, HAND, HAND_WORDS, OTHER_WORDS, OUTGOING, PLAN, PLAN_WORDS, QUESTION,
-    SENT, SENT_FRAME, WORDS, frame_place,
-};
-use crate::memory::{ITEM, Memory, copy, count_above, counted, get, on, size};
-use crate::output::say;
-use crate::{answers, calls, changes, memory, scanner, texts, words};
-use conveyor::FrameAnswer;
+// The frames that were sent, of which the latest are kept.
+use crate::groups::Groups;
+use crate::words::{Count, Words};
+use std::alloc::{AllocError, Global};
+use std::collections::VecDeque;
+use std::fmt;
+use word::fields;
 
-// Keeps the outgoing words as the next frame, which is then said by a text.
-pub fn send(m: &mut Memory, text: u32) -> &mut Memory {
-    let place = frame_place(m, SENT);
-    let m = memory::copy_counted(m, OUTGOING, place);
-    let m = memory::add(copy(m, SENT, SENT_FRAME, 1), SENT, 1);
-    words::say_outgoing(say(m, text))
+// How many are kept.
+const MOST_KEPT: usize = 64;
+
+// How many frames were sent, and the latest, the last one at the back.
+#[derive(Drop)]
+pub(crate) struct Frames {
+    sent: u32,
+    kept: VecDeque<Vec<u32>>,
 }
 
-// `start`. A refusal must change nothing.
-pub fn start(m: &mut Memory) -> &mut Memory {
-    let m = say(changes::note_behind(calls::start(m)), texts::START);
-    let m = answers::say_answer(m);
-    if get(m, QUESTION) == 0 {
-        say(send(m, texts::START_SENDS), texts::OTHER_WORDS)
-    } else {
-        say(
-            count_above(m, CHANGED, OTHER_WORDS, 0),
-            texts::CHANGED_START,
-        )
+impl Frames {
+    pub(crate) fn new(alloc: Global) -> Frames {
+        Frames {
+            sent: 0,
+            kept: VecDeque::new(alloc),
+        }
+    }
+
+    // The number of the latest frame, if one was sent.
+    pub(crate) fn latest(&self) -> Option<u32> {
+        self.sent.checked_sub(1)
+    }
+
+    // The words of a frame, if it is kept.
+    pub(crate) fn get(&self, number: u32) -> Option<&[u32]> {
+        let later = self.latest()?.checked_sub(number)?;
+        let frame = self.kept.iter().rev().nth(later as usize)?;
+        Some(frame.as_slice())
+    }
+
+    // Keeps the words of a frame that is sent.
+    pub(crate) fn send<'a>(
+        &mut self,
+        alloc: Global,
+        words: &'a [u32],
+    ) -> Result<SentFrame<'a>, AllocError> {
+        let frame = Vec::from_slice(alloc, words)?;
+        if MOST_KEPT <= self.kept.len() {
+            let _ = self.kept.pop_front();
+        }
+        self.kept.push_back(frame)?;
+        let number = self.sent;
+        self.sent = number.wrapping_add(1);
+        Ok(SentFrame { number, words })
+    }
+
+    // The desk that the latest frame is addressed to, desk 0 where none was sent.
+    pub(crate) fn addressed(&self) -> u32 {
+        let latest = self.latest().and_then(|number| self.get(number));
+        let head = latest.and_then(|frame| frame.first()).copied();
+        head.unwrap_or(0) / fields::ADDRESSED % 8
     }
 }
 
-// The frame reader's second call on the words of the line.
-fn note_visit(m: &mut Memory) -> &mut Memory {
-    match conveyor::frame_visit(counted(m, PLAN, PLAN_WORDS), counted(m, HAND, HAND_WORDS)) {
-        FrameAnswer::Visit(visit) => answers::note(m, texts::PART, visit),
-        FrameAnswer::Refused(question) => answers::note_question(m, question),
+// A frame as an answer says that it is sent.
+#[derive(Clone, Copy)]
+pub(crate) struct SentFrame<'a> {
+    number: u32,
+    words: &'a [u32],
+}
+
+impl fmt::Display for SentFrame<'_> {
+    fn fmt<W: fmt::Write>(&self, f: &mut fmt::Formatter<W>) -> fmt::Result {
+        write!(f, "sends frame {} of {}", self.number, Words(self.words))
     }
 }
 
-// `read`: both calls of the frame reader. The part of a frame that is refused must be empty.
-pub fn read(m: &mut Memory) -> &mut Memory {
-    let m = note_visit(calls::read_frame(say(m, texts::READ)));
-    let m = answers::say_answer(copy(m, OUTGOING, WORDS, 1));
-    if get(m, QUESTION) == 0 {
-        say(words::say_outgoing(m), texts::LINE_END)
-    } else {
-        say(count_above(m, CHANGED, WORDS, 0), texts::CHANGED_PART)
+// A frame as it is shown: its number and its words.
+#[derive(Clone, Copy)]
+pub(crate) struct ShownFrame<'a>(pub u32, pub &'a [u32]);
+
+impl fmt::Display for ShownFrame<'_> {
+    fn fmt<W: fmt::Write>(&self, f: &mut fmt::Formatter<W>) -> fmt::Result {
+        let [head, visit, updates @ .., _, _] = self.1 else {
+            return Ok(());
+        };
+        let words = Count(self.1.len(), "word");
+        let desk = head / fields::ADDRESSED % 16;
+        writeln!(f, "frame {}: {words}, visit {visit} to desk {desk}", self.0)?;
+        for group in Groups::updates(updates) {
+            let desk = group.head / fields::UPDATE_DESK % 16;
+            writeln!(f, "  update of desk {desk}:{}", Cells(group.parts))?;
+        }
+        Ok(())
     }
 }
 
-// The next word is the number of a frame that is kept, which goes to a place: one that was sent, with less than 64 after it.
-pub fn read_kept(m: &mut Memory, place: usize) -> &mut Memory {
-    let m = scanner::number_to(m, place, scanner::WORD);
-    let later = std::num::wrapping_sub_usize(size(m, SENT), on(size(m, place), 1));
-    scanner::demand(m, later < FRAMES_KEPT, texts::NOT_KEPT)
-}
+// The cells of an update, each a word with its number and one with its value.
+#[derive(Clone, Copy)]
+struct Cells<'a>(&'a [u32]);
 
-// `show frame 3`. Its updates stand between two words in front and two sums.
-pub fn show(m: &mut Memory) -> &mut Memory {
-    let place = frame_place(m, SENT_FRAME);
-    let end = std::num::wrapping_sub_usize(on(place, size(m, place)), 1);
-    let m = say(copy(m, place, ITEM, 3), texts::SHOWN_FRAME);
-    words::say_groups(
-        m,
-        on(place, 3),
-        end,
-        texts::SHOWN_UPDATE,
-        texts::UPDATED_CELL,
-        2,
-    )
+impl fmt::Display for Cells<'_> {
+    fn fmt<W: fmt::Write>(&self, f: &mut fmt::Formatter<W>) -> fmt::Result {
+        if self.0.is_empty() {
+            return f.write_str(" no cells");
+        }
+        for (i, pair) in self.0.chunks(2).enumerate() {
+            let before = if i == 0 { "" } else { "," };
+            if let [cell, value] = pair {
+                write!(f, "{before} cell {} is {value}", cell % 0x400)?;
+            }
+        }
+        Ok(())
+    }
 }

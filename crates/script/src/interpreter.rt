@@ -1,251 +1,299 @@
-// The run of a script: the commands by their names, what is said of a bad line, and the counts at the end. A line is read whole before
-// anything is done, so that a bad one changes nothing.
-use crate::answers::say_answer;
-use crate::layout::{
-    BEFORE, BULLETIN_BEFORE, CELL_COUNT, DESK, DESKS, DESKS_REST, DONE, FROM, HAND, LENT,
-    LENT_COUNT, LENT_NEXT, MADE_BEFORE, PLAN, QUESTION_NUMBERS, REFUSED, REQUESTED, SENT,
-    SENT_FRAME, SHOWN, TO, draw, install_marks, keep_desk, take_desk,
-};
-use crate::memory::{
-    BAD_LINES, BEFORE_LINE, FAULT, ITEM, LINE, LINE_JOINED, LINE_LAST, LINE_LENGTH, LINE_NUMBER,
-    LINE_SIZE, LINES, Memory, WORD_END, get, on, put, size,
-};
-use crate::output::{say, say_each};
-use crate::scanner::number_to;
-use crate::{
-    desks, events, forms, frames, loans, memory, operations, output, plans, scanner, texts,
-};
+// What the commands do, and what is said of it.
+use crate::answers::{NOTHING, Replies};
+use crate::buffers::Buffers;
+use crate::calls;
+use crate::changes::Changes;
+use crate::command::{Command, Shown};
+use crate::counts::Counts;
+use crate::frames::ShownFrame;
+use crate::gathered::Frame;
+use crate::held::Held;
+use crate::holding::{Holding, Setting, ShownDesk, State};
+use crate::operations::{ClientOperation, Operation};
+use crate::plans::{Filling, PlanLine, ShownPlan};
+use crate::words::{Count, Others, Words};
+use conveyor::Desk;
+use std::alloc::{AllocError, Global};
 use std::io;
-use std::io::{Read, Stdin, Stdout};
+use std::io::Write;
 
-// The names of the commands, the bytes of each as one number.
-const PLAN_NAME: u64 = 0x706c_616e;
-
-const CHOOSE: u64 = 0x6368_6f6f_7365;
-
-const CLASS: u64 = 0x63_6c61_7373;
-
-const DESK_NAME: u64 = 0x6465_736b;
-
-const START: u64 = 0x73_7461_7274;
-
-const REQUEST: u64 = 0x72_6571_7565_7374;
-
-const VISIT: u64 = 0x76_6973_6974;
-
-const PASS: u64 = 0x7061_7373;
-
-const READ: u64 = 0x7265_6164;
-
-const STATE_NAME: u64 = 0x73_7461_7465;
-
-const CELL: u64 = 0x6365_6c6c;
-
-const CELLS: u64 = 0x63_656c_6c73;
-
-const BULLETIN: u64 = 0x6275_6c6c_6574_696e;
-
-const RECORDS: u64 = 0x72_6563_6f72_6473;
-
-const LEND: u64 = 0x6c65_6e64;
-
-const RESET: u64 = 0x72_6573_6574;
-
-const SAY: u64 = 0x73_6179;
-
-const SHOW: u64 = 0x7368_6f77;
-
-const FRAME: u64 = 0x66_7261_6d65;
-
-// Everything as at the beginning, but for the counts: no desk is made, nor the one at hand.
-fn reset(m: &mut Memory) -> &mut Memory {
-    let m = memory::fill(m, DESKS, DESKS_REST, 0);
-    let m = loans::put_all(put(put(m, PLAN, 0), SENT, 0));
-    memory::copy(m, LENT_NEXT, LENT, LENT_COUNT)
+// What is held, and what is counted.
+#[derive(Drop)]
+pub(crate) struct Interpreter {
+    pub held: Held,
+    pub counts: Counts,
 }
 
-// Says the rest of the line behind one more byte.
-fn say_rest(m: &mut Memory) -> &mut Memory {
-    for i in on(size(m, WORD_END), 1)..size(m, LINE_LENGTH) {
-        output::byte(m, (scanner::byte_at(m, i) % 256) as u8);
+// Says what a call changed that was refused, if it changed anything.
+fn write_changed<W: Write>(counts: &mut Counts, changes: Changes, out: &mut W) -> io::Result<()> {
+    if changes.is_empty() {
+        return Ok(());
     }
-    m
+    counts.add_change();
+    writeln!(out, "CHANGED{changes}")
 }
 
-// The rest of `show plan`, `show desk 0` and `show frame 3`.
-fn read_show(m: &mut Memory) -> &mut Memory {
-    let m = scanner::next_word(m);
-    match scanner::name(m) {
-        PLAN_NAME => put(m, SHOWN, 0),
-        DESK_NAME => put(desks::read_made(m), SHOWN, 1),
-        FRAME => put(frames::read_kept(m, SENT_FRAME), SHOWN, 2),
-        _ => scanner::fault(m, texts::NOTHING_TO_SHOW),
+impl Interpreter {
+    pub(crate) fn new(alloc: Global) -> Result<Interpreter, AllocError> {
+        Ok(Interpreter {
+            held: Held::new(alloc)?,
+            counts: Counts::new(),
+        })
     }
-}
 
-// The rest of a command behind its name. Nothing is left of the line behind `say`.
-fn read_rest(m: &mut Memory, name: u64) -> &mut Memory {
-    match name {
-        PLAN_NAME => forms::read(put(m, HAND, 0)),
-        CLASS => operations::read(m),
-        DESK_NAME => take_desk(number_to(m, DESK, scanner::WORD)),
-        REQUEST => operations::read_of_client(desks::read_made(m)),
-        VISIT => forms::read(forms::take_latest(desks::read_made(m))),
-        PASS => events::read_pass(m),
-        READ => forms::read(forms::take_latest(m)),
-        STATE_NAME => desks::read_state(m),
-        CELL => number_to(
-            number_to(desks::read_made(m), FROM, 1039),
-            TO,
-            scanner::WORD,
-        ),
-        CELLS => desks::read_drawn(desks::read_made(m)),
-        BULLETIN => desks::read_made(m),
-        RECORDS => operations::read_of_client(number_to(
-            number_to(desks::read_made(m), FROM, 33),
-            TO,
-            33,
-        )),
-        LEND => loans::read_sizes(loans::put_all(m)),
-        SHOW => read_show(m),
-        SAY => say(
-            memory::copy(say_rest(m), LINE_LENGTH, WORD_END, 1),
-            texts::LINE_END,
-        ),
-        START | RESET | CHOOSE => m,
-        _ => scanner::fault(m, scanner::NO_COMMAND),
-    }
-}
-
-// Does what was read.
-fn perform(m: &mut Memory, name: u64) -> &mut Memory {
-    match name {
-        PLAN_NAME => say_answer(plans::read(memory::copy_counted(m, HAND, PLAN))),
-        CHOOSE => plans::choose(m),
-        CLASS => say_answer(plans::class(m)),
-        DESK_NAME => say_answer(desks::new_desk(m)),
-        START => frames::start(m),
-        REQUEST => events::request(m),
-        VISIT => events::visit(m),
-        PASS => events::pass(m),
-        READ => frames::read(m),
-        STATE_NAME => memory::copy(m, ITEM, MADE_BEFORE, 5),
-        CELL => desks::set_cell(m),
-        CELLS => draw(m, BEFORE, CELL_COUNT),
-        BULLETIN => memory::copy(m, BEFORE, BULLETIN_BEFORE, CELL_COUNT),
-        RECORDS => desks::set_records(m),
-        LEND => memory::copy(m, LENT_NEXT, LENT, LENT_COUNT),
-        RESET => reset(m),
-        SHOW => match get(m, SHOWN) {
-            0 => plans::show(m),
-            1 => desks::show(m),
-            _ => frames::show(m),
-        },
-        _ => m,
-    }
-}
-
-// Runs the words of the line, of which there are some: reads all of them, and does what they say if they are good, or says what is wrong.
-fn run_words(m: &mut Memory) -> &mut Memory {
-    let m = scanner::next_word(m);
-    let name = scanner::name(m);
-    let m = scanner::close(read_rest(m, name));
-    let fault = get(m, FAULT);
-    if fault == 0 {
-        keep_desk(perform(m, name))
-    } else {
-        say(say(memory::add(m, BAD_LINES, 1), texts::BAD_LINE), fault)
-    }
-}
-
-// Runs a line that is whole.
-fn run_whole(m: &mut Memory) -> &mut Memory {
-    if LINE_SIZE < size(m, LINE_LENGTH) {
-        return say(memory::add(m, BAD_LINES, 1), texts::LONG_LINE);
-    }
-    if scanner::has_more(m) {
-        run_words(m)
-    } else {
-        m
-    }
-}
-
-// An empty line, whose number is the next one.
-fn begin_line(m: &mut Memory) -> &mut Memory {
-    let m = memory::fill(m, LINE_LENGTH, 5, 0);
-    memory::add(memory::copy(m, LINES, LINE_NUMBER, 1), LINE_NUMBER, 1)
-}
-
-// Ends a line. Where its last byte is `\`, a space takes its place and the line goes on, else it is run; of an empty one the 0 in front of
-// the line is looked at.
-fn end_line(m: &mut Memory) -> &mut Memory {
-    let m = memory::add(m, LINES, 1);
-    let last = on(BEFORE_LINE, size(m, LINE_LENGTH));
-    if get(m, last) == 92 {
-        memory::copy(put(m, last, 32), LINE_LENGTH, LINE_JOINED, 1)
-    } else {
-        begin_line(run_whole(m))
-    }
-}
-
-// Takes a byte of the script; in a line that is too long it takes the place of the last one.
-fn take(m: &mut Memory, byte: u8) -> &mut Memory {
-    let length = size(m, LINE_LENGTH);
-    if byte == b'\n' {
-        end_line(m)
-    } else if LINE_SIZE < length {
-        put(m, LINE_LAST, byte as u32)
-    } else {
-        memory::add(put(m, on(LINE, length), byte as u32), LINE_LENGTH, 1)
-    }
-}
-
-// Takes the bytes of a block.
-fn take_block<'a>(m: &'a mut Memory, block: &[u8]) -> &'a mut Memory {
-    for i in 0..block.len() {
-        take(m, block[i]);
-    }
-    m
-}
-
-// Runs a last line that no line feed ends, and says the counts.
-fn finish(m: &mut Memory) -> &mut Memory {
-    let joined = get(m, LINE_JOINED);
-    let m = run_whole(memory::count_above(m, LINES, LINE_LENGTH, joined));
-    let m = say(memory::copy(m, REQUESTED, DONE, 4), texts::COUNTS);
-    say(
-        say_each(
-            m,
-            texts::REFUSED_COUNT,
-            REFUSED,
-            1,
-            QUESTION_NUMBERS as usize,
-        ),
-        texts::ANSWER_COUNTS,
-    )
-}
-
-// Reads the next bytes of the script, runs the lines that they end and writes what is said to them; whether there were any.
-fn run_block(m: &mut Memory, stdin: &mut Stdin) -> io::Result<bool> {
-    let mut block = [0u8; 65536];
-    let length = stdin.read(&mut block)?;
-    let m = output::flush(take_block(m, &block[..length]));
-    m.written?;
-    Ok(0 < length)
-}
-
-// Reads a script from standard input, and writes what is said to it to standard output. It ends where a read or a write fails.
-pub fn run(mut stdin: Stdin, stdout: Stdout) -> io::Result<()> {
-    let mut m = Memory {
-        words: [0; 548864],
-        stdout,
-        written: Ok(()),
-    };
-    begin_line(reset(install_marks(texts::install(&mut m))));
-    for _turn in 0..0xffff_ffff_ffffusize {
-        if !run_block(&mut m, &mut stdin)? {
-            break;
+    // Does what a line says.
+    pub(crate) fn perform<W: Write>(&mut self, command: Command, out: &mut W) -> io::Result<()> {
+        match command {
+            Command::Plan(plan) => self.take_plan(plan, out),
+            Command::Choose => self.choose(out),
+            Command::Class(operation) => self.class(operation, out),
+            Command::Desk(number) => self.new_desk(number, out),
+            Command::Start => self.start(out),
+            Command::Request(desk, asked) => self.request(desk, asked, out),
+            Command::Visit(desk, frame) => self.visit(desk, &frame, out),
+            Command::Pass(visits) => self.pass(visits, out),
+            Command::Read(frame) => self.read(&frame, out),
+            Command::Show(shown) => self.show(shown, out),
+            Command::State(number, state) => Ok(self.set_state(number, state)?),
+            Command::Set(number, setting) => Ok(self.set(number, setting)?),
+            Command::Lend(lent) => {
+                self.held.lent = lent;
+                Ok(())
+            }
+            Command::Reset => {
+                self.held = Held::new(self.held.alloc)?;
+                Ok(())
+            }
+            Command::Say(text) => {
+                out.write_all(text)?;
+                out.write_all(b"\n")
+            }
         }
     }
-    output::flush(finish(&mut m)).written
+
+    // The state of a desk, which is made if it was not.
+    fn set_state(&mut self, number: u32, state: Desk) -> Result<(), AllocError> {
+        if let Some(desk) = self.held.desks.get_mut(number) {
+            desk.state = state;
+            return Ok(());
+        }
+        let desk = Holding::new(self.held.alloc, state)?;
+        self.held.desks.put(number, desk);
+        Ok(())
+    }
+
+    fn set(&mut self, number: u32, setting: Setting) -> Result<(), AllocError> {
+        match self.held.desks.get_mut(number) {
+            Some(desk) => desk.set(setting),
+            None => Ok(()),
+        }
+    }
+
+    fn take_plan<W: Write>(&mut self, plan: Frame, out: &mut W) -> io::Result<()> {
+        self.held.plan = plan.words;
+        let plan = &self.held.plan;
+        let verdict = calls::read_plan(plan);
+        self.counts.add_call(&verdict);
+        writeln!(out, "{}", PlanLine { plan, verdict })
+    }
+
+    // What the chooser fills in stays in the plan.
+    fn choose<W: Write>(&mut self, out: &mut W) -> io::Result<()> {
+        let mut after = self.held.plan.clone()?;
+        let choice = calls::choose(&mut after);
+        self.counts.add_call(&choice);
+        let filling = Filling {
+            before: &self.held.plan,
+            after: &after,
+        };
+        match choice {
+            Ok(cost) => writeln!(out, "choose: cost {cost}{filling}")?,
+            Err(question) => {
+                writeln!(out, "choose: {question}")?;
+                let changed = filling.changed_words();
+                if changed != 0 {
+                    self.counts.add_change();
+                    writeln!(out, "CHANGED: {} changed", Count(changed, "other word"))?;
+                }
+            }
+        }
+        self.held.plan = after;
+        Ok(())
+    }
+
+    fn class<W: Write>(&mut self, operation: Operation, out: &mut W) -> io::Result<()> {
+        let class = calls::classify(&self.held.plan, &operation);
+        self.counts.add_call(&class);
+        match class {
+            Ok(class) => writeln!(out, "{operation}: {class}"),
+            Err(question) => writeln!(out, "{operation}: {question}"),
+        }
+    }
+
+    fn new_desk<W: Write>(&mut self, number: u32, out: &mut W) -> io::Result<()> {
+        let opened = calls::new_desk(&self.held.plan, number);
+        self.counts.add_call(&opened);
+        match opened {
+            Ok(state) => {
+                let desk = Holding::new(self.held.alloc, state)?;
+                self.held.desks.put(number, desk);
+                writeln!(out, "desk {number}: {}", State(number, state))
+            }
+            Err(question) => writeln!(out, "desk {number}: {question}"),
+        }
+    }
+
+    fn start<W: Write>(&mut self, out: &mut W) -> io::Result<()> {
+        let alloc = self.held.alloc;
+        let mut buffers = Buffers::new(alloc, self.held.lent)?;
+        let started = calls::starting_frame(&mut buffers.out);
+        self.counts.add_call(&started);
+        let others = buffers.others(started.unwrap_or(NOTHING));
+        match started {
+            Ok(written) => {
+                let sent = self.held.frames.send(alloc, buffers.sent(written))?;
+                writeln!(out, "start: {sent}{}", Others(others))
+            }
+            Err(question) => {
+                writeln!(out, "start: {question}")?;
+                if others != 0 {
+                    self.counts.add_change();
+                    writeln!(out, "CHANGED{}", Others(others))?;
+                }
+                Ok(())
+            }
+        }
+    }
+
+    fn request<W: Write>(
+        &mut self,
+        number: u32,
+        asked: ClientOperation,
+        out: &mut W,
+    ) -> io::Result<()> {
+        let Held {
+            plan,
+            desks,
+            lent,
+            ..
+        } = &mut self.held;
+        let Some(desk) = desks.get_mut(number) else {
+            return Ok(());
+        };
+        let mut after = desk.clone()?;
+        let response = calls::request(plan, &mut after, *lent, asked);
+        self.counts.add_call(&response);
+        let changes = Changes {
+            number,
+            before: &*desk,
+            after: &after,
+            others: 0,
+        };
+        match response {
+            Ok(response) => {
+                self.counts.add_request(response);
+                writeln!(out, "desk {number}: {asked}: {response}{changes}")?;
+            }
+            Err(question) => {
+                writeln!(out, "desk {number}: {asked}: {question}")?;
+                write_changed(&mut self.counts, changes, out)?;
+            }
+        }
+        *desk = after;
+        Ok(())
+    }
+
+    fn visit<W: Write>(&mut self, number: u32, frame: &Frame, out: &mut W) -> io::Result<()> {
+        let Held {
+            alloc,
+            plan,
+            desks,
+            frames,
+            lent,
+        } = &mut self.held;
+        let Some(desk) = desks.get_mut(number) else {
+            return Ok(());
+        };
+        let mut after = desk.clone()?;
+        let mut buffers = Buffers::new(*alloc, *lent)?;
+        let visited = calls::visit(plan, &mut after, *lent, &frame.words, &mut buffers);
+        self.counts.add_call(&visited);
+        let changes = Changes {
+            number,
+            before: &*desk,
+            after: &after,
+            others: buffers.others(visited.unwrap_or(NOTHING)),
+        };
+        match visited {
+            Ok(written) => {
+                self.counts.add_visit(frame, written);
+                let replies = Replies(buffers.replies(written));
+                let sent = frames.send(*alloc, buffers.sent(written))?;
+                write!(
+                    out,
+                    "desk {number}: visit {} by {}",
+                    frame.visit(),
+                    frame.name
+                )?;
+                writeln!(out, ": {replies}; {sent}{changes}")?;
+            }
+            Err(question) => {
+                writeln!(out, "desk {number}: visit by {}: {question}", frame.name)?;
+                write_changed(&mut self.counts, changes, out)?;
+            }
+        }
+        *desk = after;
+        Ok(())
+    }
+
+    // The token goes on by so many visits, each by the latest frame at the desk that it is addressed to; only the last is answered.
+    fn pass<W: Write>(&mut self, visits: u32, out: &mut W) -> io::Result<()> {
+        for left in (0..visits).rev() {
+            let number = self.held.frames.addressed();
+            if !self.held.desks.is_made(number) {
+                break;
+            }
+            let frame = Frame::latest(&self.held)?;
+            if left == 0 {
+                self.visit(number, &frame, out)?;
+            } else {
+                self.visit(number, &frame, &mut io::sink())?;
+            }
+        }
+        Ok(())
+    }
+
+    // Both calls of the frame reader. The part of a frame that is refused must be empty.
+    fn read<W: Write>(&mut self, frame: &Frame, out: &mut W) -> io::Result<()> {
+        let name = frame.name;
+        let visit = calls::frame_visit(&self.held.plan, &frame.words);
+        let part = calls::read_frame(&self.held.plan, &frame.words);
+        self.counts.add_call(&visit);
+        match visit {
+            Ok(visit) => writeln!(out, "read {name}: visit {visit}, part of {}", Words(part)),
+            Err(question) => {
+                writeln!(out, "read {name}: {question}")?;
+                if !part.is_empty() {
+                    self.counts.add_change();
+                    writeln!(out, "CHANGED: part of {}", Count(part.len(), "word"))?;
+                }
+                Ok(())
+            }
+        }
+    }
+
+    fn show<W: Write>(&self, shown: Shown, out: &mut W) -> io::Result<()> {
+        match shown {
+            Shown::Plan => {
+                let plan = &self.held.plan;
+                let verdict = calls::read_plan(plan);
+                write!(out, "{}", ShownPlan(PlanLine { plan, verdict }))
+            }
+            Shown::Desk(number) => match self.held.desks.get(number) {
+                Some(desk) => write!(out, "{}", ShownDesk(number, desk)),
+                None => Ok(()),
+            },
+            Shown::Frame(number) => write!(out, "{}", ShownFrame(number, self.held.frame(number))),
+        }
+    }
 }

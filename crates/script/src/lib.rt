@@ -1,43 +1,50 @@
 // The interpreter of scripts over the engine's public calls. docs/SCRIPT.md is its language. It is safe and ends for any bytes at all.
-// The first three modules know nothing of plans, desks or frames. No function asks anything of its arguments.
 //
-//     memory        the words of the interpreter, by place
-//     output        text, written in blocks
-//     scanner       the words of the line at hand: numbers, names, and the first fault
-//     layout        where everything stands in memory
-//     texts         all that is said, by number
-//     sums          the two sums of words
-//     forms         words of plans and frames, as a script writes them
-//     words         words of plans and frames, as answers write them
-//     answers       what a call answers: a text and a number; the text of a refusal is that of the question
-//     plans         the plan reader, the chooser and the classifier; a plan in words
-//     operations    operations, as a script writes them
-//     desks         what a desk holds, by the new desk call or by hand
-//     loans         how much is lent to a call
-//     changes       what a call changed of all that it was lent
-//     calls         the engine's calls on copies of what stands in memory
-//     frames        frames that were sent; the starting frame, the frame reader
-//     events        the lines of requests and visits, and the token that goes on
-//     interpreter   lines, commands, faults, counts, and the run of a script
+//     fault          what can be wrong with a line, and where
+//     line           the words of a line, from left to right
+//     words          words in text: how many there are, the words, and their two sums
+//     groups         transactions and updates among words
+//     question       the questions that refuse a call
+//     operations     operations, as a line writes them
+//     plans          a plan in words, and what the chooser filled in
+//     lent           how much of what is held a call is lent
+//     holding        what a desk holds
+//     desks          the desks, each made or not
+//     frames         the frames that were sent
+//     held           what the interpreter holds, but for the counts
+//     forms          the forms in which a line writes words
+//     gathered       the words that are gathered from them
+//     command        the commands, read from a line
+//     buffers        the words that a call writes to
+//     answers        what the engine's calls answer, in text
+//     calls          the engine's calls
+//     changes        what a call changed of a desk
+//     counts         what is counted
+//     interpreter    what the commands do
+//     reader         lines, from the bytes of a script
 #![tactic(auto)]
 
 mod answers;
+mod buffers;
 mod calls;
 mod changes;
+mod command;
+mod counts;
 mod desks;
-mod events;
+mod fault;
 mod forms;
 mod frames;
+mod gathered;
+mod groups;
+mod held;
+mod holding;
 mod interpreter;
-mod layout;
-mod loans;
-mod memory;
+mod lent;
+mod line;
 mod operations;
-mod output;
 mod plans;
-mod scanner;
-mod sums;
-mod texts;
+mod question;
+mod reader;
 mod words;
 
-pub use interpreter::run;
+pub use reader::run;

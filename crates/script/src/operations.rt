@@ -1,35 +1,71 @@
 // Operations, as a line writes them: `T0 5 9`, and of a client `client 9 T0 5 9`.
-use crate::layout::{CLIENT, GIVEN, PARAMETERS, TRANSACTION};
-use crate::memory::{Memory, NUMBER, WORD_START, add, copy, fill, on, put, size};
-use crate::scanner::NO_TRANSACTION;
-use crate::{scanner, texts};
+use crate::fault::{Fault, Problem};
+use crate::line;
+use crate::line::Line;
+use std::fmt;
 
-// Parameter i, if the line has it.
-fn read_parameter(m: &mut Memory, i: usize) -> &mut Memory {
-    if scanner::has_more(m) {
-        put(
-            scanner::number_to(m, on(PARAMETERS, i), scanner::WORD),
-            on(GIVEN, i),
-            1,
-        )
-    } else {
-        m
+// A transaction, and the parameters that the line writes.
+#[derive(Clone, Copy)]
+pub(crate) struct Operation {
+    pub transaction: u32,
+    written: [Option<u32>; 4],
+}
+
+impl Operation {
+    pub(crate) fn read(line: &mut Line) -> Result<Operation, Fault> {
+        let transaction = match line.word_or_empty() {
+            [b'T', digits @ ..] => line::decimal(digits, u32::MAX),
+            _ => None,
+        };
+        let transaction = transaction.ok_or(line.fault(Problem::NoTransaction))?;
+        let mut written = [None; 4];
+        for parameter in written.iter_mut() {
+            if line.has_more() {
+                *parameter = Some(line.number(u32::MAX)?);
+            }
+        }
+        Ok(Operation {
+            transaction,
+            written,
+        })
+    }
+
+    // All four parameters; those that are not written are 0.
+    pub(crate) fn parameters(&self) -> [u32; 4] {
+        self.written.map(|parameter| parameter.unwrap_or(0))
     }
 }
 
-// An operation goes to its registers: T and the number of its transaction, and up to four parameters.
-pub fn read(m: &mut Memory) -> &mut Memory {
-    let m = scanner::next_word(fill(fill(m, GIVEN, 3, 0), PARAMETERS, 3, 0));
-    let has_t = scanner::byte_at(m, size(m, WORD_START)) == 84;
-    let m = add(scanner::demand(m, has_t, NO_TRANSACTION), WORD_START, 1);
-    let m = scanner::keep(m, 10, scanner::WORD, NO_TRANSACTION);
-    let m = read_parameter(copy(m, NUMBER, TRANSACTION, 1), 0);
-    read_parameter(read_parameter(read_parameter(m, 1), 2), 3)
+impl fmt::Display for Operation {
+    fn fmt<W: fmt::Write>(&self, f: &mut fmt::Formatter<W>) -> fmt::Result {
+        write!(f, "T{}(", self.transaction)?;
+        for (i, parameter) in self.written.iter().flatten().enumerate() {
+            let before = if i == 0 { "" } else { ", " };
+            write!(f, "{before}{parameter}")?;
+        }
+        f.write_str(")")
+    }
 }
 
-// An operation of a client goes to its registers.
-pub fn read_of_client(m: &mut Memory) -> &mut Memory {
-    // client
-    let m = scanner::expect(m, 0x636c_6965_6e74, texts::NO_CLIENT);
-    read(scanner::number_to(m, CLIENT, scanner::WORD))
+// An operation of a client.
+#[derive(Clone, Copy)]
+pub(crate) struct ClientOperation {
+    pub client: u32,
+    pub operation: Operation,
+}
+
+impl ClientOperation {
+    pub(crate) fn read(line: &mut Line) -> Result<ClientOperation, Fault> {
+        line.expect(b"client", Problem::NoClient)?;
+        Ok(ClientOperation {
+            client: line.number(u32::MAX)?,
+            operation: Operation::read(line)?,
+        })
+    }
+}
+
+impl fmt::Display for ClientOperation {
+    fn fmt<W: fmt::Write>(&self, f: &mut fmt::Formatter<W>) -> fmt::Result {
+        write!(f, "{} of client {}", self.operation, self.client)
+    }
 }

@@ -1,111 +1,249 @@
-// The plan at hand: the plan reader, the chooser, the classifier, and the plan in words.
-use crate::answers::{note, note_question, say_answer};
-use crate::layout::{
-    ANSWER, CAUSE_CELL, CAUSE_DESK, CAUSE_TRANSACTION, CHANGED, MOST_WORDS, OTHER_WORDS,
-    OUTGOING_WORDS, PLAN, PLAN_WORDS, QUESTION, TRANSACTION, TRANSACTIONS, WORDS,
-};
-use crate::memory::{
-    ITEM, Memory, copy, count_above, counted, differences, get, narrow, on, put, size,
-};
-use crate::output::{say, say_change};
-use crate::{calls, texts, words};
-use conveyor::{Cause, ClassAnswer, Verdict};
+// A plan in words: its verdict, its transactions with their steps, and what the chooser filled in.
+use crate::groups::{Group, Groups};
+use crate::question::Question;
+use crate::words;
+use crate::words::{Count, Others};
+use std::fmt;
+use word::fields;
 
-// Asks the plan reader, and says its line up to the answer.
-pub fn read(m: &mut Memory) -> &mut Memory {
-    let m = copy(copy(m, PLAN, WORDS, 1), PLAN_WORDS, ITEM, 1);
-    match conveyor::read_plan(counted(m, PLAN, PLAN_WORDS)) {
-        Verdict::Accepted => say(note_question(m, 0), texts::VERDICT),
-        Verdict::Refused(question) => say(note_question(m, question), texts::VERDICT),
-    }
+// Where a step takes its number from: a parameter, or the step's own word.
+#[derive(Clone, Copy)]
+enum Source {
+    Parameter(u32),
+    Fixed(u32),
 }
 
-// Says transaction i, whose word is at this index of the plan, if the chooser changed that word; the plan then holds it.
-fn say_filled(m: &mut Memory, i: usize, at: usize) -> &mut Memory {
-    let place = on(PLAN_WORDS, at);
-    let filled = on(OUTGOING_WORDS, at);
-    let m = put(m, WORDS, narrow(at));
-    copy(
-        say_change(m, texts::FILLED, i, filled, place, 1),
-        filled,
-        place,
-        1,
-    )
-}
-
-// Says the transactions that the chooser filled. Each has as many words behind its own as it has steps.
-fn say_all_filled(m: &mut Memory) -> &mut Memory {
-    let mut at: usize = 1;
-    for i in 0..MOST_WORDS {
-        if size(m, PLAN) <= at {
-            break;
+impl fmt::Display for Source {
+    fn fmt<W: fmt::Write>(&self, f: &mut fmt::Formatter<W>) -> fmt::Result {
+        match self {
+            Source::Parameter(parameter) => write!(f, "p{parameter}"),
+            Source::Fixed(number) => write!(f, "{number}"),
         }
-        let steps = size(m, on(PLAN_WORDS, at)) / 0x10_0000 % 16;
-        say_filled(m, i, at);
-        at = on(at, 1 + steps);
     }
-    m
 }
 
-// Notes how many other words of the plan the chooser changed; the plan then holds these too.
-fn take_others(m: &mut Memory) -> &mut Memory {
-    let words = size(m, PLAN);
-    let others = differences(m, OUTGOING_WORDS, PLAN_WORDS, 0, words);
-    copy(
-        put(m, OTHER_WORDS, others),
-        OUTGOING_WORDS,
-        PLAN_WORDS,
-        words,
-    )
+impl Source {
+    // The source of this number: 0 to 3 are the parameters.
+    fn new(number: u32, fixed: u32) -> Source {
+        if number < 4 {
+            Source::Parameter(number)
+        } else {
+            Source::Fixed(fixed)
+        }
+    }
 }
 
-// `choose`: asks the chooser. A refusal must change nothing.
-pub fn choose(m: &mut Memory) -> &mut Memory {
-    let m = say_answer(say(calls::choose(m), texts::CHOOSE));
-    if get(m, QUESTION) == 0 {
-        say(take_others(say_all_filled(m)), texts::OTHER_WORDS)
-    } else {
-        say(
-            count_above(take_others(m), CHANGED, OTHER_WORDS, 0),
-            texts::CHANGED_PLAN,
+// The cell that a step reads or writes.
+#[derive(Clone, Copy)]
+struct Cell {
+    table: u32,
+    column: u32,
+    row: Source,
+}
+
+impl fmt::Display for Cell {
+    fn fmt<W: fmt::Write>(&self, f: &mut fmt::Formatter<W>) -> fmt::Result {
+        write!(
+            f,
+            "table {} column {} row {}",
+            self.table, self.column, self.row
         )
     }
 }
 
-// Notes that the classifier answers "global": the desk, and the cause in the item at hand.
-fn note_global(m: &mut Memory, desk: u32, cause: Cause) -> &mut Memory {
-    let m = put(put(m, CAUSE_CELL, cause.cell), CAUSE_DESK, cause.desk);
-    note(
-        put(m, CAUSE_TRANSACTION, cause.transaction),
-        texts::GLOBAL,
-        desk,
-    )
+// A step of a transaction.
+#[derive(Clone, Copy)]
+enum Step {
+    Read(Cell),
+    Write(Cell),
+    Set(Source),
+    Add(Source),
+    Need(Source),
+    Take(Source),
+    Tell,
 }
 
-// `class`: asks the classifier, and says its line up to the answer.
-pub fn class(m: &mut Memory) -> &mut Memory {
-    let m = say(m, texts::OPERATION);
-    match conveyor::classify(
-        counted(m, PLAN, PLAN_WORDS),
-        get(m, TRANSACTION),
-        calls::parameters(m),
-    ) {
-        ClassAnswer::Free => note(m, texts::FREE, 0),
-        ClassAnswer::Local(desk) => note(m, texts::LOCAL, desk),
-        ClassAnswer::Global(desk, cause) => note_global(m, desk, cause),
-        ClassAnswer::Refused(question) => note_question(m, question),
+impl From<u32> for Step {
+    fn from(word: u32) -> Step {
+        let cell = Cell {
+            table: word / fields::TABLE % 8,
+            column: word / fields::COLUMN % 4,
+            row: Source::new(word / fields::ROW_SOURCE % 8, word % 32),
+        };
+        let operand = Source::new(
+            word / fields::OPERAND_SOURCE % 8,
+            word % fields::OPERAND_SOURCE,
+        );
+        match word / fields::KIND {
+            3 => Step::Read(cell),
+            4 => Step::Write(cell),
+            5 => Step::Set(operand),
+            6 => Step::Add(operand),
+            7 => Step::Need(operand),
+            8 => Step::Take(operand),
+            _ => Step::Tell,
+        }
     }
 }
 
-// `show plan`. What is shown is no call, and is not counted. Only of an accepted plan and of one with open fields, which question 17
-// refuses, is it known that the transactions are well formed.
-pub fn show(m: &mut Memory) -> &mut Memory {
-    let m = read(m);
-    let answer = get(m, ANSWER);
-    let m = say(say(m, texts::REFUSED), answer);
-    let end = on(PLAN_WORDS, size(m, PLAN));
-    match get(m, QUESTION) {
-        0 | 17 => words::say_groups(m, TRANSACTIONS, end, texts::TRANSACTION, texts::STEP, 1),
-        _ => m,
+impl fmt::Display for Step {
+    fn fmt<W: fmt::Write>(&self, f: &mut fmt::Formatter<W>) -> fmt::Result {
+        match self {
+            Step::Read(cell) => write!(f, "read {cell}"),
+            Step::Write(cell) => write!(f, "write {cell}"),
+            Step::Set(operand) => write!(f, "set {operand}"),
+            Step::Add(operand) => write!(f, "add {operand}"),
+            Step::Need(operand) => write!(f, "need {operand}"),
+            Step::Take(operand) => write!(f, "take {operand}"),
+            Step::Tell => f.write_str("tell"),
+        }
+    }
+}
+
+// By what the operations of a transaction go to their desks.
+#[derive(Clone, Copy, Debug, PartialEq, Eq)]
+enum Partitioning {
+    Parameter(u32),
+    Open,
+    Unpartitioned,
+}
+
+impl Partitioning {
+    // The field of a transaction's word.
+    fn new(head: u32) -> Partitioning {
+        match head / fields::PARTITIONING % 16 {
+            14 => Partitioning::Open,
+            15 => Partitioning::Unpartitioned,
+            parameter => Partitioning::Parameter(parameter),
+        }
+    }
+}
+
+impl fmt::Display for Partitioning {
+    fn fmt<W: fmt::Write>(&self, f: &mut fmt::Formatter<W>) -> fmt::Result {
+        match self {
+            Partitioning::Parameter(parameter) => write!(f, "by p{parameter}"),
+            Partitioning::Open => f.write_str("open"),
+            Partitioning::Unpartitioned => f.write_str("by none"),
+        }
+    }
+}
+
+// A transaction of a plan with its number.
+#[derive(Clone, Copy)]
+struct Transaction<'a> {
+    number: usize,
+    group: Group<'a>,
+}
+
+impl Transaction<'_> {
+    // The number and the parameters, as `T0(p0, p1)`.
+    fn write_name<W: fmt::Write>(&self, f: &mut fmt::Formatter<W>) -> fmt::Result {
+        write!(f, "T{}(", self.number)?;
+        let parameters = self.group.head / fields::PARAMETERS % 16;
+        for parameter in 0..parameters.min(4) {
+            let before = if parameter == 0 { "" } else { ", " };
+            write!(f, "{before}p{parameter}")?;
+        }
+        f.write_str(")")
+    }
+
+    // How its operations go, its weight, and whether it is urgent.
+    fn write_fields<W: fmt::Write>(&self, f: &mut fmt::Formatter<W>) -> fmt::Result {
+        let head = self.group.head;
+        let partitioning = Partitioning::new(head);
+        if partitioning != Partitioning::Unpartitioned {
+            write!(f, " {partitioning}")?;
+        }
+        let weight = head / fields::WEIGHT % 256;
+        if weight != 0 {
+            write!(f, ", weight {weight}")?;
+        }
+        if head / fields::URGENT % 2 == 1 {
+            f.write_str(", urgent")?;
+        }
+        Ok(())
+    }
+}
+
+impl fmt::Display for Transaction<'_> {
+    fn fmt<W: fmt::Write>(&self, f: &mut fmt::Formatter<W>) -> fmt::Result {
+        self.write_name(f)?;
+        self.write_fields(f)?;
+        for (i, word) in self.group.parts.iter().enumerate() {
+            let before = if i == 0 { ": " } else { "; " };
+            write!(f, "{before}{}", Step::from(*word))?;
+        }
+        Ok(())
+    }
+}
+
+// What the plan reader says of a plan.
+#[derive(Clone, Copy)]
+pub(crate) struct PlanLine<'a> {
+    pub plan: &'a [u32],
+    pub verdict: Result<(), Question>,
+}
+
+impl fmt::Display for PlanLine<'_> {
+    fn fmt<W: fmt::Write>(&self, f: &mut fmt::Formatter<W>) -> fmt::Result {
+        let words = Count(self.plan.len(), "word");
+        if let Err(question) = self.verdict {
+            return write!(f, "plan of {words}: {question}");
+        }
+        let head = self.plan.first().copied().unwrap_or(0);
+        let desks = Count((head / fields::DESKS % 16) as usize, "desk");
+        let transactions = Count((head / fields::TRANSACTIONS % 256) as usize, "transaction");
+        write!(f, "plan: accepted, {desks}, {transactions}, {words}")
+    }
+}
+
+// A plan as it is shown: what the plan reader says, and the transactions, if they are well formed.
+#[derive(Clone, Copy)]
+pub(crate) struct ShownPlan<'a>(pub PlanLine<'a>);
+
+impl fmt::Display for ShownPlan<'_> {
+    fn fmt<W: fmt::Write>(&self, f: &mut fmt::Formatter<W>) -> fmt::Result {
+        let line = self.0;
+        writeln!(f, "{line}")?;
+        if let Err(question) = line.verdict
+            && question != Question::OPEN_FIELD
+        {
+            return Ok(());
+        }
+        for (number, group) in Groups::transactions(line.plan).enumerate() {
+            writeln!(f, "  {}", Transaction { number, group })?;
+        }
+        Ok(())
+    }
+}
+
+// What the chooser made of a plan.
+#[derive(Clone, Copy)]
+pub(crate) struct Filling<'a> {
+    pub before: &'a [u32],
+    pub after: &'a [u32],
+}
+
+impl Filling<'_> {
+    // How many words are others than before.
+    pub(crate) fn changed_words(&self) -> usize {
+        words::count_changed(self.before, self.after)
+    }
+}
+
+impl fmt::Display for Filling<'_> {
+    fn fmt<W: fmt::Write>(&self, f: &mut fmt::Formatter<W>) -> fmt::Result {
+        let mut others = self.changed_words();
+        for (number, group) in Groups::transactions(self.before).enumerate() {
+            let place = group.place;
+            let word = self.after.get(place).copied().unwrap_or(0);
+            if word != group.head {
+                others = others.saturating_sub(1);
+                let by = Partitioning::new(word);
+                write!(f, "; T{number} {by}, word {place} is now {word:08X}")?;
+            }
+        }
+        write!(f, "{}", Others(others))
     }
 }

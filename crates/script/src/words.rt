@@ -1,57 +1,73 @@
-// Words of plans and frames, as answers write them.
-use crate::layout::{LAST_WORDS, OUTGOING, OUTGOING_WORDS, WORDS};
-use crate::memory::{ITEMS_END, Memory, copy, get, on, size};
-use crate::output::{say, say_each, say_item};
-use crate::{sums, texts};
+// Words of plans and frames in text: how many there are, the words, and their two sums.
+use std::fmt;
 
-// How many outgoing words there are, and they; or where they are many the two sums of all but the last two, and these.
-pub fn say_outgoing(m: &mut Memory) -> &mut Memory {
-    let words = size(m, OUTGOING);
-    let m = say(copy(m, OUTGOING, WORDS, 1), texts::WORDS);
-    if words <= 16 {
-        return say_each(m, texts::WORD, OUTGOING_WORDS, 1, words);
+// As many words as a plan or a frame may have here.
+pub(crate) const MOST_WORDS: u32 = 6420;
+
+// The sum of words, and that of the sums from the first word up to each.
+pub(crate) fn sums(words: &[u32]) -> (u32, u32) {
+    words
+        .iter()
+        .fold((0, 0), |(first, second): (u32, u32), word| {
+            let first = first.wrapping_add(*word);
+            (first, second.wrapping_add(first))
+        })
+}
+
+// How many of some items are not the same as the ones before.
+pub(crate) fn count_changed(before: &[u32], after: &[u32]) -> usize {
+    let pairs = before.iter().zip(after);
+    pairs.filter(|(before, after)| before != after).count()
+}
+
+// How many there are of what has this name.
+#[derive(Clone, Copy)]
+pub(crate) struct Count<'a>(pub usize, pub &'a str);
+
+impl fmt::Display for Count<'_> {
+    fn fmt<W: fmt::Write>(&self, f: &mut fmt::Formatter<W>) -> fmt::Result {
+        let ending = if self.0 == 1 { "" } else { "s" };
+        write!(f, "{} {}{ending}", self.0, self.1)
     }
-    let before = words - 2;
-    let m = sums::take(m, OUTGOING_WORDS, before);
-    say(
-        copy(m, on(OUTGOING_WORDS, before), LAST_WORDS, 2),
-        texts::SUMS,
-    )
 }
 
-// A transaction or an update, number i, whose word stands at a place, by its text; and its steps or cells, parts of a size, by theirs.
-fn say_group(
-    m: &mut Memory,
-    i: usize,
-    place: usize,
-    text: u32,
-    part_text: u32,
-    part_size: usize,
-) -> &mut Memory {
-    let parts = (get(m, place) / 0x10_0000 % 16) as usize;
-    let m = say_item(m, text, i, place, 1);
-    say(
-        say_each(m, part_text, on(place, 1), part_size, parts),
-        texts::LINE_END,
-    )
-}
+// How many other words changed, if any did.
+#[derive(Clone, Copy)]
+pub(crate) struct Others(pub usize);
 
-// The transactions of a plan or the updates of a frame, which stand from one place to another.
-pub fn say_groups(
-    m: &mut Memory,
-    from: usize,
-    to: usize,
-    text: u32,
-    part_text: u32,
-    part_size: usize,
-) -> &mut Memory {
-    let mut place = from;
-    for i in 0..6404usize {
-        if to <= place {
-            break;
+impl fmt::Display for Others {
+    fn fmt<W: fmt::Write>(&self, f: &mut fmt::Formatter<W>) -> fmt::Result {
+        if self.0 == 0 {
+            return Ok(());
         }
-        say_group(m, i, place, text, part_text, part_size);
-        place = size(m, ITEMS_END);
+        write!(f, "; {} changed", Count(self.0, "other word"))
     }
-    m
+}
+
+// How many words there are, and they; of more than 16 the two sums of all but the last two, and these.
+#[derive(Clone, Copy)]
+pub(crate) struct Words<'a>(pub &'a [u32]);
+
+impl fmt::Display for Words<'_> {
+    fn fmt<W: fmt::Write>(&self, f: &mut fmt::Formatter<W>) -> fmt::Result {
+        let count = self.0.len();
+        write!(f, "{}", Count(count, "word"))?;
+        match self.0 {
+            [] => Ok(()),
+            [others @ .., fore, last] if 16 < count => {
+                let (first, second) = sums(others);
+                write!(
+                    f,
+                    ", sums {first:08X} {second:08X}, then {fore:08X} {last:08X}"
+                )
+            }
+            words => {
+                f.write_str(":")?;
+                for word in words {
+                    write!(f, " {word:08X}")?;
+                }
+                Ok(())
+            }
+        }
+    }
 }

@@ -1,0 +1,128 @@
+// The run of a script: its lines, from the bytes that are read, and the counts at the end.
+use crate::command::Command;
+use crate::fault::LineError;
+use crate::interpreter::Interpreter;
+use crate::line::Line;
+use std::alloc::{AllocError, Global};
+use std::io;
+use std::io::{BufWriter, Read, Write};
+
+#[cfg(test)]
+mod tests;
+
+// The longest line, and how many bytes are read at once.
+const LONGEST_LINE: usize = 65536;
+
+const BLOCK_SIZE: usize = 65536;
+
+// The line at hand, with all that it is joined to: its bytes, how many of them are of lines that ended, and the number of the first line.
+#[derive(Drop)]
+struct Script {
+    interpreter: Interpreter,
+    text: Vec<u8>,
+    joined: usize,
+    number: u32,
+}
+
+impl Script {
+    fn new(alloc: Global) -> Result<Script, AllocError> {
+        Ok(Script {
+            interpreter: Interpreter::new(alloc)?,
+            text: Vec::new(alloc),
+            joined: 0,
+            number: 1,
+        })
+    }
+
+    // Runs a line that is whole.
+    fn run_line<W: Write>(&mut self, out: &mut W) -> io::Result<()> {
+        let number = self.number;
+        if LONGEST_LINE < self.text.len() {
+            self.interpreter.counts.add_bad_line();
+            return writeln!(out, "line {number}: longer than {LONGEST_LINE} bytes");
+        }
+        let mut line = Line::new(&self.text);
+        if !line.has_more() {
+            return Ok(());
+        }
+        match Command::read(&mut line, &self.interpreter.held) {
+            Ok(command) => self.interpreter.perform(command, out),
+            Err(LineError::Fault(fault)) => {
+                self.interpreter.counts.add_bad_line();
+                writeln!(out, "line {number}, {fault}")
+            }
+            Err(LineError::Memory(error)) => Err(io::Error::from(error)),
+        }
+    }
+
+    // Ends a line. Where its last byte is `\`, a space takes its place and the line goes on, else it is run.
+    fn end_line<W: Write>(&mut self, out: &mut W) -> io::Result<()> {
+        self.interpreter.counts.add_line();
+        if let Some(last) = self.text.last_mut()
+            && *last == b'\\'
+        {
+            *last = b' ';
+            self.joined = self.text.len();
+            return Ok(());
+        }
+        self.run_line(out)?;
+        self.text.clear();
+        self.joined = 0;
+        self.number = self.interpreter.counts.lines.wrapping_add(1);
+        Ok(())
+    }
+
+    // Takes a byte of the script. In a line that is too long it takes the place of the last one.
+    fn take<W: Write>(&mut self, byte: u8, out: &mut W) -> io::Result<()> {
+        if byte == b'\n' {
+            return self.end_line(out);
+        }
+        if LONGEST_LINE < self.text.len() {
+            self.text.pop();
+        }
+        self.text.push(byte)?;
+        Ok(())
+    }
+
+    // Runs a last line that no line feed ends, and says the counts.
+    fn finish<W: Write>(&mut self, out: &mut W) -> io::Result<()> {
+        if self.joined < self.text.len() {
+            self.interpreter.counts.add_line();
+        }
+        self.run_line(out)?;
+        write!(out, "{}", self.interpreter.counts)
+    }
+}
+
+// Reads the next bytes of a script into a block, and runs the lines that they end; whether there were any.
+fn run_block<R: Read, W: Write>(
+    script: &mut Script,
+    block: &mut [u8],
+    input: &mut R,
+    out: &mut W,
+) -> io::Result<bool> {
+    let length = input.read(block)?;
+    for byte in block.iter().take(length) {
+        script.take(*byte, out)?;
+    }
+    out.flush()?;
+    Ok(0 < length)
+}
+
+// Reads a script, and writes what is said to it. It ends where a read or a write fails.
+pub fn run<R, W>(alloc: Global, mut input: R, output: W) -> io::Result<()>
+where
+    R: Read + Drop,
+    W: Write + Drop,
+{
+    let mut output = BufWriter::new(alloc, output)?;
+    let mut script = Script::new(alloc)?;
+    let mut block = vec![in alloc; 0; BLOCK_SIZE]?;
+    for _ in 0..u64::MAX {
+        if !run_block(&mut script, &mut block, &mut input, &mut output)? {
+            break;
+        }
+    }
+    script.finish(&mut output)?;
+    output.flush()
+}
