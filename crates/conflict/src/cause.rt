@@ -19,6 +19,7 @@ use crate::mask_table::MaskTable;
 use crate::{mask, row, written};
 use operation::Operation;
 use plan::{Access, Partitioning, Plan, Step, Transaction};
+use std::fmt;
 
 // What makes an operation global: the lowest cell that it may write and another desk may touch, the lowest such desk, and the lowest
 // transaction with an operation of that desk that may touch the cell.
@@ -27,6 +28,16 @@ pub struct Cause {
     pub cell: u32,
     pub desk: u32,
     pub transaction: u32,
+}
+
+impl fmt::Display for Cause {
+    fn fmt<W: fmt::Write>(&self, f: &mut fmt::Formatter<W>) -> fmt::Result {
+        write!(
+            f,
+            "it may write cell {}, which T{} of desk {} may touch",
+            self.cell, self.transaction, self.desk
+        )
+    }
 }
 
 // Whether the desk `other` is in this mask and is not `desk`.

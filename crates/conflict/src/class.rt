@@ -18,6 +18,7 @@ use crate::mask_table::MaskTable;
 use crate::{cause, written};
 use operation::Operation;
 use plan::{Access, Plan, Step, Transaction};
+use std::fmt;
 use verdict::Refusal;
 
 // The class, with the operation's desk where it has one and, if it is global, its cause.
@@ -35,6 +36,16 @@ pub fn has_write(transaction: &Transaction) -> bool
     transaction
         .steps()
         .any(|step| matches!(step, Step::Cell(Access::Write, _, _, _)))
+}
+
+impl fmt::Display for Class {
+    fn fmt<W: fmt::Write>(&self, f: &mut fmt::Formatter<W>) -> fmt::Result {
+        match self {
+            Class::Free => f.write_str("free"),
+            Class::Local(desk) => write!(f, "local at desk {desk}"),
+            Class::Global(desk, cause) => write!(f, "global at desk {desk}: {cause}"),
+        }
+    }
 }
 
 // Whether each cell that the operation may write has one desk in its mask: the number of desks is the count of ones in it.

@@ -1,38 +1,8 @@
 // What the engine's calls answer where no question refuses them, in text.
-use conveyor::Cause;
 use std::fmt;
 
 // The words of a reply to a visit.
 pub(crate) const REPLY_WORDS: usize = 7;
-
-// The class of an operation, with its desk, and of a global one the cause.
-#[derive(Clone, Copy)]
-pub(crate) enum Class {
-    Free,
-    Local(u32),
-    Global(u32, Cause),
-}
-
-impl fmt::Display for Class {
-    fn fmt<W: fmt::Write>(&self, f: &mut fmt::Formatter<W>) -> fmt::Result {
-        match self {
-            Class::Free => f.write_str("free"),
-            Class::Local(desk) => write!(f, "local at desk {desk}"),
-            Class::Global(desk, cause) => {
-                write!(
-                    f,
-                    "global at desk {desk}: it may write cell {}, ",
-                    cause.cell
-                )?;
-                write!(
-                    f,
-                    "which T{} of desk {} may touch",
-                    cause.transaction, cause.desk
-                )
-            }
-        }
-    }
-}
 
 // How an operation ended; in the replies of a visit a word, which may be another.
 #[derive(Clone, Copy, Debug, PartialEq, Eq)]

@@ -1,59 +1,22 @@
 // The engine's calls. Each is refused by a question, or else answers a value.
-use crate::answers::{Case, Class, Reply, Response, Written};
+use crate::answers::{Case, Reply, Response, Written};
 use crate::buffers::Buffers;
 use crate::holding::Holding;
 use crate::lent::Lent;
 use crate::operations::{ClientOperation, Operation};
-use crate::question::Question;
-use conveyor::{
-    Choice, ClassAnswer, Desk, DeskAnswer, FrameAnswer, RequestAnswer, Verdict, VisitAnswer,
-};
+use conveyor::{Class, Refusal, RequestAnswer};
 
 // The words of the starting frame.
 const LEAST_FRAME: usize = 4;
 
-// A verdict of the engine.
-fn accepted(verdict: Verdict) -> Result<(), Question> {
-    match verdict {
-        Verdict::Accepted => Ok(()),
-        Verdict::Refused(question) => Err(Question(question)),
-    }
-}
-
-// The plan reader.
-pub(crate) fn read_plan(plan: &[u32]) -> Result<(), Question> {
-    accepted(conveyor::read_plan(plan))
-}
-
-// The chooser: the cost of the plan as it is filled.
-pub(crate) fn choose(plan: &mut [u32]) -> Result<u32, Question> {
-    match conveyor::choose(plan) {
-        Choice::Chosen(cost) => Ok(cost),
-        Choice::Refused(question) => Err(Question(question)),
-    }
-}
-
 // The classifier.
-pub(crate) fn classify(plan: &[u32], operation: &Operation) -> Result<Class, Question> {
-    match conveyor::classify(plan, operation.transaction, operation.parameters()) {
-        ClassAnswer::Free => Ok(Class::Free),
-        ClassAnswer::Local(desk) => Ok(Class::Local(desk)),
-        ClassAnswer::Global(desk, cause) => Ok(Class::Global(desk, cause)),
-        ClassAnswer::Refused(question) => Err(Question(question)),
-    }
-}
-
-// The state of a new desk.
-pub(crate) fn new_desk(plan: &[u32], desk: u32) -> Result<Desk, Question> {
-    match conveyor::new_desk(plan, desk) {
-        DeskAnswer::Opened(state) => Ok(state),
-        DeskAnswer::Refused(question) => Err(Question(question)),
-    }
+pub(crate) fn classify(plan: &[u32], operation: &Operation) -> Result<Class, Refusal> {
+    conveyor::classify(plan, operation.transaction, operation.parameters())
 }
 
 // The starting frame.
-pub(crate) fn starting_frame(out: &mut [u32]) -> Result<Written, Question> {
-    accepted(conveyor::starting_frame(out))?;
+pub(crate) fn starting_frame(out: &mut [u32]) -> Result<Written, Refusal> {
+    conveyor::starting_frame(out)?;
     Ok(Written {
         sent: LEAST_FRAME,
         replies: 0,
@@ -85,7 +48,7 @@ pub(crate) fn request(
     desk: &mut Holding,
     lent: Lent,
     asked: ClientOperation,
-) -> Result<Response, Question> {
+) -> Result<Response, Refusal> {
     let result = conveyor::request(
         plan,
         desk.state,
@@ -96,12 +59,11 @@ pub(crate) fn request(
         asked.operation.parameters(),
     );
     desk.state = result.state;
-    match result.answer {
-        RequestAnswer::Replied(reply) => Ok(Response::Replied(replied(reply))),
-        RequestAnswer::Waits => Ok(Response::Waits),
-        RequestAnswer::Elsewhere(desk) => Ok(Response::Elsewhere(desk)),
-        RequestAnswer::Refused(question) => Err(Question(question)),
-    }
+    Ok(match result.answer? {
+        RequestAnswer::Replied(reply) => Response::Replied(replied(reply)),
+        RequestAnswer::Waits => Response::Waits,
+        RequestAnswer::Elsewhere(desk) => Response::Elsewhere(desk),
+    })
 }
 
 // A visit at a desk by the words of a frame.
@@ -111,7 +73,7 @@ pub(crate) fn visit(
     lent: Lent,
     frame: &[u32],
     buffers: &mut Buffers,
-) -> Result<Written, Question> {
+) -> Result<Written, Refusal> {
     let result = conveyor::visit(
         plan,
         desk.state,
@@ -123,21 +85,9 @@ pub(crate) fn visit(
         &mut buffers.replies,
     );
     desk.state = result.state;
-    match result.answer {
-        VisitAnswer::Forwarded(sent, replies) => Ok(Written { sent, replies }),
-        VisitAnswer::Refused(question) => Err(Question(question)),
-    }
-}
-
-// The frame reader: the number of the visit.
-pub(crate) fn frame_visit(plan: &[u32], frame: &[u32]) -> Result<u32, Question> {
-    match conveyor::frame_visit(plan, frame) {
-        FrameAnswer::Visit(visit) => Ok(visit),
-        FrameAnswer::Refused(question) => Err(Question(question)),
-    }
-}
-
-// The frame reader: the part of the frame that holds the updates.
-pub(crate) fn read_frame<'a>(plan: &[u32], frame: &'a [u32]) -> &'a [u32] {
-    conveyor::read_frame(plan, frame)
+    let forwarded = result.answer?;
+    Ok(Written {
+        sent: forwarded.words,
+        replies: forwarded.replies,
+    })
 }

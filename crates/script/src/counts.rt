@@ -1,7 +1,7 @@
 // What is counted.
 use crate::answers::{Case, Response, Written};
 use crate::gathered::{Frame, FrameName};
-use crate::question::Question;
+use conveyor::Refusal;
 use std::fmt;
 
 // The numbers of questions are below this.
@@ -66,10 +66,10 @@ impl Counts {
     }
 
     // A call, by its answer.
-    pub(crate) fn add_call<T>(&mut self, answer: &Result<T, Question>) {
+    pub(crate) fn add_call<T>(&mut self, answer: &Result<T, Refusal>) {
         add_one(&mut self.calls);
-        if let Err(question) = answer
-            && let Some(count) = self.refused.get_mut(question.0 as usize)
+        if let Err(refusal) = answer
+            && let Some(count) = self.refused.get_mut(refusal.question() as usize)
         {
             add_one(count);
         }

@@ -92,7 +92,7 @@ impl Interpreter {
     fn take_plan<W: Write>(&mut self, plan: Frame, out: &mut W) -> io::Result<()> {
         self.held.plan = plan.words;
         let plan = &self.held.plan;
-        let verdict = calls::read_plan(plan);
+        let verdict = conveyor::read_plan(plan);
         self.counts.add_call(&verdict);
         writeln!(out, "{}", PlanLine { plan, verdict })
     }
@@ -100,7 +100,7 @@ impl Interpreter {
     // What the chooser fills in stays in the plan.
     fn choose<W: Write>(&mut self, out: &mut W) -> io::Result<()> {
         let mut after = self.held.plan.clone()?;
-        let choice = calls::choose(&mut after);
+        let choice = conveyor::choose(&mut after);
         self.counts.add_call(&choice);
         let filling = Filling {
             before: &self.held.plan,
@@ -108,8 +108,8 @@ impl Interpreter {
         };
         match choice {
             Ok(cost) => writeln!(out, "choose: cost {cost}{filling}")?,
-            Err(question) => {
-                writeln!(out, "choose: {question}")?;
+            Err(refusal) => {
+                writeln!(out, "choose: {refusal}")?;
                 let changed = filling.changed_words();
                 if changed != 0 {
                     self.counts.add_change();
@@ -126,12 +126,12 @@ impl Interpreter {
         self.counts.add_call(&class);
         match class {
             Ok(class) => writeln!(out, "{operation}: {class}"),
-            Err(question) => writeln!(out, "{operation}: {question}"),
+            Err(refusal) => writeln!(out, "{operation}: {refusal}"),
         }
     }
 
     fn new_desk<W: Write>(&mut self, number: u32, out: &mut W) -> io::Result<()> {
-        let opened = calls::new_desk(&self.held.plan, number);
+        let opened = conveyor::new_desk(&self.held.plan, number);
         self.counts.add_call(&opened);
         match opened {
             Ok(state) => {
@@ -139,7 +139,7 @@ impl Interpreter {
                 self.held.desks.put(number, desk);
                 writeln!(out, "desk {number}: {}", State(number, state))
             }
-            Err(question) => writeln!(out, "desk {number}: {question}"),
+            Err(refusal) => writeln!(out, "desk {number}: {refusal}"),
         }
     }
 
@@ -154,8 +154,8 @@ impl Interpreter {
                 let sent = self.held.frames.send(alloc, buffers.sent(written))?;
                 writeln!(out, "start: {sent}{}", Others(others))
             }
-            Err(question) => {
-                writeln!(out, "start: {question}")?;
+            Err(refusal) => {
+                writeln!(out, "start: {refusal}")?;
                 if others != 0 {
                     self.counts.add_change();
                     writeln!(out, "CHANGED{}", Others(others))?;
@@ -194,8 +194,8 @@ impl Interpreter {
                 self.counts.add_request(response);
                 writeln!(out, "desk {number}: {asked}: {response}{changes}")?;
             }
-            Err(question) => {
-                writeln!(out, "desk {number}: {asked}: {question}")?;
+            Err(refusal) => {
+                writeln!(out, "desk {number}: {asked}: {refusal}")?;
                 write_changed(&mut self.counts, changes, out)?;
             }
         }
@@ -237,8 +237,8 @@ impl Interpreter {
                 )?;
                 writeln!(out, ": {replies}; {sent}{changes}")?;
             }
-            Err(question) => {
-                writeln!(out, "desk {number}: visit by {}: {question}", frame.name)?;
+            Err(refusal) => {
+                writeln!(out, "desk {number}: visit by {}: {refusal}", frame.name)?;
                 write_changed(&mut self.counts, changes, out)?;
             }
         }
@@ -266,13 +266,13 @@ impl Interpreter {
     // Both calls of the frame reader. The part of a frame that is refused must be empty.
     fn read<W: Write>(&mut self, frame: &Frame, out: &mut W) -> io::Result<()> {
         let name = frame.name;
-        let visit = calls::frame_visit(&self.held.plan, &frame.words);
-        let part = calls::read_frame(&self.held.plan, &frame.words);
+        let visit = conveyor::frame_visit(&self.held.plan, &frame.words);
+        let part = conveyor::read_frame(&self.held.plan, &frame.words);
         self.counts.add_call(&visit);
         match visit {
             Ok(visit) => writeln!(out, "read {name}: visit {visit}, part of {}", Words(part)),
-            Err(question) => {
-                writeln!(out, "read {name}: {question}")?;
+            Err(refusal) => {
+                writeln!(out, "read {name}: {refusal}")?;
                 if !part.is_empty() {
                     self.counts.add_change();
                     writeln!(out, "CHANGED: part of {}", Count(part.len(), "word"))?;
@@ -286,7 +286,7 @@ impl Interpreter {
         match shown {
             Shown::Plan => {
                 let plan = &self.held.plan;
-                let verdict = calls::read_plan(plan);
+                let verdict = conveyor::read_plan(plan);
                 write!(out, "{}", ShownPlan(PlanLine { plan, verdict }))
             }
             Shown::Desk(number) => match self.held.desks.get(number) {

@@ -4,7 +4,6 @@
 //     line           the words of a line, from left to right
 //     words          words in text: how many there are, the words, and their two sums
 //     groups         transactions and updates among words
-//     question       the questions that refuse a call
 //     operations     operations, as a line writes them
 //     plans          a plan in words, and what the chooser filled in
 //     lent           how much of what is held a call is lent
@@ -43,7 +42,6 @@ mod lent;
 mod line;
 mod operations;
 mod plans;
-mod question;
 mod reader;
 mod words;
 

@@ -1,6 +1,5 @@
 // A plan in words: its verdict, its transactions with their steps, and what the chooser filled in.
 use crate::groups::{Group, Groups};
-use crate::question::Question;
 use crate::words;
 use crate::words::{Count, Others};
 use std::fmt;
@@ -182,14 +181,14 @@ impl fmt::Display for Transaction<'_> {
 #[derive(Clone, Copy)]
 pub(crate) struct PlanLine<'a> {
     pub plan: &'a [u32],
-    pub verdict: Result<(), Question>,
+    pub verdict: Result<(), Refusal>,
 }
 
 impl fmt::Display for PlanLine<'_> {
     fn fmt<W: fmt::Write>(&self, f: &mut fmt::Formatter<W>) -> fmt::Result {
         let words = Count(self.plan.len(), "word");
-        if let Err(question) = self.verdict {
-            return write!(f, "plan of {words}: {question}");
+        if let Err(refusal) = self.verdict {
+            return write!(f, "plan of {words}: {refusal}");
         }
         let head = self.plan.first().copied().unwrap_or(0);
         let desks = Count((head / fields::DESKS % 16) as usize, "desk");
@@ -206,8 +205,8 @@ impl fmt::Display for ShownPlan<'_> {
     fn fmt<W: fmt::Write>(&self, f: &mut fmt::Formatter<W>) -> fmt::Result {
         let line = self.0;
         writeln!(f, "{line}")?;
-        if let Err(question) = line.verdict
-            && question != Question::OPEN_FIELD
+        if let Err(refusal) = line.verdict
+            && refusal != Refusal::OpenField
         {
             return Ok(());
         }

@@ -54,11 +54,10 @@ impl Refusal {
             Refusal::OpenField => 17,
         }
     }
-}
 
-impl fmt::Display for Refusal {
-    fn fmt<W: fmt::Write>(&self, f: &mut fmt::Formatter<W>) -> fmt::Result {
-        f.write_str(match self {
+    // The question in a few words.
+    fn text(self) -> &'static str {
+        match self {
             Refusal::NoPlan => "no head of kind 1 with the count of the words, 1 to 417",
             Refusal::CountOutOfRange => "desks or transactions out of range",
             Refusal::MalformedWord =>
@@ -79,7 +78,13 @@ impl fmt::Display for Refusal {
             Refusal::LastVisit => "the last visit number",
             Refusal::ManyOpenFields => "more than six open fields",
             Refusal::OpenField => "a partitioning field is open",
-        })
+        }
+    }
+}
+
+impl fmt::Display for Refusal {
+    fn fmt<W: fmt::Write>(&self, f: &mut fmt::Formatter<W>) -> fmt::Result {
+        write!(f, "refused {}: {}", self.question(), self.text())
     }
 }
 
