@@ -26,18 +26,11 @@ pub fn request(
         ≡ request_result plan.now (holding state cells.old queue.old)
         (record_of client transaction params) }
 {
-    let row = queue::copied(queue, state.waiting);
-    let step = requests::request_by_value(
-        plan,
-        state,
-        cells,
-        queue.len(),
-        row,
-        client,
-        transaction,
-        params,
-    );
-    queue::store_back(queue, step.row, step.from, step.end);
+    let mut row = queue::copied(queue, state.waiting);
+    let own = queue::words_of(queue.len());
+    let request = requests::record_of(client, transaction, params);
+    let step = requests::request_step(plan, state, cells, &mut row[..own], request);
+    queue::store_back(queue, row, step.from, step.result.state.waiting);
     step.result
 }
 

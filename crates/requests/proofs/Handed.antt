@@ -1,24 +1,25 @@
 -- Questions 1 to 8 of a queue of words, as the core of a request puts them.
---     plan_refused, store_unfit, queue_unfit, buffers_fit_lem     the answers to questions 1 to 4, 17 and 5
---     plan_passes, row_long                                       what they show where all are yes
---     opening_refused_lem, desk_unfit, by_operation               the verdict of all, by the first question whose answer is no
+--     by_store, by_row, row_long        question 5, by the numbers of words; it shows that those of the row are 192
+--     few_wait                          question 6 shows that no more than 32 wait
+--     opened_refused, opened_passes     the verdict of all, by that of questions 1 to 6 and 17
 -- Assumes nothing.
-use mathlib.Core.Path.{◌≡◌, ◌∙◌, sym, ap}
-use mathlib.Core.Bool.{true, false, false≢true}
-use mathlib.Core.List.{List}
-use Prim.Native.Nat.{ℕ}
-use lib.Dec.{eqb}
+use mathlib.Core.Path.{◌≡◌, refl, ◌∙◌, sym, ap}
+use mathlib.Core.Bool.{Bool, true, false, cond}
+use mathlib.Core.List.{List, []}
+use Prim.Native.Nat.{ℕ, ◌≤◌}
+use lib.Dec.{eqb, ltb, leb}
 use lib.ListN.{length}
-use borrow.Author.Tests.{eq-eqb, ne_eqb}
+use borrow.Author.Tests.{eqb-true, leb-true, eq-eqb, ne_eqb}
 use Rattle.verdict.specs.Verdict.{Verdict, accepted, refused, ask, ◌then◌}
 use Rattle.verdict.proofs.Verdicts.{then_accepted, ask_accepted, then_associates}
-use Rattle.lists.proofs.Laws.{and_snd, by_same}
+use Rattle.lists.proofs.Laws.{and_fst, and_snd, length_tabulate}
+use Rattle.plan.specs.Plan.{Plan}
 use Rattle.plan.specs.Decode.{plan_of}
 use Rattle.plan.specs.Admission.{plan_verdict}
 use Rattle.operation.specs.Admission.{operation_verdict}
 use Rattle.queue.specs.declared.record.Request.{Request}
-use Rattle.queue.specs.Words.{records_in, queue_in}
-use Rattle.queue.proofs.Rows.{queue_in_row, queue_in_none, length_queue_in}
+use Rattle.queue.specs.Words.{record_in, records_in, queue_in}
+use Rattle.queue.proofs.Rows.{queue_in_row}
 use Rattle.desk.specs.declared.state.Desk.{Desk}
 use Rattle.desk.specs.Holding.{holding}
 use Rattle.desk.specs.Queueing.{operation_of}
@@ -26,65 +27,65 @@ use Rattle.desk.specs.Admission.{desk_buffers_fit, desk_fits}
 use Rattle.requests.specs.Request.{request_verdict}
 use Rattle.requests.specs.Step.{opening_verdict}
 
--- ---- questions 1 to 4, 17 and 5
+-- ---- question 5, by the numbers of words
 
-module _ (ws cells row : List ℕ) where
-  pub plan_refused : (question : ℕ) → plan_verdict ws ≡ refused question → opening_verdict ws cells row ≡ refused question
-  unfolding opening_verdict
-  plan_refused question e = rw e
+module _ (cells row : List ℕ) where
+  long_by_row : eqb (length row) 192 ≡ eqb (length (queue_in row)) 32
+  unfolding queue_in
+  long_by_row = go (eqb (length row) 192)
+    where
+      go : (b : Bool) → b ≡ eqb (length (cond b (records_in row) [])) 32
+      go true = sym (ap (λ (n : ℕ). eqb n 32) (length_tabulate 32 (record_in row)))
+      go false = refl
 
-  module _ (e : plan_verdict ws ≡ accepted) where
-    pub store_unfit : (length cells ≡ 1024 → ⊥) → opening_verdict ws cells row ≡ refused 5
-    unfolding opening_verdict desk_buffers_fit
-    store_unfit f = rw (e, ne_eqb _ _ f)
+  pub by_store : (length cells ≡ 1024 → ⊥) → eqb (length cells) 1024 ≡ desk_buffers_fit cells (queue_in row)
+  unfolding desk_buffers_fit
+  by_store n = rw (ne_eqb _ _ n)
 
-    module _ (f : length cells ≡ 1024) where
-      pub queue_unfit : (length row ≡ 192 → ⊥) → opening_verdict ws cells row ≡ refused 5
-      unfolding opening_verdict desk_buffers_fit
-      queue_unfit g = rw (e, eq-eqb _ _ f, queue_in_none row (ne_eqb _ _ g))
+  pub by_row : length cells ≡ 1024 → eqb (length row) 192 ≡ desk_buffers_fit cells (queue_in row)
+  unfolding desk_buffers_fit
+  by_row e = rw (eq-eqb _ _ e, long_by_row)
 
-      pub buffers_fit_lem : length row ≡ 192 → opening_verdict ws cells row ≡ accepted
-      unfolding opening_verdict desk_buffers_fit
-      buffers_fit_lem g = rw (e, eq-eqb _ _ f, eq-eqb _ _ (length_queue_in row g))
+  pub row_long : desk_buffers_fit cells (queue_in row) ≡ true → length row ≡ 192
+  unfolding desk_buffers_fit
+  row_long e = eqb-true (length row) 192 (long_by_row ∙ and_snd (eqb (length cells) 1024) _ e)
 
-  module _ (e : opening_verdict ws cells row ≡ accepted) where
-    pub plan_passes : plan_verdict ws ≡ accepted
-    unfolding opening_verdict
-    plan_passes = (then_accepted (plan_verdict ws) _ e).0
+-- ---- question 6
 
-    queue_long_lem : eqb (length (queue_in row)) 32 ≡ true
-    unfolding opening_verdict desk_buffers_fit
-    queue_long_lem = and_snd (eqb (length cells) 1024) _ (ask_accepted 5 _ (then_accepted (plan_verdict ws) _ e).1)
-
-    pub row_long : length row ≡ 192
-    row_long =
-        by_same (length row) 192 (λ l. l)
-        (λ n. absurd (false≢true (sym (ap (λ (q : List Request). eqb (length q) 32) (queue_in_none row (ne_eqb _ _ n))) ∙ queue_long_lem)))
+pub few_wait : (p : Plan) (d : Desk) (queue : List Request) → desk_fits p d queue ≡ true → d.waiting ≤ 32
+unfolding desk_fits
+few_wait p d queue e = leb-true d.waiting 32 (and_fst (leb d.waiting 32) _ (and_snd (ltb d.desk p.desks) _ e))
 
 -- ---- all of them
 
-module _ (ws : List ℕ) (d : Desk) (cells row : List ℕ) (r : Request) where
-  rest : List Request → Verdict
-  rest queue = ask 6 (desk_fits (plan_of ws) d queue) then operation_verdict (plan_of ws) (operation_of r)
+module _ (ws : List ℕ) (d : Desk) (cells row : List ℕ) where
+  -- questions 1 to 6 and 17
+  abbrev opened : Verdict
+  opened = opening_verdict ws cells row then ask 6 (desk_fits (plan_of ws) d (records_in row))
 
-  handed : request_verdict ws (holding d cells (queue_in row)) r ≡ (opening_verdict ws cells row then rest (queue_in row))
-  unfolding request_verdict opening_verdict rest
-  handed = then_associates (plan_verdict ws) _ (rest (queue_in row))
+  opening_long : opening_verdict ws cells row ≡ accepted → length row ≡ 192
+  unfolding opening_verdict
+  opening_long e = row_long cells row (ask_accepted 5 _ (then_accepted (plan_verdict ws) _ e).1)
 
-  pub opening_refused_lem : (question : ℕ) → opening_verdict ws cells row ≡ refused question
-      → request_verdict ws (holding d cells (queue_in row)) r ≡ refused question
-  opening_refused_lem question e = handed ∙ ap (λ (v : Verdict). v then rest (queue_in row)) e
+  module _ (r : Request) where
+    rest : List Request → Verdict
+    rest queue = ask 6 (desk_fits (plan_of ws) d queue) then operation_verdict (plan_of ws) (operation_of r)
 
-  module _ (e : opening_verdict ws cells row ≡ accepted) where
-    opened : request_verdict ws (holding d cells (queue_in row)) r ≡ rest (records_in row)
-    opened =
-        handed ∙ ap (λ (v : Verdict). v then rest (queue_in row)) e ∙ ap rest (queue_in_row row (row_long ws cells row e))
-
-    pub desk_unfit : desk_fits (plan_of ws) d (records_in row) ≡ false → request_verdict ws (holding d cells (queue_in row)) r ≡ refused 6
+    -- question 6 of the queue is that of the words' records, where question 5 is answered with yes
+    by_opening : (v : Verdict) → opening_verdict ws cells row ≡ v → (v then rest (queue_in row))
+        ≡ ((v then ask 6 (desk_fits (plan_of ws) d (records_in row))) then operation_verdict (plan_of ws) (operation_of r))
     unfolding rest
-    desk_unfit h = opened ∙ rw h
+    by_opening accepted e = ap rest (queue_in_row row (opening_long e))
+    by_opening (refused question) e = refl
 
-    pub by_operation : desk_fits (plan_of ws) d (records_in row) ≡ true
+    handed : request_verdict ws (holding d cells (queue_in row)) r ≡ (opened then operation_verdict (plan_of ws) (operation_of r))
+    unfolding request_verdict opening_verdict rest
+    handed = then_associates (plan_verdict ws) _ (rest (queue_in row)) ∙ by_opening (opening_verdict ws cells row) refl
+
+    pub opened_refused : (question : ℕ) → refused question ≡ opened
+        → request_verdict ws (holding d cells (queue_in row)) r ≡ refused question
+    opened_refused question e = handed ∙ rw (← e)
+
+    pub opened_passes : accepted ≡ opened
         → request_verdict ws (holding d cells (queue_in row)) r ≡ operation_verdict (plan_of ws) (operation_of r)
-    unfolding rest
-    by_operation h = opened ∙ rw h
+    opened_passes e = handed ∙ rw (← e)

@@ -1,27 +1,30 @@
 -- What a request leaves, in two parts. Beside the queue it hangs on the queue by questions 5 and 6 alone; the queue is left with the
 -- record put in at its place.
+--     left_by_verdict      all that is left, by the verdict
 --     left_beside          beside the queue: by the verdict
 --     result_beside        the same of two queues that questions 5 and 6 do not tell apart
---     served_room, waits_only, else_kept       what is shown by the answer that the request waits, and by any other
+--     waits_only, waits_long, waits_ordered     what is shown by the answer that the request waits
+--     else_kept            what is shown by any other
 --     queue_left           the queue with the record put in, by the answer
---     left_whole, refused_left     what is left beside the queue, and that queue, are all that is left; so where the request is refused
---     by_waiting_records   so the rows of a request by value, stored back, are what is left of any queue with these waiting records
+--     left_whole           what is left beside the queue, and that queue, are all that is left
+--     copied_left          so what is left of a queue's copied waiting records, stored back, is what is left of the queue
 -- Assumes nothing.
 use mathlib.Core.Path.{◌≡◌, refl, ◌∙◌, sym, ap, ap₂}
 use mathlib.Core.Bool.{Bool, true, false, cond, false≢true}
-use mathlib.Core.List.{List, []}
+use mathlib.Core.List.{List, [], ◌++◌, append-nil}
+use mathlib.Core.Logic.{◌≢◌}
 use Prim.Native.Nat.{ℕ, ◌+◌, ◌≤◌, ◌<◌}
 use native.Mathlib.Nat.{min-le_left}
 use native.Mathlib.Omega.{arith}
 use lib.Dec.{ltb, eqb}
-use lib.ListN.{length, take}
-use lib.Seq.{length-take-le}
-use borrow.Author.Tests.{eqb-true, ltb-true}
+use lib.ListN.{length, take, drop, drop_of_length-le}
+use lib.Seq.{length-take-le, take_all}
+use borrow.Author.Tests.{eqb-true, ltb-true, eq-eqb, ne_eqb}
 use Rattle.verdict.specs.Verdict.{Verdict, accepted, refused, ask, ◌then◌}
 use Rattle.verdict.proofs.Verdicts.{then_accepted, ask_then_accepted, then_only_after_yes}
 use Rattle.std.specs.List.{insert}
 use Rattle.lists.specs.Lists.{overwritten}
-use Rattle.lists.proofs.Laws.{and_snd}
+use Rattle.lists.proofs.Laws.{and_snd, by_same}
 use Rattle.plan.specs.Plan.{Plan}
 use Rattle.plan.specs.Decode.{plan_of}
 use Rattle.plan.specs.Admission.{plan_verdict}
@@ -29,17 +32,17 @@ use Rattle.operation.specs.Operation.{desk_of}
 use Rattle.operation.specs.Admission.{operation_verdict}
 use Rattle.conflict.specs.Class.{Class, free, local, global, class_of}
 use Rattle.queue.specs.declared.record.Request.{Request}
-use Rattle.queue.specs.Words.{records_in, queue_of, stored_back}
-use Rattle.queue.proofs.Rows.{queue_of_row}
+use Rattle.queue.specs.Words.{records_in, queue_in, words_of, stored_back}
+use Rattle.queue.proofs.Rows.{queue_in_row, length_queue_in, lent_none}
 use Rattle.queue.proofs.StoringBack.{stored_back_empty}
 use Rattle.desk.specs.declared.state.Desk.{Desk}
-use Rattle.desk.specs.Holding.{holding}
+use Rattle.desk.specs.Holding.{Holding, holding}
 use Rattle.desk.specs.Queueing.{operation_of, is_urgent, waiting_in, join_queue}
 use Rattle.desk.specs.Priority.{urgent_lead, join_place}
 use Rattle.desk.specs.Admission.{desk_buffers_fit, desk_fits}
 use Rattle.desk.proofs.Priority.{join_place_fits}
 use Rattle.desk.proofs.QuestionSix.{fits_ordered}
-use Rattle.desk.proofs.SameWaiting.{SameWaiting, same_buffers, same_fits, copied_same}
+use Rattle.desk.proofs.SameWaiting.{SameWaiting, same_buffers, same_fits}
 use Rattle.requests.specs.declared.answer.RequestResult.{RequestResult}
 use Rattle.requests.specs.Request.{
   Response,
@@ -58,8 +61,14 @@ use Rattle.requests.specs.Request.{
 use Rattle.requests.specs.Answer.{response_of, requested_of}
 use Rattle.requests.specs.Step.{place_in, queue_after, store_from, without_queue}
 use Rattle.requests.proofs.Joining.{enqueued_moved}
-use Rattle.requests.proofs.Routes.{left_by_verdict}
 use Rattle.requests.proofs.StoredBack.{inserted_back}
+
+-- ---- by the verdict
+
+pub left_by_verdict : (ws : List ℕ) (h : Holding) (r : Request) (v : Verdict) → request_verdict ws h r ≡ v
+    → request_result ws h r ≡ served h v (plan_of ws) r
+unfolding request_result
+left_by_verdict ws h r v e = ap (λ (w : Verdict). served h w (plan_of ws) r) e
 
 -- ---- beside the queue
 
@@ -157,9 +166,6 @@ module _ (d : Desk) (cells : List ℕ) (q : List Request) (p : Plan) (r : Reques
   accepted_waits accepted e = refl
   accepted_waits (refused question) e = absurd (false≢true e)
 
-  pub served_room : (v : Verdict) → is_waits (served (holding d cells q) v p r).answer ≡ true → d.waiting < 32
-  served_room v e = ((by_verdict v).0 e).room
-
 -- all that is left, with another queue
 abbrev with_queue : Requested → List Request → Requested
 with_queue s q = record { answer = s.answer; state = s.state; cells = s.cells; queue = q }
@@ -208,36 +214,58 @@ module _ (ws : List ℕ) (d : Desk) (cells : List ℕ) (q : List Request) (r : R
       ap (λ (s : Requested). with_queue s q') e
       ∙ ap (with_queue all) (k ∙ ap (λ (s : Requested). queue_after s.answer (plan_of ws) d.waiting q r) e ∙ sym queue_left)
 
-  -- refused: the row stays, and none of its records has changed
-  pub refused_left : (question : ℕ) → request_verdict ws (holding d cells q) r ≡ refused question → (result : RequestResult)
-      → ((cs : List ℕ) → requested_of result cs [] ≡ unchanged (holding d cs []) (request_refused question))
-      → (requested_of result cells q ≡ all) × (d.waiting ≡ store_from (response_of result.answer) (plan_of ws) d.waiting q r)
-  refused_left question v result u =
-      let none : is_waits (response_of result.answer) ≡ false = ap (λ (s : Requested). is_waits s.answer) (u cells) in (
-        left_whole result cells q (u cells ∙ left_beside ws d cells q r (refused question) v)
-            (sym (ap (λ (b : Bool). cond b (overwritten (insert (waiting_in d.waiting q) (place_in (plan_of ws) d.waiting q r) r) q) q)
-            none)),
-        sym (ap (λ (b : Bool). cond b (place_in (plan_of ws) d.waiting q r) d.waiting) none),
-      )
+-- ---- the waiting records of a queue, copied
 
--- ---- a queue handed over by value
+-- The words of a row with the queue's waiting records in front: all of them are lent if the queue has 32 records, and else none.
+module _ (ws : List ℕ) (d : Desk) (cells : List ℕ) (queue : List Request) (row : List ℕ) (long : length row ≡ 192)
+    (copied : length queue ≡ 32 → d.waiting ≤ 32 → take d.waiting (records_in row) ≡ take d.waiting queue) (own : ℕ)
+    (is : own ≡ words_of (length queue)) where
+  abbrev lent : List Request
+  lent = queue_in (take own row)
 
--- what the request of a queue by value says of what it leaves: the result and the row, from where on the records have changed, and the end
-module _ (ws : List ℕ) (d : Desk) (cells : List ℕ) (size : ℕ) (row : List ℕ) (r : Request) (result : RequestResult) (row' : List ℕ)
-    (from end : ℕ) (cells' : List ℕ)
-    (left : requested_of result cells' (queue_of size row') ≡ request_result ws (holding d cells (queue_of size row)) r)
-    (changed : (from ≡ store_from (response_of result.answer) (plan_of ws) d.waiting (queue_of size row) r)
-    × (end ≡ result.state.waiting)) where
-  module _ (queue : List Request) (l : length queue ≡ size)
-      (same : size ≡ 32 → d.waiting ≤ 32 → take d.waiting queue ≡ take d.waiting (records_in row)) where
-    -- beside the queue the same is left
+  module _ (e : length queue ≡ 32) where
+    all_own : own ≡ 192
+    all_own = is ∙ ap (λ (b : Bool). cond b 192 0) (eq-eqb (length queue) 32 e)
+
+    all_lent : take own row ≡ row
+    all_lent = take_all own row (omega (arith, all_own))
+
+    lent_records : lent ≡ records_in row
+    lent_records = ap queue_in all_lent ∙ queue_in_row row long
+
+    lent_all : SameWaiting d.waiting queue lent
+    lent_all = record {
+      long = ap (λ (n : ℕ). eqb n 32) (e ∙ sym (length_queue_in row long))
+          ∙ ap (λ (ws : List ℕ). eqb (length (queue_in ws)) 32) (sym all_lent);
+      records = λ k w. sym (copied k w) ∙ ap (waiting_in d.waiting) (sym lent_records);
+    }
+
+  lent_none_of : length queue ≢ 32 → SameWaiting d.waiting queue lent
+  lent_none_of n = record {
+    long = ne_eqb (length queue) 32 n
+        ∙ sym (ap (λ (q : List Request). eqb (length q) 32) (ap (λ (m : ℕ). queue_in (take m row)) is ∙ lent_none (length queue) row n));
+    records = λ k w. absurd (n k);
+  }
+
+  lent_same : SameWaiting d.waiting queue lent
+  lent_same = by_same (length queue) 32 lent_all lent_none_of
+
+  -- what the request leaves of the words that are lent, and from where on their records have changed
+  module _ (r : Request) (result : RequestResult) (cells' part : List ℕ) (same : length part ≡ length (take own row))
+      (left : requested_of result cells' (queue_in part) ≡ request_result ws (holding d cells lent) r) (from : ℕ)
+      (changed : from ≡ store_from (response_of result.answer) (plan_of ws) d.waiting lent r) where
+    -- beside the queue the same is left of the queue itself
     beside : requested_of result cells' [] ≡ without_queue (request_result ws (holding d cells queue) r)
-    beside =
-        ap without_queue left
-        ∙ sym (result_beside ws d cells r queue (queue_of size row) (copied_same d.waiting size row queue l same))
+    beside = ap without_queue left ∙ sym (result_beside ws d cells r queue lent lent_same)
 
     abbrev whole : Requested
     whole = request_result ws (holding d cells queue) r
+
+    abbrev row' : List ℕ
+    row' = part ++ drop own row
+
+    abbrev end : ℕ
+    end = result.state.waiting
 
     answers : response_of result.answer ≡ whole.answer
     answers = ap (λ (s : Requested). s.answer) beside
@@ -247,41 +275,42 @@ module _ (ws : List ℕ) (d : Desk) (cells : List ℕ) (size : ℕ) (row : List 
         ≡ overwritten (insert (waiting_in d.waiting queue) (place_in (plan_of ws) d.waiting queue r) r) queue
     waiting_stored e =
         let w = waits_only ws d cells queue r (ap is_waits (sym answers) ∙ e) in
-        let long : length queue ≡ 32 = waits_long ws d cells queue r (ap is_waits (sym answers) ∙ e) in
-        let size_is : size ≡ 32 = sym l ∙ long in
-        let front : take d.waiting queue ≡ take d.waiting (records_in row) = same size_is (omega (arith, w.room)) in
-        let lent : queue_of size row ≡ records_in row = queue_of_row size row size_is in
+        let size : length queue ≡ 32 = waits_long ws d cells queue r (ap is_waits (sym answers) ∙ e) in
+        let front : take d.waiting queue ≡ take d.waiting (records_in row) = sym (copied size (omega (arith, w.room))) in
         let place : ℕ = place_in (plan_of ws) d.waiting queue r in
         let fits : place ≤ d.waiting = omega (
           arith,
           join_place_fits (is_urgent (plan_of ws)) (take d.waiting queue) r,
           length-take-le d.waiting queue (omega (arith, w.room)),
         ) in
+        let past : length row ≤ own = omega (arith, long, all_own size) in
+        let words : row' ≡ part = ap (λ (l : List ℕ). part ++ l) (drop_of_length-le row past) ∙ append-nil part in
         ap₂ (stored_back queue row')
-        (changed.0 ∙ ap (λ (b : Bool). cond b (place_in (plan_of ws) d.waiting (queue_of size row) r) d.waiting) e
-        ∙ ap (λ (rs : List Request). join_place (is_urgent (plan_of ws)) rs r) (ap (take d.waiting) lent ∙ sym front))
-        (changed.1 ∙ ap (λ (s : Requested). s.state.waiting) beside ∙ w.state)
-        ∙ inserted_back queue row' (records_in row) place d.waiting r fits (omega (arith, w.room)) long
-        (sym (queue_of_row size row' size_is) ∙ ap (λ (s : Requested). s.queue) left
-        ∙ queue_left ws d cells (queue_of size row) r
+        (changed ∙ ap (λ (b : Bool). cond b (place_in (plan_of ws) d.waiting lent r) d.waiting) e
+        ∙ ap (λ (rs : List Request). join_place (is_urgent (plan_of ws)) rs r)
+        (ap (take d.waiting) (lent_records size) ∙ sym front))
+        (ap (λ (s : Requested). s.state.waiting) beside ∙ w.state)
+        ∙ inserted_back queue row' (records_in row) place d.waiting r fits (omega (arith, w.room)) size
+        (ap records_in words ∙ sym (queue_in_row part (same ∙ ap length (all_lent size) ∙ long)) ∙ ap (λ (s : Requested). s.queue) left
+        ∙ queue_left ws d cells lent r
         ∙ ap₂ (λ (a : Response) (q : List Request). queue_after a (plan_of ws) d.waiting q r)
-        (sym (ap (λ (s : Requested). s.answer) left)) lent
+        (sym (ap (λ (s : Requested). s.answer) left)) (lent_records size)
         ∙ ap (λ (b : Bool). cond b (overwritten (insert (waiting_in d.waiting (records_in row)) (place_in (plan_of ws) d.waiting
         (records_in row) r) r) (records_in row)) (records_in row)) e
         ∙ ap (λ (rs : List Request). overwritten (insert rs (join_place (is_urgent (plan_of ws)) rs r) r) (records_in row)) (sym front))
 
-    pub by_waiting_records : requested_of result cells' (stored_back queue row' from end) ≡ whole
-    by_waiting_records = left_whole ws d cells queue r result cells' (stored_back queue row' from end) beside stored
+    stored : stored_back queue row' from end ≡ queue_after (response_of result.answer) (plan_of ws) d.waiting queue r
+    stored = by_test (is_waits (response_of result.answer)) refl
       where
-        stored : stored_back queue row' from end ≡ queue_after (response_of result.answer) (plan_of ws) d.waiting queue r
-        stored = by_test (is_waits (response_of result.answer)) refl
-          where
-            by_test : (b : Bool) → is_waits (response_of result.answer) ≡ b → stored_back queue row' from end
-                ≡ cond b (overwritten (insert (waiting_in d.waiting queue) (place_in (plan_of ws) d.waiting queue r) r) queue) queue
-            by_test true e = waiting_stored e
-            by_test false e =
-                let k = else_kept ws d cells queue r (ap is_waits (sym answers) ∙ e) in
-                ap₂ (stored_back queue row')
-                (changed.0 ∙ ap (λ (b : Bool). cond b (place_in (plan_of ws) d.waiting (queue_of size row) r) d.waiting) e)
-                (changed.1 ∙ ap (λ (s : Requested). s.state.waiting) beside ∙ ap (λ (t : Desk). t.waiting) k.state)
-                ∙ stored_back_empty queue row' d.waiting d.waiting (min-le_left d.waiting 32)
+        by_test : (b : Bool) → is_waits (response_of result.answer) ≡ b → stored_back queue row' from end
+            ≡ cond b (overwritten (insert (waiting_in d.waiting queue) (place_in (plan_of ws) d.waiting queue r) r) queue) queue
+        by_test true e = waiting_stored e
+        by_test false e =
+            let k = else_kept ws d cells queue r (ap is_waits (sym answers) ∙ e) in
+            ap₂ (stored_back queue row') (changed ∙ ap (λ (b : Bool). cond b (place_in (plan_of ws) d.waiting lent r) d.waiting) e)
+            (ap (λ (s : Requested). s.state.waiting) beside ∙ ap (λ (t : Desk). t.waiting) k.state)
+            ∙ stored_back_empty queue row' d.waiting d.waiting (min-le_left d.waiting 32)
+
+    pub copied_left : requested_of result cells' (stored_back queue (part ++ drop own row) from result.state.waiting)
+        ≡ request_result ws (holding d cells queue) r
+    copied_left = left_whole ws d cells queue r result cells' (stored_back queue row' from end) beside stored

@@ -1,10 +1,10 @@
 // The core of a request at a desk, of a queue of words.
-//     open                       questions 1 to 4, 17, 5 and 6
+//     buffers_fit, open          question 5; questions 1 to 4, 17, 5 and 6
 //     joined, serve              a request that is to wait; questions 7 and 8, and the request by its route
 //     with_state                 the answer with the state after the call
-//     join                       the record put in at its place
+//     join, enqueue              the record put in at its place; the same if the request waits
 //     record_of, request_step    the record of a request; the request
-ghost use Rattle.std.specs.Prelude.{◌≡◌, cond, IfSome, IfOk, List, [], ℕ, ◌<◌, ltb, length, ◌≤◌};
+ghost use Rattle.std.specs.Prelude.{◌≡◌, true, cond, IfSome, IfOk, List, [], ℕ, ◌<◌, ltb, length, ◌≤◌};
 ghost use Rattle.verdict.specs.Verdict.{ask, ◌then◌, verdict_of};
 ghost use Rattle.std.specs.List.{insert};
 ghost use Rattle.lists.specs.Lists.{overwritten};
@@ -15,12 +15,12 @@ ghost use Rattle.operation.specs.Admission.{operation_verdict};
 ghost use Rattle.queue.specs.Queue.{queue_size};
 ghost use Rattle.queue.specs.Words.{records_in, queue_in, queue_words, row_left};
 ghost use Rattle.queue.specs.declared.record.Request.{Request as Queued};
-ghost use Rattle.desk.specs.Admission.{desk_fits};
+ghost use Rattle.desk.specs.Admission.{desk_buffers_fit, desk_fits};
 ghost use Rattle.desk.specs.Holding.{holding};
 ghost use Rattle.desk.specs.Queueing.{operation_of, waiting_in};
-ghost use Rattle.requests.specs.Request.{request_refused, unchanged, enqueued, served, record_of, request_result};
+ghost use Rattle.requests.specs.Request.{is_waits, request_refused, unchanged, enqueued, served, record_of, request_result};
 ghost use Rattle.requests.specs.Answer.{response_of, requested_of, result_of};
-ghost use Rattle.requests.specs.Step.{place_in, store_from, without_queue, opening_verdict};
+ghost use Rattle.requests.specs.Step.{place_in, queue_after, store_from, without_queue, opening_verdict};
 
 use crate::answer::{RequestAnswer, RequestResult, RequestStep};
 use crate::route;
@@ -32,7 +32,16 @@ use plan::Plan;
 use queue::{MOST_WAITING, QUEUE_WORDS, Request};
 use verdict::Refusal;
 
+// Question 5.
+#[tactic(auto, using(crate::proofs::Handed::by_store, crate::proofs::Handed::by_row))]
+fn buffers_fit(cells: &[u32], row: &[u32]) -> bool
+    ensures { result ≡ desk_buffers_fit cells.now (queue_in row.now) }
+{
+    cells.len() == STORE_SIZE && row.len() == QUEUE_WORDS
+}
+
 // Questions 1 to 4, 17, 5 and 6. Where requests wait the table of masks by which 6 is answered is handed on.
+#[tactic(auto, using(crate::proofs::Handed::row_long, crate::proofs::Handed::few_wait), unfolding(crate::specs::Step::opening_verdict))]
 fn open<'a>(
     words: &'a [u32],
     state: Desk,
@@ -47,7 +56,7 @@ fn open<'a>(
     ensures waiting { IfOk result (λ x. state.waiting ≤ queue_size) }
 {
     let plan = Plan::read(words)?;
-    if cells.len() != STORE_SIZE || row.len() != QUEUE_WORDS {
+    if !buffers_fit(cells, row) {
         return Err(Refusal::WrongSize);
     }
     let masks = desk::desk_fits(&plan, state, row)?;
@@ -122,8 +131,27 @@ fn join(plan: &Plan, waiting: usize, row: &mut [u32], request: Request) -> usize
     place
 }
 
+// Puts the record in if the request waits, and gives the place from which on the records have changed.
+fn enqueue(
+    plan: &Plan,
+    waiting: usize,
+    row: &mut [u32],
+    request: Request,
+    answer: Result<RequestAnswer, Refusal>,
+) -> usize
+    requires room { is_waits (response_of answer) ≡ true → waiting < queue_size }
+    requires row { length row.old ≡ queue_words }
+    ensures from { result ≡ store_from (response_of answer) (the_plan plan.now) waiting (records_in row.old) request }
+    ensures queue { records_in row.new ≡ queue_after (response_of answer) (the_plan plan.now) waiting (records_in row.old) request }
+{
+    match answer {
+        Ok(RequestAnswer::Waits) => join(plan, waiting, row, request),
+        Ok(RequestAnswer::Replied(_) | RequestAnswer::Elsewhere(_)) | Err(_) => waiting,
+    }
+}
+
 // The record of a request.
-pub(crate) fn record_of(client: u32, transaction: u32, params: [u32; 4]) -> Request
+pub fn record_of(client: u32, transaction: u32, params: [u32; 4]) -> Request
     ensures { result ≡ record_of client transaction params }
 {
     let [p0, p1, p2, p3] = params;
@@ -138,7 +166,7 @@ pub(crate) fn record_of(client: u32, transaction: u32, params: [u32; 4]) -> Requ
 }
 
 // The request. Nothing is written before the last question.
-pub(crate) fn request_step(
+pub fn request_step(
     words: &[u32],
     state: Desk,
     cells: &mut [u32],
@@ -162,12 +190,7 @@ pub(crate) fn request_step(
         }
     };
     let served = serve(&plan, state, cells, request, masks.as_ref());
-    let from = match served {
-        Ok((RequestAnswer::Waits, _)) => join(&plan, waiting, row, request),
-        _ => waiting,
-    };
-    RequestStep {
-        result: with_state(served, state),
-        from,
-    }
+    let result = with_state(served, state);
+    let from = enqueue(&plan, waiting, row, request, result.answer);
+    RequestStep { result, from }
 }

@@ -21,6 +21,7 @@ pub enum Route {
 }
 
 // Whether the operation is global, by the plan's table of masks: where there is none, one is filled here if the operation writes.
+#[tactic(auto, using(conflict::proofs::Tabled::reading_not_global))]
 fn is_global(plan: &Plan, operation: &Operation, masks: Option<&MaskTable>) -> bool
     requires { IfSome masks (λ t. t.now.plan.words.now ≡ plan.now.words.now) }
     ensures { result ≡ is_global (class_by (the_plan plan.now) (the_transaction operation.now.transaction) operation.now.params) }

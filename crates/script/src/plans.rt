@@ -2,6 +2,7 @@
 use crate::groups::{Group, Groups};
 use crate::words;
 use crate::words::{Count, Others};
+use conveyor::Refusal;
 use std::fmt;
 use word::fields;
 
