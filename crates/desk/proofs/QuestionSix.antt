@@ -1,4 +1,4 @@
--- Question 6, by the tests that answer it: of one record, of the waiting records, and of the state.
+-- Question 6, by the tests that answer it: of the waiting records, and of the state.
 -- Assumes nothing.
 use mathlib.Core.Path.{◌≡◌, refl}
 use mathlib.Core.Bool.{Bool, true, false, ◌&&◌}
@@ -18,22 +18,6 @@ use Rattle.desk.specs.declared.state.Desk.{Desk}
 use Rattle.desk.specs.Queueing.{operation_of, is_urgent, waiting_in}
 use Rattle.desk.specs.Priority.{urgent_lead}
 use Rattle.desk.specs.Admission.{waits_here, queue_fits, desk_fits}
-
--- ---- one record
-
-module _ (p : Plan) (desk : ℕ) (r : Request) where
-  pub no_operation : (question : ℕ) → operation_verdict p (operation_of r) ≡ refused question → waits_here p desk r ≡ false
-  unfolding waits_here
-  no_operation question e = rw e
-
-  module _ (e : operation_verdict p (operation_of r) ≡ accepted) where
-    pub not_global : is_global (class_of p (operation_of r)) ≡ false → waits_here p desk r ≡ false
-    unfolding waits_here
-    not_global g = rw (e, g)
-
-    pub by_desk : is_global (class_of p (operation_of r)) ≡ true → waits_here p desk r ≡ eqb (desk_of p (operation_of r)) desk
-    unfolding waits_here
-    by_desk g = rw (e, g)
 
 -- ---- the waiting records
 

@@ -55,20 +55,8 @@ read_accepted plan frame e = then_accepted (plan_verdict plan) (frame_verdict (p
 pub frame_length_low : (n : ℕ) (frame : List ℕ) → frame_verdict n frame ≡ accepted → 4 ≤ length frame
 frame_length_low n frame e = (headed frame (admitted n frame e).head).low
 
-pub read_length : (plan frame : List ℕ) → read_verdict plan frame ≡ accepted → 4 ≤ length frame
-read_length plan frame e = (headed frame (admitted (plan_of plan).desks frame (read_accepted plan frame e).1).head).low
-
--- n of an accepted plan
-pub desks_range : (plan : List ℕ) → plan_verdict plan ≡ accepted
-    → (1 ≤ length plan) × (1 ≤ head_desks (head_of plan)) × (head_desks (head_of plan) ≤ 8)
-desks_range plan e = let a = accepted_gives plan e in (a.words_low, a.desks_low, a.desks_high)
-
 -- the frame's verdict behind the plan's
 pub read_after : (plan frame : List ℕ) (v : Verdict) → plan_verdict plan ≡ accepted → v ≡ frame_verdict (plan_of plan).desks frame
     → v ≡ read_verdict plan frame
 unfolding read_verdict
 read_after plan frame v p e = rw p e
-
-pub read_refused : (plan frame : List ℕ) (q : ℕ) → plan_verdict plan ≡ refused q → refused q ≡ read_verdict plan frame
-unfolding read_verdict
-read_refused plan frame q p = rw p

@@ -1,5 +1,3 @@
-pub mod Values
-pub mod Rows
 pub mod Admitted
 pub mod NamedCells
 pub mod StepKinds

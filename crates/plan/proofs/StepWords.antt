@@ -51,7 +51,3 @@ module _ (f : Step → Bool) (ws : List ℕ) (at : ℕ) (p : StandsAt ws at) (e 
   every_from (suc s) h =
       ap (λ (i : ℕ). list_all f (steps_from ws at i)) (sym (add-one s))
       ∙ and_snd (f (step_of (step_word ws at s))) _ (ap (list_all f) (sym (steps_cons ws at s p h _ refl)) ∙ every_from s (omega arith))
-
-  pub every_step : (s : ℕ) → s < steps_at ws at → (w : ℕ) → w ≡ step_word ws at s → f (step_of w) ≡ true
-  every_step s h w i =
-      and_fst (f (step_of w)) _ (ap (list_all f) (sym (steps_cons ws at s p h w i)) ∙ every_from s (omega arith))

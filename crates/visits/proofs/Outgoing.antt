@@ -191,4 +191,5 @@ module _ (ws : List ℕ) (h : Holding) (f out replies : List ℕ) (a : Passable 
             replies = q;
           }) (accepted_visit (plan_of ws) h f taken out replies)
       sealed_is visit desks ev ed o w =
-          rw (ev, ed) (accepted_is s caught (2 + n + k) s' o q (end_is joined) r.store (rw (ev, ed) at w ∙ sealed_over joined _ _) r.answers)
+          let frame = rw (ev, ed) at w ∙ sealed_over joined _ _ in
+          rw (ev, ed) (accepted_is s caught (2 + n + k) s' o q (end_is joined) r.store frame r.answers)

@@ -39,10 +39,12 @@ module _ (mask : ℕ → ℕ) (cells : Store) (old : List ℕ) where
   unfolding copied_by
   copying_done k l p h = tabling_done store_size word k l p.taken h
 
-pub copied_by_table : (p : Plan) (cells : Store) (old : List ℕ)
-    → copied_by (λ c. get_or (mask_table p) c 0) cells old ≡ snapshot_taken p cells old
+-- the table of a plan's masks gives the plan's snapshot
+pub taken_by : (p : Plan) (masks : List ℕ) (cells : Store) (old : List ℕ) → masks ≡ mask_table p
+    → copied_by (λ c. get_or masks c 0) cells old ≡ snapshot_taken p cells old
 unfolding copied_by
-copied_by_table p cells old =
-    whole_table store_size (word (desk_mask p) cells old) _ 0 (length_tabulate store_size (word (λ c. get_or (mask_table p) c 0) cells old))
-    (λ c h. get_or_tabulate store_size (word (λ c. get_or (mask_table p) c 0) cells old) c 0 h
-    ∙ ap (λ (m : ℕ). cond (is_shared m) (get_or cells c 0) (get_or old c 0)) (get_or_tabulate store_size (desk_mask p) c 0 h))
+taken_by p masks cells old e =
+    whole_table store_size (word (desk_mask p) cells old) _ 0 (length_tabulate store_size (word (λ c. get_or masks c 0) cells old))
+    (λ c h. get_or_tabulate store_size (word (λ c. get_or masks c 0) cells old) c 0 h
+    ∙ ap (λ (m : ℕ). cond (is_shared m) (get_or cells c 0) (get_or old c 0))
+    (ap (λ (l : List ℕ). get_or l c 0) e ∙ get_or_tabulate store_size (desk_mask p) c 0 h))

@@ -27,18 +27,16 @@ pub(crate) struct Passed<'a> {
 }
 
 // Question 5.
-#[tactic(auto, using(queue::proofs::Rows::queue_in_none, queue::proofs::Rows::length_queue_in), unfolding(desk::specs::Admission::desk_buffers_fit, crate::specs::Admission::visit_buffers_fit))]
+#[tactic(auto, using(crate::proofs::Rows::question_five))]
 fn buffers_fit(cells: &[u32], snapshot: &[u32], row: &[u32], out: &[u32], replies: &[u32]) -> bool
     ensures { result ≡ (desk_buffers_fit cells.now (queue_in row.now)
         && visit_buffers_fit snapshot.now out.now replies.now) }
 {
-    if cells.len() != STORE_SIZE || row.len() != QUEUE_WORDS {
-        return false;
-    }
-    if snapshot.len() != STORE_SIZE {
-        return false;
-    }
-    LONGEST_FRAME <= out.len() && running::REPLIES_SIZE <= replies.len()
+    cells.len() == STORE_SIZE
+        && row.len() == QUEUE_WORDS
+        && snapshot.len() == STORE_SIZE
+        && LONGEST_FRAME <= out.len()
+        && running::REPLIES_SIZE <= replies.len()
 }
 
 // Questions 13 to 15. The visit and the awaited number are compared in 64 bits.

@@ -76,19 +76,17 @@ pub(crate) fn run_waiting(
         out.old replies.old result cells.new out.new replies.new }
 {
     let mut end: usize = 0;
-    for at in 0..waiting {
-        let request = queue::record_in(row, at);
+    for (at, request) in queue::waiting_records(row, waiting).enumerate() {
         let operation = desk::admitted_operation(plan, request);
         let answered = at * REPLY_SIZE;
-        end = end
-            + run_one(
-                &operation,
-                request.client,
-                desk,
-                cells,
-                &mut out[end..],
-                &mut replies[answered..],
-            );
+        end += run_one(
+            &operation,
+            request.client,
+            desk,
+            cells,
+            &mut out[end..],
+            &mut replies[answered..],
+        );
     }
     end
 }

@@ -3,13 +3,11 @@
 use mathlib.Core.Path.{◌≡◌, ◌∙◌, ap}
 use mathlib.Core.List.{List}
 use Prim.Native.Nat.{ℕ}
-use lib.ListN.{get_or}
 use borrow.Author.Rules.{rules}
 use Rattle.plan.specs.Decode.{plan_of}
 use Rattle.plan.specs.Accepted.{the_plan}
 use Rattle.conflict.specs.Touch.{mask_table}
-use Rattle.visits.specs.Snapshot.{copied_by}
-use Rattle.visits.proofs.SharedCopied.{copied_by_table}
+use Rattle.visits.proofs.SharedCopied.{taken_by}
 use Rattle.visits.proofs.snapshot.take_snapshot.Goals as goal
 use Rattle.visits.proofs.snapshot.take_snapshot.Goals.{in-Some, in-None}
 
@@ -22,6 +20,5 @@ returns c =
       | in-None w ↦ search rules
     ] in
     c.copy_shared.ensures
-    ∙ ap (λ (l : List ℕ). copied_by (λ c. get_or l c 0) a.cells.now a.snapshot.now)
+    ∙ taken_by (the_plan a.plan.now) t.masks a.cells.now a.snapshot.now
     (t.filled ∙ ap (λ (ws : List ℕ). mask_table (plan_of ws)) same)
-    ∙ copied_by_table (the_plan a.plan.now) a.cells.now a.snapshot.now
