@@ -180,7 +180,7 @@ module _ {A : Type 0} (urgent : A → Bool) (waiting : List A) (r : A) where
   pub join_length : length (join_queue urgent waiting r) ≡ length waiting + 1
   join_length =
       length-append (filter urgent (waiting ++ (r ∷ []))) _
-          ∙ length-filter_both urgent (λ t. not (urgent t)) (λ _. refl) (waiting ++ (r ∷ [])) ∙ length-append waiting (r ∷ [])
+      ∙ length-filter_both urgent (λ t. not (urgent t)) (λ _. refl) (waiting ++ (r ∷ [])) ∙ length-append waiting (r ∷ [])
 
   -- it holds what waited and the request, and nothing else
   pub join_member : (t : A) → Memᴰ t (join_queue urgent waiting r) → Memᴰ t (r ∷ waiting)

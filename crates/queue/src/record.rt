@@ -8,7 +8,7 @@ pub const QUEUE_SIZE: usize = 32;
 pub const MOST_WAITING: u32 = QUEUE_SIZE as u32;
 
 // The default one is of zeros, which stands for none.
-#[derive(Clone, Copy, Default)]
+#[derive(Clone, Copy, Debug, Default, PartialEq, Eq)]
 pub struct Request {
     pub client: u32,
     pub transaction: u32,

@@ -1,5 +1,5 @@
 // What a call changed of a desk, and behind the words that it wrote.
-use crate::holding::{Holding, Record, State, is_same_record, is_same_state};
+use crate::holding::{Holding, Record, State};
 use crate::words;
 use crate::words::Others;
 use conveyor::Request;
@@ -25,8 +25,8 @@ impl Changes<'_> {
         self.others == 0
             && before.book.as_slice() == after.book.as_slice()
             && before.bulletin.as_slice() == after.bulletin.as_slice()
-            && records.all(|(before, after)| is_same_record(before, after))
-            && is_same_state(before.state, after.state)
+            && records.all(|(before, after)| before == after)
+            && before.state == after.state
     }
 }
 
@@ -67,7 +67,7 @@ struct ChangedRecords<'a> {
 impl fmt::Display for ChangedRecords<'_> {
     fn fmt<W: fmt::Write>(&self, f: &mut fmt::Formatter<W>) -> fmt::Result {
         let pairs = self.before.iter().zip(self.after).enumerate();
-        for (i, (_, after)) in pairs.filter(|(_, (before, after))| !is_same_record(before, after)) {
+        for (i, (_, after)) in pairs.filter(|(_, (before, after))| before != after) {
             write!(f, "; record {i} is now {}", Record(after))?;
         }
         Ok(())
@@ -92,7 +92,7 @@ impl fmt::Display for Changes<'_> {
             after: &after.row,
         };
         write!(f, "{book}{bulletin}{row}")?;
-        if !is_same_state(before.state, after.state) {
+        if before.state != after.state {
             write!(f, "; {}", State(self.number, after.state))?;
         }
         write!(f, "{}", Others(self.others))

@@ -105,17 +105,6 @@ impl Holding {
     }
 }
 
-// Whether two states are the same.
-pub(crate) fn is_same_state(a: Desk, b: Desk) -> bool {
-    (a.desk, a.waiting, a.awaited) == (b.desk, b.waiting, b.awaited)
-}
-
-// Whether two records are the same.
-pub(crate) fn is_same_record(a: &Request, b: &Request) -> bool {
-    (a.client, a.transaction) == (b.client, b.transaction)
-        && [a.p0, a.p1, a.p2, a.p3] == [b.p0, b.p1, b.p2, b.p3]
-}
-
 // The state of the desk of a number.
 #[derive(Clone, Copy)]
 pub(crate) struct State(pub u32, pub Desk);
