@@ -35,7 +35,8 @@ module _ {A : Type 0} (urgent : A → Bool) where
   -- ---- in order
 
   -- behind one that is not urgent none is
-  none_behind : (b : Bool) (rs : List A) → b ≡ false → cond b (urgent_lead urgent rs) (not (list_any urgent rs)) ≡ true → list_any urgent rs ≡ false
+  none_behind : (b : Bool) (rs : List A) → b ≡ false → cond b (urgent_lead urgent rs) (not (list_any urgent rs)) ≡ true
+      → list_any urgent rs ≡ false
   none_behind true rs p e = absurd (false≢true (sym p))
   none_behind false rs p e = not-true (list_any urgent rs) e
 
@@ -65,7 +66,8 @@ module _ {A : Type 0} (urgent : A → Bool) where
   unfolding urgent_lead
   lead_append [] ys e l = l
   lead_append (x ∷ xs) ys e l =
-      ap (λ (b : Bool). cond b (urgent_lead urgent (xs ++ ys)) (not (list_any urgent (xs ++ ys)))) (and_fst (urgent x) (list_all urgent xs) e)
+      ap (λ (b : Bool). cond b (urgent_lead urgent (xs ++ ys)) (not (list_any urgent (xs ++ ys))))
+      (and_fst (urgent x) (list_all urgent xs) e)
       ∙ lead_append xs ys (and_snd (urgent x) (list_all urgent xs) e) l
 
   pub lead_first : (rs : List A) → urgent_lead urgent (urgent_first urgent rs) ≡ true

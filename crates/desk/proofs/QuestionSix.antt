@@ -6,16 +6,12 @@ use mathlib.Core.List.{List}
 use Prim.Native.Nat.{ℕ, ◌%◌, ◌≤◌, ◌<◌}
 use lib.Dec.{ltb, leb, eqb}
 use borrow.Author.Tests.{lt-ltb, le-ltb, lt-leb, le-leb, eq-eqb, ne_eqb}
-use Rattle.verdict.specs.Verdict.{accepted, refused}
 use Rattle.std.specs.List.{list_all}
 use Rattle.lists.proofs.Laws.{and_fst, and_snd}
 use Rattle.plan.specs.Plan.{Plan}
-use Rattle.operation.specs.Operation.{desk_of}
-use Rattle.operation.specs.Admission.{operation_verdict}
-use Rattle.conflict.specs.Class.{is_global, class_of}
 use Rattle.queue.specs.declared.record.Request.{Request}
 use Rattle.desk.specs.declared.state.Desk.{Desk}
-use Rattle.desk.specs.Queueing.{operation_of, is_urgent, waiting_in}
+use Rattle.desk.specs.Queueing.{is_urgent, waiting_in}
 use Rattle.desk.specs.Priority.{urgent_lead}
 use Rattle.desk.specs.Admission.{waits_here, queue_fits, desk_fits}
 

@@ -1,6 +1,7 @@
 -- The cells that steps name, one step after another; and that all of them are those of a store.
 -- Assumes nothing.
-use Rattle.std.proofs.Common.{ℕ, ◌<◌, ◌≡◌, ◌∙◌, sym, ap, refl, Bool, true, false, cond, List, [], ◌∷◌, map, Option, Some, None, IfSome, option_to_list, ◌++◌, ltb}
+use Rattle.std.proofs.Common.{ℕ, ◌<◌, ◌≡◌, ◌∙◌, sym, ap, refl, Bool, true, false, cond, List, [], ◌∷◌, ◌++◌, map, ltb}
+use Rattle.std.proofs.Common.{Option, Some, None, IfSome, option_to_list}
 use mathlib.Core.List.Memᴰ
 use mathlib.Core.List.{Memᴰ}
 use Rattle.std.specs.List.{list_all}

@@ -10,7 +10,7 @@ use native.Mathlib.Omega.{arith}
 use lib.ListN.{length, take, drop, length-drop}
 use lib.Seq.{drop-cons, get_or-drop, get_or-take, length-take-le}
 use Rattle.std.specs.List.{list_all}
-use Rattle.lists.proofs.Laws.{and_fst, and_snd, left_suc, all_index}
+use Rattle.lists.proofs.Laws.{and_snd, left_suc, all_index}
 use Rattle.plan.specs.Plan.{Step}
 use Rattle.plan.specs.Decode.{step_of}
 use Rattle.plan.specs.Admission.{step_formed}

@@ -16,4 +16,5 @@ invariant_of-result c =
 
 pub returns : goal.returns
 returns c =
-    let found = admitted_found (the_plan c.args.plan.now) c.args.request c.requires in record { transaction = search rules; params = search rules }
+    let found = admitted_found (the_plan c.args.plan.now) c.args.request c.requires in
+    record { transaction = search rules; params = search rules }

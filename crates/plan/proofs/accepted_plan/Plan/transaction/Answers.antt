@@ -25,6 +25,7 @@ returns c =
     let p = c.args.self.now in
     let k = c.args.number in
     let n = transaction_count p.words.now p.accepted in
-    let below : k < head_transactions (head_of p.words.now) = omega (arith, n, c.transaction_count.ensures.count, c.if-transaction_count-number.false) in
+    let below : k < head_transactions (head_of p.words.now) =
+    omega (arith, n, c.transaction_count.ensures.count, c.if-transaction_count-number.false) in
     ap Some (c.standing.ensures ∙ transaction_looked_up p.words.now p.places p.accepted p.placed k below)
     ∙ sym (slice_get-get_or (plan_of p.words.now).transactions k no_transaction (omega (arith, n, below)))
