@@ -6,6 +6,7 @@ use arrayvec::ArrayVec;
 use plan::MOST_TELLS;
 
 // Done or declined, with the accumulator at the end or stop; and the told numbers in order, zero where untold.
+// `done` stays a flag beside the number: done and declined both have it, and the definitions and the public answer hold this record.
 #[derive(Clone, Copy, Debug, PartialEq, Eq)]
 pub struct Reply {
     pub done: bool,
