@@ -7,5 +7,5 @@ mod sums;
 mod updates;
 
 pub use accepted_frame::Frame;
-pub use reader::{LEAST_FRAME, LONGEST_FRAME, frame_visit, read_frame};
+pub use reader::{LEAST_FRAME, LONGEST_FRAME, check_frame, frame_visit, read_frame};
 pub use sums::frame_sums;

@@ -72,7 +72,7 @@ fn updates_right(desks: u32, frame: &[u32]) -> bool
 }
 
 // Questions 10 to 12, all of one before the next.
-fn check_frame(desks: u32, frame: &[u32]) -> Result<(), Refusal>
+pub fn check_frame(desks: u32, frame: &[u32]) -> Result<(), Refusal>
     requires { (1 ≤ desks) × (desks ≤ 8) }
     ensures { verdict_of result ≡ frame_verdict desks frame.now }
 {

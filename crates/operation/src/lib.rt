@@ -7,7 +7,8 @@ mod named;
 mod operation;
 mod value;
 
-pub use cells::STORE_SIZE;
+pub use admission::{parameters_pass, transaction_exists};
+pub use cells::{STORE_SIZE, cell_named, desk};
 pub use named::Cells;
 pub use operation::Operation;
 pub use value::source_value;

@@ -10,7 +10,7 @@ use native.Mathlib.Omega.{arith}
 use lib.ListN.{length, take, drop, length-drop}
 use lib.Seq.{drop-cons, get_or-drop, get_or-take, length-take-le}
 use Rattle.std.specs.List.{list_all}
-use Rattle.lists.proofs.Laws.{and_snd, left_suc, all_index}
+use Rattle.lists.proofs.Laws.{and_fst, and_snd, left_suc, all_index}
 use Rattle.plan.specs.Plan.{Step}
 use Rattle.plan.specs.Decode.{step_of}
 use Rattle.plan.specs.Admission.{step_formed}
@@ -51,3 +51,7 @@ module _ (f : Step → Bool) (ws : List ℕ) (at : ℕ) (p : StandsAt ws at) (e 
   every_from (suc s) h =
       ap (λ (i : ℕ). list_all f (steps_from ws at i)) (sym (add-one s))
       ∙ and_snd (f (step_of (step_word ws at s))) _ (ap (list_all f) (sym (steps_cons ws at s p h _ refl)) ∙ every_from s (omega arith))
+
+  pub every_step : (s : ℕ) → s < steps_at ws at → (w : ℕ) → w ≡ step_word ws at s → f (step_of w) ≡ true
+  every_step s h w i =
+      and_fst (f (step_of w)) _ (ap (list_all f) (sym (steps_cons ws at s p h w i)) ∙ every_from s (omega arith))

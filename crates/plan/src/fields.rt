@@ -3,6 +3,7 @@
 //     desks, transaction_count       its counts
 //     standing                       the transaction that stands at a place
 //     parameters, partitioning       its fields
+// `#[inline(always)]`: these are small and run in inner loops.
 ghost use Rattle.std.specs.Prelude.{◌≡◌, ◌<◌, ◌≤◌, OnOk, IfOk, length};
 ghost use Rattle.verdict.specs.Verdict.{verdict_of};
 ghost use Rattle.word.specs.Field.{head_transactions, parameter_count, partitioning_field};
@@ -39,6 +40,7 @@ impl<'a> Plan<'a> {
     }
 
     // How many desks.
+    #[inline(always)]
     pub fn desks(&self) -> u32
         ensures desks { result ≡ (the_plan self.now).desks }
         ensures some { 1 ≤ result }
@@ -48,6 +50,7 @@ impl<'a> Plan<'a> {
     }
 
     // The transaction with this number.
+    #[inline(always)]
     pub fn transaction(&self, number: u32) -> Option<Transaction<'a>>
         ensures { option_map the_transaction result ≡ slice_get (the_plan self.now).transactions number }
     {
@@ -68,6 +71,7 @@ impl<'a> Plan<'a> {
     }
 
     // How many transactions.
+    #[inline(always)]
     pub fn transaction_count(&self) -> u32
         ensures count { result ≡ length (the_plan self.now).transactions }
         ensures most { result ≤ 32 }
@@ -83,6 +87,7 @@ impl<'a> Iterator for Transactions<'a> {
 
     ghost remaining = { item_count the_transactions };
 
+    #[inline(always)]
     fn next(&mut self) -> Option<Transaction<'a>> {
         if self.left == 0 {
             return None;
@@ -108,6 +113,7 @@ impl<'a> Iterator for Steps<'a> {
 
     ghost remaining = { item_count the_steps };
 
+    #[inline(always)]
     fn next(&mut self) -> Option<Step> {
         let (word, rest) = self.rest.split_first()?;
         self.rest = rest;
@@ -117,6 +123,7 @@ impl<'a> Iterator for Steps<'a> {
 
 impl<'a> Transaction<'a> {
     // The transaction that stands at this place.
+    #[inline(always)]
     pub fn standing(plan: &'a [u32], at: usize) -> Self
         requires { StandsAt plan.now at }
         ensures { the_transaction result ≡ transaction_from plan.now at }
@@ -128,6 +135,7 @@ impl<'a> Transaction<'a> {
     }
 
     // Its steps, in order.
+    #[inline(always)]
     pub fn steps(&self) -> Steps<'a>
         ensures { the_steps result ≡ (the_transaction self.now).steps }
     {
@@ -137,6 +145,7 @@ impl<'a> Transaction<'a> {
     }
 
     // How many parameters it has.
+    #[inline(always)]
     pub fn parameters(&self) -> u32
         ensures parameters { result ≡ (the_transaction self.now).params }
         ensures most { result ≤ 4 }
@@ -145,6 +154,7 @@ impl<'a> Transaction<'a> {
     }
 
     // By what its operations go to their desks.
+    #[inline(always)]
     pub fn partitioning(&self) -> Partitioning
         ensures { part_from result ≡ (the_transaction self.now).part }
     {

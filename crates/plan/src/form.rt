@@ -34,7 +34,7 @@ pub(crate) fn counts_in_range(head: u32) -> bool
 }
 
 // Whether a partitioning field names no parameter: it is open, or stands for none.
-fn names_no_parameter(partitioning: u32) -> bool
+pub fn names_no_parameter(partitioning: u32) -> bool
     ensures { result ≡ names_no_parameter partitioning }
 {
     if partitioning == OPEN {

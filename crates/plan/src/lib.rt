@@ -13,9 +13,10 @@ mod transaction;
 mod transactions;
 
 pub use accepted_plan::Plan;
-pub use form::{MOST_TELLS, OPEN, UNPARTITIONED};
+pub use form::{MOST_TELLS, OPEN, UNPARTITIONED, names_no_parameter};
 pub use open::is_open;
 pub use partitioning::Partitioning;
+pub use place::{step_count, step_word, transaction_place, transaction_places, word_at};
 pub use reader::{read_open_plan, read_plan};
 pub use step::{Access, Action, Source, Step};
 pub use transaction::Transaction;

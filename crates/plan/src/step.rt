@@ -2,6 +2,7 @@
 //     Access, Action     what a step does to a cell, and by its operand
 //     Source             where a row or an operand comes from
 //     Step               the step
+// `#[inline(always)]`: these are small and run in inner loops.
 ghost use Rattle.std.specs.Prelude.{◌≡◌};
 ghost use Rattle.word.specs.Field.{table_field, column_field};
 ghost use Rattle.plan.specs.Plan.{cell, operand};
@@ -35,7 +36,8 @@ pub enum Source {
 
 impl Source {
     // The source with this number, beside which this fixed number stands.
-    fn beside(number: u32, fixed: u32) -> Self
+    #[inline(always)]
+    pub fn beside(number: u32, fixed: u32) -> Self
         ensures { source_from result ≡ source_by number fixed }
     {
         if number == 7 {
@@ -56,6 +58,7 @@ pub enum Step {
 
 impl Step {
     // The step that reads or writes the cell in this word.
+    #[inline(always)]
     fn cell(access: Access, word: u32) -> Self
         ensures { step_from result ≡ cell (access_from access) (table_field word) (column_field word) (row_of word) }
     {
@@ -69,6 +72,7 @@ impl Step {
     }
 
     // The step that sets, adds, needs or takes the operand in this word.
+    #[inline(always)]
     fn operand(action: Action, word: u32) -> Self
         ensures { step_from result ≡ operand (action_from action) (operand_of word) }
     {
@@ -83,6 +87,7 @@ impl From<u32> for Step {
     ghost from_gives = { λ word step. step_from step ≡ step_of word };
 
     #[tactic(auto, unfolding(crate::specs::Decode::step_of, crate::specs::Decode::access_by, crate::specs::Decode::action_by))]
+    #[inline(always)]
     fn from(word: u32) -> Step {
         match word / fields::KIND {
             3 => Step::cell(Access::Read, word),
