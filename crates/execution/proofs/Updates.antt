@@ -12,12 +12,12 @@ use Rattle.std.proofs.lemmas.List.{drop_more}
 use Rattle.std.proofs.lemmas.Grind.{reverse_onto}
 use Rattle.operation.specs.Store.{Store, Update, apply_update}
 
-apply_append : (u v : Update) (s : Store) → apply_update (u ++ v) s ≡ apply_update v (apply_update u s)
+pub apply_append : (u v : Update) (s : Store) → apply_update (u ++ v) s ≡ apply_update v (apply_update u s)
 unfolding apply_update
 apply_append [] v s = refl
 apply_append (w ∷ u) v s = apply_append u v (set s w.0 w.1)
 
-apply_length : (u : Update) (s : Store) → length (apply_update u s) ≡ length s
+pub apply_length : (u : Update) (s : Store) → length (apply_update u s) ≡ length s
 unfolding apply_update
 apply_length [] s = refl
 apply_length (w ∷ u) s = apply_length u (set s w.0 w.1) ∙ length-set s w.0 w.1

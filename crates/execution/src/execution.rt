@@ -13,7 +13,8 @@ ghost use Rattle.execution.specs.Run.{act as act_on, run_transaction};
 ghost use Rattle.execution.specs.Answer.{next_of, update_of, outcome_of};
 
 use crate::outcome;
-use crate::outcome::{Outcome, Told, Update};
+use crate::outcome::{Outcome, Told};
+use crate::update::Update;
 use operation::Operation;
 use plan::{Access, Action, Source, Step};
 
@@ -46,7 +47,7 @@ fn seen(store: &[u32], update: &Update, cell: u32) -> u32
     let Some(stored) = store.get(cell as usize) else {
         return 0;
     };
-    match update.iter().rev().find(|pair| pair.0 == cell) {
+    match update.as_slice().iter().rev().find(|pair| pair.0 == cell) {
         Some((_, latest)) => *latest,
         None => *stored,
     }
@@ -56,7 +57,7 @@ fn seen(store: &[u32], update: &Update, cell: u32) -> u32
 pub fn apply(store: &mut [u32], update: &Update)
     ensures { store.new ≡ apply_update (update_of update.now) store.old }
 {
-    for (cell, value) in update.iter() {
+    for (cell, value) in update.as_slice() {
         // By index: tried with get_mut, of which a proof learns the slice's length and no element.
         let at = *cell as usize;
         if at < store.len() {

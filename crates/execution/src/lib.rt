@@ -3,6 +3,8 @@
 
 mod execution;
 mod outcome;
+mod update;
 
 pub use execution::{apply, run};
-pub use outcome::{Outcome, Reply, Update};
+pub use outcome::{Outcome, Reply};
+pub use update::Update;

@@ -2,6 +2,7 @@
 ghost use Rattle.std.specs.Prelude.{◌≡◌, get_or};
 ghost use Rattle.execution.specs.Run.{reply_with};
 
+use crate::update::Update;
 use arrayvec::ArrayVec;
 use plan::MOST_TELLS;
 
@@ -17,10 +18,7 @@ pub struct Reply {
     pub told3: u32,
 }
 
-// The written cells and values in step order.
-pub type Update = ArrayVec<(u32, u32), 12>;
-
-#[derive(Drop)]
+#[derive(Clone, Copy)]
 pub struct Outcome {
     pub reply: Reply,
     pub update: Update,

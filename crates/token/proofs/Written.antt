@@ -1,6 +1,6 @@
 -- The words of an update, written pair by pair into the front of a list.
 -- Assumes nothing.
-use Rattle.std.proofs.Common.{ℕ, ◌+◌, ◌*◌, ◌≤◌, ◌<◌, ◌≡◌, refl, ap, List, [], ◌∷◌, length, get_or, set, drop, arith}
+use Rattle.std.proofs.Common.{ℕ, ◌+◌, ◌*◌, ◌≤◌, ◌<◌, ◌≡◌, refl, ap, List, [], ◌∷◌, ◌++◌, length, get_or, set, drop, arith}
 use Rattle.std.proofs.lemmas.List.{drop_more}
 use lib.ListN.{drop_of_length-le}
 use Rattle.lists.specs.Lists.{overwritten}
@@ -14,6 +14,11 @@ pub writes_length : (u : Update) → length (write_words u) ≡ 2 * length u
 unfolding write_words
 writes_length [] = refl
 writes_length (w ∷ u) = omega (arith, writes_length u)
+
+pub writes_append : (u v : Update) → write_words (u ++ v) ≡ write_words u ++ write_words v
+unfolding write_words
+writes_append [] v = refl
+writes_append (w ∷ u) v = ap (λ (t : List ℕ). cell_word w.0 ∷ w.1 ∷ t) (writes_append u v)
 
 pub update_length : (u : SentUpdate) → length (update_words u) ≡ 1 + 2 * length u.writes
 unfolding update_words

@@ -39,9 +39,10 @@ pub fn write_update(out: &mut [u32], desk: u32, update: &Update) -> usize
     ensures written { out.new ≡ overwritten (update_words (sent desk (update_of update.now))) out.old }
 {
     // By index: tried with chunks_exact_mut and zip, in whose loop an invariant cannot name the words that are written.
-    out[0] = update_head(desk, update.len());
+    let pairs = update.as_slice();
+    out[0] = update_head(desk, pairs.len());
     let mut end: usize = 1;
-    for (cell, value) in update.iter() {
+    for (cell, value) in pairs {
         out[end] = cell_word(*cell);
         out[end + 1] = *value;
         end += 2;

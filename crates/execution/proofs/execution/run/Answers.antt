@@ -31,7 +31,7 @@ push-requires c =
 pub loop-step-preserved-in-Write : goal.loop-step-preserved-in-Write
 loop-step-preserved-in-Write c =
     let e = c.in-Some.ensures.steps in
-    running_write c.loop-step.invariant _ _ (rw (c.in-Cell.is, c.in-Write.is) at e) c.cell_number-cell.ensures c.push.ensures.items
+    running_write c.loop-step.invariant _ _ (rw (c.in-Cell.is, c.in-Write.is) at e) c.cell_number-cell.ensures c.push.ensures
 
 pub returns-in_default : goal.returns-in_default
 returns-in_default c =

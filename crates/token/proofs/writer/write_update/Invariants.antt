@@ -2,10 +2,11 @@
 -- Assumes nothing.
 use Rattle.std.proofs.Common.{drop}
 use Rattle.lists.proofs.Laws.{Filling}
+use Rattle.execution.specs.Answer.{update_of}
 use Rattle.frame.specs.Frame.{sent, write_words, update_words}
 use Rattle.token.proofs.writer.write_update.Given as goal
 
 abbrev pub invariant-loop-cell : goal.invariant-loop-cell
 invariant-loop-cell l =
-    let whole = update_words (sent l.desk l.update.items) in
-    Filling whole l.fn.out l.out l.end (write_words (drop l.cell-index l.update.items))
+    let whole = update_words (sent l.desk (update_of l.update)) in
+    Filling whole l.fn.out l.out l.end (write_words (drop l.cell-index (update_of l.update)))
