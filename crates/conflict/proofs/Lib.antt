@@ -18,3 +18,4 @@ pub mod Classes
 pub mod CauseMeaning
 pub mod Found
 pub mod Answers
+pub mod ReadCells

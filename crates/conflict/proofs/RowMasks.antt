@@ -31,7 +31,7 @@ all_test n = eqb (255 / 2 ^ (8 - n)) (mask_of n (λ d. ltb d n))
 abbrev own_test : ℕ → ℕ → Bool
 own_test n r = leb n r || eqb (1 * 2 ^ r % 256) (mask_of n (λ d. eqb d r))
 
-zero_law : (n : ℕ) → 1 ≤ n → n ≤ 8 → 1 ≡ mask_of n (λ d. eqb d 0)
+pub zero_law : (n : ℕ) → 1 ≤ n → n ≤ 8 → 1 ≡ mask_of n (λ d. eqb d 0)
 unfolding mask_of
 zero_law n lo hi = eqb→eq _ _ (or_second (leb n 0) (eqb 1 (mask_of n (λ d. eqb d 0))) (lt-leb n 0 (omega arith))
     (below_at 9 zero_test tt n (omega arith)))

@@ -10,6 +10,7 @@ mod shared;
 mod written;
 
 pub use cause::Cause;
-pub use class::{Class, classify, has_write, is_free};
+pub use class::{Class, classify, has_write, is_free, is_global};
+pub use mask::fill_masks;
 pub use mask_table::MaskTable;
 pub use shared::is_shared;

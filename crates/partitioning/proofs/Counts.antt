@@ -28,7 +28,7 @@ count_low [] = omega arith
 count_low (w ∷ os) = rw (pow-succ' 16 (length os)) (mul-le-mul (candidates_low w) (count_low os))
 
 -- with as many open words as the chooser takes
-count_fits : (os : List ℕ) → length os ≤ most_open → filling_count os ≤ 16 ^ most_open
+pub count_fits : (os : List ℕ) → length os ≤ most_open → filling_count os ≤ 16 ^ most_open
 count_fits os h = let k : 16 ^ length os ≤ 16 ^ most_open = pow-le-pow_right (omega arith) h in omega (arith, count_low os)
 
 -- ---- as a product

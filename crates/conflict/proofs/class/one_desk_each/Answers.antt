@@ -9,5 +9,5 @@ use Rattle.conflict.proofs.class.one_desk_each.Goals as goal
 
 pub returns : goal.returns
 returns c =
-    all_from_yields_List (λ k. eqb (ones (get_or c.args.masks.now.masks k 0)) 1) c.all.new.self _ c.all.result c.all.ensures.ran
+    all_from_yields_List (λ k. eqb (ones (get_or c.args.masks.now k 0)) 1) c.all.new.self _ c.all.result c.all.ensures.ran
     (YieldsList-from_first (λ x. x) the_cells _ c.cells.ensures) (λ x b q k. search (rules, tests))

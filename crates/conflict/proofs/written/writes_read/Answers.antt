@@ -1,10 +1,9 @@
--- Whether a step may write a cell that an operation reads: of a write step the test of each cell, and else no.
+-- Whether a step may write one of some cells: of a write step the test of each cell, and else no.
 -- Assumes nothing.
 use Rattle.std.proofs.Common.{◌∙◌, rules, tests}
-use Rattle.std.proofs.lemmas.Iterator.Consumers.{YieldsList-from_first}
+use Rattle.std.proofs.lemmas.Iterator.{YieldsList-from_slice}
 use Rattle.std.proofs.lemmas.Iterator.Search.{any_from_yields_List}
 use Rattle.plan.specs.Step.{source_from}
-use Rattle.operation.specs.Cells.{the_cells}
 use Rattle.conflict.specs.Written.{cell_given}
 use Rattle.conflict.proofs.WriteSteps.{writes_given, writes_none}
 use Rattle.conflict.proofs.written.writes_read.Goals as goal
@@ -14,7 +13,7 @@ returns-then-eq c =
     let i = c.in-Cell in
     writes_given _ i.table i.column i.source (search rules) _ _
     (any_from_yields_List (cell_given i.table i.column (source_from i.source)) c.any.new.self _ c.any.result c.any.ensures.ran
-    (YieldsList-from_first (λ x. x) the_cells _ c.cells.ensures) (λ x b q k. search (rules, tests)))
+    (YieldsList-from_slice c.args.cells.now cc) (λ x b q k. search (rules, tests)))
 
 pub returns-else-eq : goal.returns-else-eq
 returns-else-eq c = c.if-eq.false ∙ writes_none _ _ (λ t k r e. search rules)

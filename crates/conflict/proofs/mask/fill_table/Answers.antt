@@ -4,7 +4,7 @@ use Rattle.std.proofs.Common.{◌∙◌, ap}
 use Rattle.plan.specs.Transaction.{the_steps, the_transactions}
 use Rattle.conflict.proofs.Filling.{start, enter, step_on, leave, done}
 use Rattle.conflict.proofs.InBits.{first_in_bits}
-use Rattle.conflict.proofs.mask.fill_masks.Goals as goal
+use Rattle.conflict.proofs.mask.fill_table.Goals as goal
 
 pub loop-transaction-init : goal.loop-transaction-init
 loop-transaction-init c =

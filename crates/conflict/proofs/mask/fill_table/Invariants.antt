@@ -3,7 +3,7 @@
 use Rattle.plan.specs.Step.{part_from}
 use Rattle.plan.specs.Transaction.{the_steps, the_transactions}
 use Rattle.conflict.proofs.Filling.{Filling, FillingIn}
-use Rattle.conflict.proofs.mask.fill_masks.Given as goal
+use Rattle.conflict.proofs.mask.fill_table.Given as goal
 
 abbrev pub invariant-loop-step : goal.invariant-loop-step
 invariant-loop-step l =
