@@ -7,6 +7,7 @@ use borrow.Author.Tests.{ltb-true}
 use Rattle.verdict.specs.Verdict.{accepted}
 use Rattle.verdict.proofs.Verdicts.{ask_accepted, ask_then_accepted}
 use Rattle.plan.specs.Plan.{Transaction, Plan, no_transaction}
+use Rattle.plan.specs.Decode.{plan_of}
 use Rattle.plan.specs.Transaction.{the_transaction}
 use Rattle.operation.specs.Operation.{transaction_of, desk_by, desk_of}
 use Rattle.operation.specs.declared.operation.Operation.{Operation}
@@ -17,6 +18,7 @@ use Rattle.conflict.specs.Class.{class_by, class_of}
 use Rattle.queue.specs.Queue.{params_of}
 use Rattle.queue.specs.declared.record.Request.{Request}
 use Rattle.desk.specs.Queueing.{operation_of}
+use Rattle.desk.specs.Admission.{Admitted}
 use Rattle.desk.specs.Asked.{IsAsked}
 
 module _ (p : Plan) (r : Request) (o : Operation) (a : IsAsked p r o) where
@@ -38,15 +40,20 @@ none_past (x ∷ xs) zero d e = cc
 none_past (x ∷ xs) (suc i) d e = none_past xs i d e
 
 module _ (p : Plan) (r : Request) (e : operation_verdict p (operation_of r) ≡ accepted) where
-  admitted_exists : r.transaction < length p.transactions
+  transaction_low : r.transaction < length p.transactions
   unfolding operation_verdict transaction_exists
-  admitted_exists = ltb-true _ _ (ask_then_accepted 7 (ltb r.transaction (length p.transactions)) _ e).0
+  transaction_low = ltb-true _ _ (ask_then_accepted 7 (ltb r.transaction (length p.transactions)) _ e).0
 
   pub admitted_found : slice_get p.transactions r.transaction ≡ Some (transaction_of p (operation_of r))
-  admitted_found = slice_get-get_or p.transactions r.transaction no_transaction admitted_exists
+  admitted_found = slice_get-get_or p.transactions r.transaction no_transaction transaction_low
 
   pub admitted_passes : parameters_pass (transaction_of p (operation_of r)) (params_of r) ≡ true
   unfolding operation_verdict
   admitted_passes =
       ask_accepted 8 (parameters_pass (transaction_of p (operation_of r)) (params_of r))
       (ask_then_accepted 7 (transaction_exists p r.transaction) _ e).1
+
+module _ (ws : List ℕ) (r : Request) (a : Admitted ws r) where
+  pub admitted_exists : transaction_exists (plan_of ws) r.transaction ≡ true
+  unfolding operation_verdict
+  admitted_exists = (ask_then_accepted 7 (transaction_exists (plan_of ws) r.transaction) _ a.passed).0

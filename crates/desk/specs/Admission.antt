@@ -1,5 +1,5 @@
 -- Questions 5 and 6: the buffers that every call at a desk is lent, and the desk's state.
-use Rattle.std.specs.Prelude.{ℕ, ◌%◌, ◌≡◌, Bool, ◌&&◌, List, ltb, leb, eqb, length}
+use Rattle.std.specs.Prelude.{ℕ, ◌%◌, ◌≡◌, Bool, ◌&&◌, List, [], ltb, leb, eqb, length}
 use Rattle.verdict.specs.Verdict.{accepted, is_accepted}
 use Rattle.std.specs.List.{list_all}
 use Rattle.plan.specs.Plan.{Plan}
@@ -40,3 +40,7 @@ unfoldable pub desk_fits : Plan → Desk → List Request → Bool
 desk_fits p d queue =
     ltb d.desk p.desks && (leb d.waiting queue_size && (eqb (d.awaited % p.desks) d.desk
     && queue_fits p d.desk (waiting_in d.waiting queue)))
+
+-- 6, of the state alone: no record is asked
+abbrev pub state_fits : Plan → Desk → Bool
+state_fits p d = desk_fits p d []

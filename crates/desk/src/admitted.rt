@@ -16,6 +16,7 @@ use queue::Request;
 use verdict::Refusal;
 
 // Questions 7 and 8.
+#[inline(always)]
 pub fn admit<'a>(plan: &Plan<'a>, request: Request) -> Result<Operation<'a>, Refusal>
     ensures verdict { verdict_of result ≡ operation_verdict (the_plan plan.now) (operation_of request) }
     ensures asked { IfOk result (IsAsked (the_plan plan.now) request) }
@@ -36,6 +37,7 @@ pub fn run_operation(operation: &Operation, cells: &mut [u32]) -> Reply
 }
 
 // The operation of a request that passes questions 7 and 8.
+#[inline(always)]
 pub fn admitted_operation<'a>(plan: &Plan<'a>, request: Request) -> Operation<'a>
     requires { operation_verdict (the_plan plan.now) (operation_of request) ≡ accepted }
     ensures { IsAsked (the_plan plan.now) request result }

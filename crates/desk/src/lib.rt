@@ -7,6 +7,6 @@ mod state;
 mod urgent;
 
 pub use admitted::{admit, admitted_operation, run_operation};
-pub use check::desk_fits;
+pub use check::{desk_fits, state_fits};
 pub use state::{Desk, new_desk};
 pub use urgent::join_place;

@@ -14,6 +14,7 @@ use plan::Plan;
 use queue::Request;
 
 // Whether the record's transaction is urgent: one that does not exist is not.
+#[inline(always)]
 fn is_urgent(plan: &Plan, request: &Request) -> bool
     ensures { result ≡ is_urgent (the_plan plan.now) request.now }
 {

@@ -1,8 +1,9 @@
 -- The first records of a queue, stored one by one among words that are zero.
 --     stored_first_length                       there are 192 words
 --     stored_first_start, stored_first_next     no record, and one record more
+--     stored_first_bounded                      no record past the 32nd is stored
 --     stored_first_all                          at the last of 32 records at most, all are stored
---     copying                                   these three, which the copying loop rests on
+--     copying                                   no record, one more and the last, which the copying loop rests on
 --     records_in_stored_in                      a record that is stored among the words of a queue is stored among its records
 --     waiting_records                           the records that wait in a queue of 32 are read from its words as from the queue
 -- Assumes nothing.
@@ -42,7 +43,7 @@ module _ (queue : List Request) where
       ∙ stored_in_past (stored_first (32 + k) queue) (32 + k) (record_at queue (32 + k)) (stored_first_length (32 + k)) (omega arith)
       ∙ stored_first_next (32 + k) ∙ ap (λ (m : ℕ). stored_first m queue) (omega arith)
 
-  stored_first_bounded : (n : ℕ) → stored_first (min n 32) queue ≡ stored_first n queue
+  pub stored_first_bounded : (n : ℕ) → stored_first (min n 32) queue ≡ stored_first n queue
   stored_first_bounded n =
       by_less n 32 (λ l. ap (λ (m : ℕ). stored_first m queue) (min-eq_left (omega arith)))
       (λ l. ap (λ (m : ℕ). stored_first m queue) (min-eq_right l) ∙ past (n - 32) ∙ ap (λ (m : ℕ). stored_first m queue) (omega arith))

@@ -5,7 +5,7 @@
 --     words_of_short, lent_row, lent_none               at most 192 of the words are its own; these stand for the same queue, or for none
 --     queue_in_stored_in                                a record stored among the words is stored in the queue
 --     words_stored                                      the six words of a record written at once
---     by_words                                          a record in a row, by its words
+--     by_fields, by_words                               a record by its fields; one in a row by its words
 --     stored_in_length, stored_in_past                  no word is added or lost, and past the end nothing is stored
 -- Assumes nothing.
 use mathlib.Core.Path.{◌≡◌, refl, sym, ◌∙◌, ap}
@@ -170,7 +170,7 @@ words_stored ws vs i r h e =
     put_mid-paste i (i + 6 - i) ws vs words 6 e (omega arith) refl ∙ sym (sets-eq words ws i h) ∙ by_steps
 
 -- a record, by its fields
-by_fields : (a b : Request) → a.client ≡ b.client → a.transaction ≡ b.transaction → a.p0 ≡ b.p0 → a.p1 ≡ b.p1 → a.p2 ≡ b.p2
+pub by_fields : (a b : Request) → a.client ≡ b.client → a.transaction ≡ b.transaction → a.p0 ≡ b.p0 → a.p1 ≡ b.p1 → a.p2 ≡ b.p2
     → a.p3 ≡ b.p3 → a ≡ b
 by_fields a b c t p q r s = λ i. record { client = c i; transaction = t i; p0 = p i; p1 = q i; p2 = r i; p3 = s i }
 

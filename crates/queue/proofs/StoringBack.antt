@@ -3,9 +3,10 @@
 --     get_or_stored_back                                        the record at a place
 --     get_or_stored_back_within, get_or_stored_back_outside     the same, where the place is one of those, and where it is not
 --     stored_back_empty                                         of no places
+--     stored_back_bounded                                       no record past the 32nd is stored
 --     stored_back_next                                          of one place more
 --     stored_back_all                                           at the last place all is stored
---     storing_back                                              these three, which the loop rests on
+--     storing_back                                              of no places, of one more and at the last, which the loop rests on
 -- Assumes nothing.
 use mathlib.Core.Path.{◌≡◌, sym, ◌∙◌, ap}
 use mathlib.Core.Logic.{◌≢◌, ◌⊎◌, inl, inr, ⊎_elim}
@@ -61,7 +62,7 @@ module _ (queue : List Request) (ws : List ℕ) (from end : ℕ) where
       ext_get_or no_request (stored_back queue ws from end) queue length_stored_back (λ i h.
       get_or_stored_back_outside i (by_less i from inl (λ l. inr (omega arith))))
 
-  stored_back_bounded : stored_back queue ws from (min end 32) ≡ stored_back queue ws from end
+  pub stored_back_bounded : stored_back queue ws from (min end 32) ≡ stored_back queue ws from end
   unfolding stored_back
   stored_back_bounded =
       ap (λ (m : ℕ). tabulate (length queue) (λ i. cond (leb from i && ltb i m) (record_in ws i) (record_at queue i)))

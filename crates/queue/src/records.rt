@@ -1,4 +1,5 @@
 // The records that wait in a queue of words, one after another.
+// `#[inline(always)]`: these are small and run in inner loops.
 ghost use Rattle.std.specs.Prelude.{◌≡◌, ◌≤◌, take};
 ghost use Rattle.std.specs.Iterator.{YieldsFirst, item_count};
 ghost use Rattle.queue.specs.Queue.{queue_size};
@@ -17,6 +18,7 @@ impl<'a> Iterator for Waiting<'a> {
     ghost remaining = { item_count the_waiting };
 
     #[tactic(auto, using(crate::proofs::WaitingRecords::waiting_here, crate::proofs::WaitingRecords::waiting_past))]
+    #[inline(always)]
     fn next(&mut self) -> Option<Request> {
         let at = self.next;
         if self.end <= at {

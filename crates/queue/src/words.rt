@@ -1,5 +1,6 @@
 // The queue as plain words, six a record: one record read, one stored, one put in before others, and how many words a queue of some
 // length has.
+// `#[inline(always)]`: these are small and run in inner loops.
 ghost use Rattle.std.specs.Prelude.{◌≡◌, ◌<◌, ◌+◌, ◌≤◌, length, get_or, take};
 ghost use Rattle.std.specs.List.{insert};
 ghost use Rattle.lists.specs.Lists.{overwritten};
@@ -14,6 +15,7 @@ const RECORD_SIZE: usize = 6;
 pub const QUEUE_WORDS: usize = RECORD_SIZE * QUEUE_SIZE;
 
 // The record at a place; words past the end are read as 0.
+#[inline(always)]
 pub fn record_in(row: &[u32], at: usize) -> Request
     requires { at < queue_size }
     ensures { result ≡ record_in row.now at }

@@ -1,18 +1,19 @@
 -- Questions 1 to 8 of a queue of words, as the core of a request puts them.
 --     by_store, by_row, row_long        question 5, by the numbers of words; it shows that those of the row are 192
---     few_wait                          question 6 shows that no more than 32 wait
+--     none_waits                        question 6 is of the state alone where none waits
+--     plan_refused                      the verdict of all, where one of 1 to 4 and 17 is answered with no
 --     opened_refused, opened_passes     the verdict of all, by that of questions 1 to 6 and 17
 -- Assumes nothing.
 use mathlib.Core.Path.{◌≡◌, refl, ◌∙◌, sym, ap}
 use mathlib.Core.Bool.{Bool, true, false, cond}
 use mathlib.Core.List.{List, []}
-use Prim.Native.Nat.{ℕ, ◌≤◌}
-use lib.Dec.{eqb, ltb, leb}
+use Prim.Native.Nat.{ℕ}
+use lib.Dec.{eqb}
 use lib.ListN.{length}
-use borrow.Author.Tests.{eqb-true, leb-true, eq-eqb, ne_eqb}
+use borrow.Author.Tests.{eqb-true, eq-eqb, ne_eqb}
 use Rattle.verdict.specs.Verdict.{Verdict, accepted, refused, ask, ◌then◌}
 use Rattle.verdict.proofs.Verdicts.{then_accepted, ask_accepted, then_associates}
-use Rattle.lists.proofs.Laws.{and_fst, and_snd, length_tabulate}
+use Rattle.lists.proofs.Laws.{and_snd, length_tabulate}
 use Rattle.plan.specs.Plan.{Plan}
 use Rattle.plan.specs.Decode.{plan_of}
 use Rattle.plan.specs.Admission.{plan_verdict}
@@ -23,7 +24,8 @@ use Rattle.queue.proofs.Rows.{queue_in_row}
 use Rattle.desk.specs.declared.state.Desk.{Desk}
 use Rattle.desk.specs.Holding.{holding}
 use Rattle.desk.specs.Queueing.{operation_of}
-use Rattle.desk.specs.Admission.{desk_buffers_fit, desk_fits}
+use Rattle.desk.specs.Admission.{desk_buffers_fit, desk_fits, state_fits}
+use Rattle.desk.proofs.QuestionSix.{state_alone}
 use Rattle.requests.specs.Request.{request_verdict}
 use Rattle.requests.specs.Step.{opening_verdict}
 
@@ -52,9 +54,8 @@ module _ (cells row : List ℕ) where
 
 -- ---- question 6
 
-pub few_wait : (p : Plan) (d : Desk) (queue : List Request) → desk_fits p d queue ≡ true → d.waiting ≤ 32
-unfolding desk_fits
-few_wait p d queue e = leb-true d.waiting 32 (and_fst (leb d.waiting 32) _ (and_snd (ltb d.desk p.desks) _ e))
+pub none_waits : (p : Plan) (d : Desk) (queue : List Request) → d.waiting ≡ 0 → desk_fits p d queue ≡ state_fits p d
+none_waits p d queue e = state_alone p d queue e
 
 -- ---- all of them
 
@@ -81,6 +82,11 @@ module _ (ws : List ℕ) (d : Desk) (cells row : List ℕ) where
     handed : request_verdict ws (holding d cells (queue_in row)) r ≡ (opened then operation_verdict (plan_of ws) (operation_of r))
     unfolding request_verdict opening_verdict rest
     handed = then_associates (plan_verdict ws) _ (rest (queue_in row)) ∙ by_opening (opening_verdict ws cells row) refl
+
+    pub plan_refused : (question : ℕ) → refused question ≡ plan_verdict ws
+        → request_verdict ws (holding d cells (queue_in row)) r ≡ refused question
+    unfolding request_verdict
+    plan_refused question e = rw (← e)
 
     pub opened_refused : (question : ℕ) → refused question ≡ opened
         → request_verdict ws (holding d cells (queue_in row)) r ≡ refused question

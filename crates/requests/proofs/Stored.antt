@@ -7,7 +7,9 @@
 --     else_kept            what is shown by any other
 --     queue_left           the queue with the record put in, by the answer
 --     left_whole           what is left beside the queue, and that queue, are all that is left
---     copied_left          so what is left of a queue's copied waiting records, stored back, is what is left of the queue
+--     stored_left          so what is left of another queue with the same waiting records, stored back, is what is left of the queue
+--     by_waiting_records   the other is handed over as words with its length
+--     copied_left          the other is lent as words, as many as a queue of its length has
 -- Assumes nothing.
 use mathlib.Core.Path.{◌≡◌, refl, ◌∙◌, sym, ap, ap₂}
 use mathlib.Core.Bool.{Bool, true, false, cond, false≢true}
@@ -32,8 +34,8 @@ use Rattle.operation.specs.Operation.{desk_of}
 use Rattle.operation.specs.Admission.{operation_verdict}
 use Rattle.conflict.specs.Class.{Class, free, local, global, class_of}
 use Rattle.queue.specs.declared.record.Request.{Request}
-use Rattle.queue.specs.Words.{records_in, queue_in, words_of, stored_back}
-use Rattle.queue.proofs.Rows.{queue_in_row, length_queue_in, lent_none}
+use Rattle.queue.specs.Words.{records_in, queue_in, queue_of, words_of, stored_back}
+use Rattle.queue.proofs.Rows.{queue_in_row, queue_of_row, length_queue_in, lent_none}
 use Rattle.queue.proofs.StoringBack.{stored_back_empty}
 use Rattle.desk.specs.declared.state.Desk.{Desk}
 use Rattle.desk.specs.Holding.{Holding, holding}
@@ -42,7 +44,7 @@ use Rattle.desk.specs.Priority.{urgent_lead, join_place}
 use Rattle.desk.specs.Admission.{desk_buffers_fit, desk_fits}
 use Rattle.desk.proofs.Priority.{join_place_fits}
 use Rattle.desk.proofs.QuestionSix.{fits_ordered}
-use Rattle.desk.proofs.SameWaiting.{SameWaiting, same_buffers, same_fits}
+use Rattle.desk.proofs.SameWaiting.{SameWaiting, same_buffers, same_fits, copied_same}
 use Rattle.requests.specs.declared.answer.RequestResult.{RequestResult}
 use Rattle.requests.specs.Request.{
   Response,
@@ -214,6 +216,81 @@ module _ (ws : List ℕ) (d : Desk) (cells : List ℕ) (q : List Request) (r : R
       ap (λ (s : Requested). with_queue s q') e
       ∙ ap (with_queue all) (k ∙ ap (λ (s : Requested). queue_after s.answer (plan_of ws) d.waiting q r) e ∙ sym queue_left)
 
+-- ---- the waiting records of a queue, in another that questions 5 and 6 do not tell apart
+
+-- What the request leaves of the other one, in words too if the queue has 32 records, and from where on their records have changed.
+module _ (ws : List ℕ) (d : Desk) (cells : List ℕ) (queue lent : List Request) (same : SameWaiting d.waiting queue lent) (r : Request)
+    (result : RequestResult) (cells' : List ℕ) (lent' : List Request)
+    (left : requested_of result cells' lent' ≡ request_result ws (holding d cells lent) r) (row' : List ℕ)
+    (words : length queue ≡ 32 → records_in row' ≡ lent') (from : ℕ)
+    (changed : from ≡ store_from (response_of result.answer) (plan_of ws) d.waiting lent r) where
+  -- beside the queue the same is left of the queue itself
+  beside : requested_of result cells' [] ≡ without_queue (request_result ws (holding d cells queue) r)
+  beside = ap without_queue left ∙ sym (result_beside ws d cells r queue lent same)
+
+  abbrev whole : Requested
+  whole = request_result ws (holding d cells queue) r
+
+  abbrev end : ℕ
+  end = result.state.waiting
+
+  answers : response_of result.answer ≡ whole.answer
+  answers = ap (λ (s : Requested). s.answer) beside
+
+  -- it waits: the records from its place on are stored back
+  waiting_stored : is_waits (response_of result.answer) ≡ true → stored_back queue row' from end
+      ≡ overwritten (insert (waiting_in d.waiting queue) (place_in (plan_of ws) d.waiting queue r) r) queue
+  waiting_stored e =
+      let w = waits_only ws d cells queue r (ap is_waits (sym answers) ∙ e) in
+      let size : length queue ≡ 32 = waits_long ws d cells queue r (ap is_waits (sym answers) ∙ e) in
+      let front : take d.waiting queue ≡ take d.waiting lent = same.records size (omega (arith, w.room)) in
+      let place : ℕ = place_in (plan_of ws) d.waiting queue r in
+      let fits : place ≤ d.waiting = omega (
+        arith,
+        join_place_fits (is_urgent (plan_of ws)) (take d.waiting queue) r,
+        length-take-le d.waiting queue (omega (arith, w.room)),
+      ) in
+      ap₂ (stored_back queue row')
+      (changed ∙ ap (λ (b : Bool). cond b (place_in (plan_of ws) d.waiting lent r) d.waiting) e
+      ∙ ap (λ (rs : List Request). join_place (is_urgent (plan_of ws)) rs r) (sym front))
+      (ap (λ (s : Requested). s.state.waiting) beside ∙ w.state)
+      ∙ inserted_back queue row' lent place d.waiting r fits (omega (arith, w.room)) size
+      (words size ∙ ap (λ (s : Requested). s.queue) left ∙ queue_left ws d cells lent r
+      ∙ ap (λ (a : Response). queue_after a (plan_of ws) d.waiting lent r) (sym (ap (λ (s : Requested). s.answer) left))
+      ∙ ap (λ (b : Bool). cond b (overwritten (insert (waiting_in d.waiting lent) (place_in (plan_of ws) d.waiting lent r) r) lent) lent) e
+      ∙ ap (λ (rs : List Request). overwritten (insert rs (join_place (is_urgent (plan_of ws)) rs r) r) lent) (sym front))
+
+  stored : stored_back queue row' from end ≡ queue_after (response_of result.answer) (plan_of ws) d.waiting queue r
+  stored = by_test (is_waits (response_of result.answer)) refl
+    where
+      by_test : (b : Bool) → is_waits (response_of result.answer) ≡ b → stored_back queue row' from end
+          ≡ cond b (overwritten (insert (waiting_in d.waiting queue) (place_in (plan_of ws) d.waiting queue r) r) queue) queue
+      by_test true e = waiting_stored e
+      by_test false e =
+          let k = else_kept ws d cells queue r (ap is_waits (sym answers) ∙ e) in
+          ap₂ (stored_back queue row') (changed ∙ ap (λ (b : Bool). cond b (place_in (plan_of ws) d.waiting lent r) d.waiting) e)
+          (ap (λ (s : Requested). s.state.waiting) beside ∙ ap (λ (t : Desk). t.waiting) k.state)
+          ∙ stored_back_empty queue row' d.waiting d.waiting (min-le_left d.waiting 32)
+
+  pub stored_left : requested_of result cells' (stored_back queue row' from end) ≡ request_result ws (holding d cells queue) r
+  stored_left = left_whole ws d cells queue r result cells' (stored_back queue row' from end) beside stored
+
+-- ---- a queue handed over with its length
+
+-- what the request of such a queue leaves: the result and the row, from where on the records have changed, and the end
+module _ (ws : List ℕ) (d : Desk) (cells : List ℕ) (size : ℕ) (row : List ℕ) (r : Request) (result : RequestResult) (row' : List ℕ)
+    (from end : ℕ) (cells' : List ℕ)
+    (left : requested_of result cells' (queue_of size row') ≡ request_result ws (holding d cells (queue_of size row)) r)
+    (changed : (from ≡ store_from (response_of result.answer) (plan_of ws) d.waiting (queue_of size row) r)
+    × (end ≡ result.state.waiting)) where
+  module _ (queue : List Request) (l : length queue ≡ size)
+      (same : size ≡ 32 → d.waiting ≤ 32 → take d.waiting queue ≡ take d.waiting (records_in row)) where
+    pub by_waiting_records : requested_of result cells' (stored_back queue row' from end) ≡ request_result ws (holding d cells queue) r
+    by_waiting_records =
+        ap (λ (n : ℕ). requested_of result cells' (stored_back queue row' from n)) changed.1
+        ∙ stored_left ws d cells queue (queue_of size row) (copied_same d.waiting size row queue l same) r result cells'
+        (queue_of size row') left row' (λ k. sym (queue_of_row size row' (sym l ∙ k))) from changed.0
+
 -- ---- the waiting records of a queue, copied
 
 -- The words of a row with the queue's waiting records in front: all of them are lent if the queue has 32 records, and else none.
@@ -254,63 +331,13 @@ module _ (ws : List ℕ) (d : Desk) (cells : List ℕ) (queue : List Request) (r
   module _ (r : Request) (result : RequestResult) (cells' part : List ℕ) (same : length part ≡ length (take own row))
       (left : requested_of result cells' (queue_in part) ≡ request_result ws (holding d cells lent) r) (from : ℕ)
       (changed : from ≡ store_from (response_of result.answer) (plan_of ws) d.waiting lent r) where
-    -- beside the queue the same is left of the queue itself
-    beside : requested_of result cells' [] ≡ without_queue (request_result ws (holding d cells queue) r)
-    beside = ap without_queue left ∙ sym (result_beside ws d cells r queue lent lent_same)
-
-    abbrev whole : Requested
-    whole = request_result ws (holding d cells queue) r
-
-    abbrev row' : List ℕ
-    row' = part ++ drop own row
-
-    abbrev end : ℕ
-    end = result.state.waiting
-
-    answers : response_of result.answer ≡ whole.answer
-    answers = ap (λ (s : Requested). s.answer) beside
-
-    -- it waits: the records from its place on are stored back
-    waiting_stored : is_waits (response_of result.answer) ≡ true → stored_back queue row' from end
-        ≡ overwritten (insert (waiting_in d.waiting queue) (place_in (plan_of ws) d.waiting queue r) r) queue
-    waiting_stored e =
-        let w = waits_only ws d cells queue r (ap is_waits (sym answers) ∙ e) in
-        let size : length queue ≡ 32 = waits_long ws d cells queue r (ap is_waits (sym answers) ∙ e) in
-        let front : take d.waiting queue ≡ take d.waiting (records_in row) = sym (copied size (omega (arith, w.room))) in
-        let place : ℕ = place_in (plan_of ws) d.waiting queue r in
-        let fits : place ≤ d.waiting = omega (
-          arith,
-          join_place_fits (is_urgent (plan_of ws)) (take d.waiting queue) r,
-          length-take-le d.waiting queue (omega (arith, w.room)),
-        ) in
-        let past : length row ≤ own = omega (arith, long, all_own size) in
-        let words : row' ≡ part = ap (λ (l : List ℕ). part ++ l) (drop_of_length-le row past) ∙ append-nil part in
-        ap₂ (stored_back queue row')
-        (changed ∙ ap (λ (b : Bool). cond b (place_in (plan_of ws) d.waiting lent r) d.waiting) e
-        ∙ ap (λ (rs : List Request). join_place (is_urgent (plan_of ws)) rs r)
-        (ap (take d.waiting) (lent_records size) ∙ sym front))
-        (ap (λ (s : Requested). s.state.waiting) beside ∙ w.state)
-        ∙ inserted_back queue row' (records_in row) place d.waiting r fits (omega (arith, w.room)) size
-        (ap records_in words ∙ sym (queue_in_row part (same ∙ ap length (all_lent size) ∙ long)) ∙ ap (λ (s : Requested). s.queue) left
-        ∙ queue_left ws d cells lent r
-        ∙ ap₂ (λ (a : Response) (q : List Request). queue_after a (plan_of ws) d.waiting q r)
-        (sym (ap (λ (s : Requested). s.answer) left)) (lent_records size)
-        ∙ ap (λ (b : Bool). cond b (overwritten (insert (waiting_in d.waiting (records_in row)) (place_in (plan_of ws) d.waiting
-        (records_in row) r) r) (records_in row)) (records_in row)) e
-        ∙ ap (λ (rs : List Request). overwritten (insert rs (join_place (is_urgent (plan_of ws)) rs r) r) (records_in row)) (sym front))
-
-    stored : stored_back queue row' from end ≡ queue_after (response_of result.answer) (plan_of ws) d.waiting queue r
-    stored = by_test (is_waits (response_of result.answer)) refl
-      where
-        by_test : (b : Bool) → is_waits (response_of result.answer) ≡ b → stored_back queue row' from end
-            ≡ cond b (overwritten (insert (waiting_in d.waiting queue) (place_in (plan_of ws) d.waiting queue r) r) queue) queue
-        by_test true e = waiting_stored e
-        by_test false e =
-            let k = else_kept ws d cells queue r (ap is_waits (sym answers) ∙ e) in
-            ap₂ (stored_back queue row') (changed ∙ ap (λ (b : Bool). cond b (place_in (plan_of ws) d.waiting lent r) d.waiting) e)
-            (ap (λ (s : Requested). s.state.waiting) beside ∙ ap (λ (t : Desk). t.waiting) k.state)
-            ∙ stored_back_empty queue row' d.waiting d.waiting (min-le_left d.waiting 32)
+    part_read : length queue ≡ 32 → records_in (part ++ drop own row) ≡ queue_in part
+    part_read e =
+        let past : length row ≤ own = omega (arith, long, all_own e) in
+        let words : part ++ drop own row ≡ part = ap (λ (l : List ℕ). part ++ l) (drop_of_length-le row past) ∙ append-nil part in
+        ap records_in words ∙ sym (queue_in_row part (same ∙ ap length (all_lent e) ∙ long))
 
     pub copied_left : requested_of result cells' (stored_back queue (part ++ drop own row) from result.state.waiting)
         ≡ request_result ws (holding d cells queue) r
-    copied_left = left_whole ws d cells queue r result cells' (stored_back queue row' from end) beside stored
+    copied_left =
+        stored_left ws d cells queue lent lent_same r result cells' (queue_in part) left (part ++ drop own row) part_read from changed

@@ -1,10 +1,13 @@
 // The core of a request at a desk, of a queue of words.
-//     buffers_fit, open          question 5; questions 1 to 4, 17, 5 and 6
+//     buffers_fit                question 5
 //     joined, serve              a request that is to wait; questions 7 and 8, and the request by its route
 //     with_state                 the answer with the state after the call
 //     join, enqueue              the record put in at its place; the same if the request waits
-//     record_of, request_step    the record of a request; the request
-ghost use Rattle.std.specs.Prelude.{◌≡◌, true, cond, IfSome, IfOk, List, [], ℕ, ◌<◌, ltb, length, ◌≤◌};
+//     record_of                  the record of a request
+//     opened_step                the request behind questions 1 to 6 and 17
+//     planned_step               questions 5 and 6, and the request: without a table of masks where none waits
+//     request_step               the request
+ghost use Rattle.std.specs.Prelude.{◌≡◌, true, cond, IfSome, IfOk, is_some, List, [], ℕ, ◌<◌, ltb, length, ◌≤◌};
 ghost use Rattle.verdict.specs.Verdict.{ask, ◌then◌, verdict_of};
 ghost use Rattle.std.specs.List.{insert};
 ghost use Rattle.lists.specs.Lists.{overwritten};
@@ -40,29 +43,6 @@ fn buffers_fit(cells: &[u32], row: &[u32]) -> bool
     cells.len() == STORE_SIZE && row.len() == QUEUE_WORDS
 }
 
-// Questions 1 to 4, 17, 5 and 6. Where requests wait the table of masks by which 6 is answered is handed on.
-#[tactic(auto, using(crate::proofs::Handed::row_long, crate::proofs::Handed::few_wait), unfolding(crate::specs::Step::opening_verdict))]
-fn open<'a>(
-    words: &'a [u32],
-    state: Desk,
-    cells: &[u32],
-    row: &[u32],
-) -> Result<(Plan<'a>, Option<MaskTable<'a>>), Refusal>
-    ensures verdict { verdict_of result ≡ (opening_verdict words.now cells.now row.now
-        then ask 6 (desk_fits (plan_of words.now) state (records_in row.now))) }
-    ensures plan { IfOk result (λ x. x.0.words.now ≡ words.now) }
-    ensures masks { IfOk result (λ x. IfSome x.1 (λ t. t.plan.words.now ≡ words.now)) }
-    ensures row { IfOk result (λ x. length row.now ≡ queue_words) }
-    ensures waiting { IfOk result (λ x. state.waiting ≤ queue_size) }
-{
-    let plan = Plan::read(words)?;
-    if !buffers_fit(cells, row) {
-        return Err(Refusal::WrongSize);
-    }
-    let masks = desk::desk_fits(&plan, state, row)?;
-    Ok((plan, masks))
-}
-
 // Question 9; then the request joins those that wait.
 fn joined(state: Desk) -> Result<(RequestAnswer, Desk), Refusal>
     ensures { (cells : List ℕ) (p : Decoded) (request : Queued) → requested_of (result_of result state) cells []
@@ -87,13 +67,14 @@ fn serve(
     request: Request,
     masks: Option<&MaskTable>,
 ) -> Result<(RequestAnswer, Desk), Refusal>
-    requires { IfSome masks (λ t. t.now.plan.words.now ≡ plan.now.words.now) }
+    requires masks { IfSome masks (λ t. t.now.plan.words.now ≡ plan.now.words.now) }
+    requires filled { is_some masks ≡ ltb 0 state.waiting }
     ensures { requested_of (result_of result state) cells.new [] ≡ without_queue (served (holding state cells.old [])
         (operation_verdict (the_plan plan.now) (operation_of request)) (the_plan plan.now) request) }
 {
     let operation = desk::admit(plan, request)?;
     let own = operation.desk(plan);
-    match route::route_of(plan, &operation, own == state.desk, masks) {
+    match route::route_of(plan, &operation, own == state.desk, state.waiting, masks) {
         Route::Runs => Ok((
             RequestAnswer::Replied(desk::run_operation(&operation, cells)),
             state,
@@ -165,6 +146,72 @@ pub fn record_of(client: u32, transaction: u32, params: [u32; 4]) -> Request
     }
 }
 
+// The request behind questions 1 to 6 and 17. Just where requests wait it is handed the table of masks by which 6 is answered.
+fn opened_step(
+    plan: &Plan,
+    opened: Result<Option<&MaskTable>, Refusal>,
+    state: Desk,
+    cells: &mut [u32],
+    row: &mut [u32],
+    request: Request,
+) -> RequestStep
+    requires verdict { verdict_of opened ≡ (opening_verdict plan.now.words.now cells.old row.old
+        then ask 6 (desk_fits (the_plan plan.now) state (records_in row.old))) }
+    requires masks { IfOk opened (λ m. IfSome m (λ t. t.now.plan.words.now ≡ plan.now.words.now)) }
+    requires filled { IfOk opened (λ m. is_some m ≡ ltb 0 state.waiting) }
+    requires row { IfOk opened (λ m. length row.old ≡ queue_words) }
+    ensures left { requested_of result.result cells.new (queue_in row.new)
+        ≡ request_result plan.now.words.now (holding state cells.old (queue_in row.old)) request }
+    ensures row_left { row.new ≡ row_left row.old (queue_in row.new) }
+    ensures changed { result.from ≡ store_from (response_of result.result.answer) (the_plan plan.now) state.waiting
+        (queue_in row.old) request }
+{
+    let waiting = state.waiting as usize;
+    let masks = match opened {
+        Ok(masks) => masks,
+        Err(refusal) => {
+            return RequestStep {
+                result: with_state(Err(refusal), state),
+                from: waiting,
+            };
+        }
+    };
+    let served = serve(plan, state, cells, request, masks);
+    let result = with_state(served, state);
+    let from = enqueue(plan, waiting, row, request, result.answer);
+    RequestStep { result, from }
+}
+
+// The request behind questions 1 to 4 and 17. Where none waits question 6 is of the state alone, and no table of masks is handed on.
+#[tactic(auto, using(crate::proofs::Handed::row_long, crate::proofs::Handed::none_waits), unfolding(crate::specs::Step::opening_verdict))]
+fn planned_step(
+    plan: &Plan,
+    state: Desk,
+    cells: &mut [u32],
+    row: &mut [u32],
+    request: Request,
+) -> RequestStep
+    ensures left { requested_of result.result cells.new (queue_in row.new)
+        ≡ request_result plan.now.words.now (holding state cells.old (queue_in row.old)) request }
+    ensures row_left { row.new ≡ row_left row.old (queue_in row.new) }
+    ensures changed { result.from ≡ store_from (response_of result.result.answer) (the_plan plan.now) state.waiting
+        (queue_in row.old) request }
+{
+    if !buffers_fit(cells, row) {
+        return opened_step(plan, Err(Refusal::WrongSize), state, cells, row, request);
+    }
+    if state.waiting == 0 {
+        return match desk::state_fits(plan, state) {
+            Ok(()) => opened_step(plan, Ok(None), state, cells, row, request),
+            Err(refusal) => opened_step(plan, Err(refusal), state, cells, row, request),
+        };
+    }
+    match desk::desk_fits(plan, state, row) {
+        Ok(masks) => opened_step(plan, Ok(masks.as_ref()), state, cells, row, request),
+        Err(refusal) => opened_step(plan, Err(refusal), state, cells, row, request),
+    }
+}
+
 // The request. Nothing is written before the last question.
 pub fn request_step(
     words: &[u32],
@@ -179,18 +226,11 @@ pub fn request_step(
     ensures changed { result.from ≡ store_from (response_of result.result.answer) (plan_of words.now) state.waiting
         (queue_in row.old) request }
 {
-    let waiting = state.waiting as usize;
-    let (plan, masks) = match open(words, state, cells, row) {
-        Ok(opened) => opened,
-        Err(refusal) => {
-            return RequestStep {
-                result: with_state(Err(refusal), state),
-                from: waiting,
-            };
-        }
-    };
-    let served = serve(&plan, state, cells, request, masks.as_ref());
-    let result = with_state(served, state);
-    let from = enqueue(&plan, waiting, row, request, result.answer);
-    RequestStep { result, from }
+    match Plan::read(words) {
+        Ok(plan) => planned_step(&plan, state, cells, row, request),
+        Err(refusal) => RequestStep {
+            result: with_state(Err(refusal), state),
+            from: state.waiting as usize,
+        },
+    }
 }

@@ -2,7 +2,7 @@
 // operation that writes, unless question 6 has filled one.
 //     is_global    whether the operation is global
 //     route_of     where it goes
-ghost use Rattle.std.specs.Prelude.{◌≡◌, IfSome};
+ghost use Rattle.std.specs.Prelude.{◌≡◌, IfSome, is_some, ltb};
 ghost use Rattle.plan.specs.Accepted.{the_plan};
 ghost use Rattle.plan.specs.Transaction.{the_transaction};
 ghost use Rattle.conflict.specs.Class.{is_global, class_by};
@@ -20,10 +20,12 @@ pub enum Route {
     Elsewhere,
 }
 
-// Whether the operation is global, by the plan's table of masks: where there is none, one is filled here if the operation writes.
+// Whether the operation is global, by the plan's table of masks: there is one where requests wait. Where none wait, one is filled here if
+// the operation writes.
 #[tactic(auto, using(conflict::proofs::Tabled::reading_not_global))]
-fn is_global(plan: &Plan, operation: &Operation, masks: Option<&MaskTable>) -> bool
-    requires { IfSome masks (λ t. t.now.plan.words.now ≡ plan.now.words.now) }
+fn is_global(plan: &Plan, operation: &Operation, waiting: u32, masks: Option<&MaskTable>) -> bool
+    requires masks { IfSome masks (λ t. t.now.plan.words.now ≡ plan.now.words.now) }
+    requires filled { is_some masks ≡ ltb 0 waiting }
     ensures { result ≡ is_global (class_by (the_plan plan.now) (the_transaction operation.now.transaction) operation.now.params) }
 {
     match masks {
@@ -33,19 +35,21 @@ fn is_global(plan: &Plan, operation: &Operation, masks: Option<&MaskTable>) -> b
     }
 }
 
-// Where the operation goes. `own` says whether this desk is its own.
+// Where the operation goes. `own` says whether this desk is its own, `waiting` how many requests wait here.
 pub(crate) fn route_of(
     plan: &Plan,
     operation: &Operation,
     own: bool,
+    waiting: u32,
     masks: Option<&MaskTable>,
 ) -> Route
-    requires { IfSome masks (λ t. t.now.plan.words.now ≡ plan.now.words.now) }
+    requires masks { IfSome masks (λ t. t.now.plan.words.now ≡ plan.now.words.now) }
+    requires filled { is_some masks ≡ ltb 0 waiting }
     ensures { way_of result
         ≡ way_by (class_by (the_plan plan.now) (the_transaction operation.now.transaction) operation.now.params) own }
 {
     if own {
-        if is_global(plan, operation, masks) {
+        if is_global(plan, operation, waiting, masks) {
             return Route::Waits;
         }
         return Route::Runs;

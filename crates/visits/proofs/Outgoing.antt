@@ -35,7 +35,7 @@ visited_same : (a b : Forwarding) (t u : Desk) (c c' taken o o' q q' : List ℕ)
 visited_same a b t u c c' taken o o' q q' ea et ec eo eq = rw (ea, et, ec, eo, eq)
 
 module _ (ws : List ℕ) (h : Holding) (f out replies : List ℕ) (a : Passable ws h f out replies) where
-  written : updates_part f ≡ updates_words (frame_updates f)
+  pub written : updates_part f ≡ updates_words (frame_updates f)
   written = part_written (plan_of ws).desks f a.frame
 
   module _ (s : Store) (e : s ≡ apply_all (foreign h.state.desk (frame_updates f)) h.cells) where
@@ -56,7 +56,7 @@ module _ (ws : List ℕ) (h : Holding) (f out replies : List ℕ) (a : Passable 
     words_are =
         sym (words_append (foreign h.state.desk (frame_updates f)) (map (sent h.state.desk) (updates_of (plan_of ws) (waiting_at h) s)))
 
-    words_fit : 2 + length (foreign_words h.state.desk (updates_part f) ++ all_made (plan_of ws) h.state.desk (waiting_at h) s) + 2 ≤
+    pub words_fit : 2 + length (foreign_words h.state.desk (updates_part f) ++ all_made (plan_of ws) h.state.desk (waiting_at h) s) + 2 ≤
         length out
     words_fit =
         let g = accepted_gives ws a.plan in
@@ -68,7 +68,7 @@ module _ (ws : List ℕ) (h : Holding) (f out replies : List ℕ) (a : Passable 
               (omega (arith, g.desks_high, desk_count_lem ws)) well_formed_lem,
         )
 
-    all_run : (o : List ℕ) → length (all_made (plan_of ws) h.state.desk (waiting_at h) s) ≤ length o
+    pub all_run : (o : List ℕ) → length (all_made (plan_of ws) h.state.desk (waiting_at h) s) ≤ length o
         → AllRun (plan_of ws) (waiting_at h) h.state.desk s o replies
     all_run o room =
         record {
@@ -77,7 +77,7 @@ module _ (ws : List ℕ) (h : Holding) (f out replies : List ℕ) (a : Passable 
           reply_room = omega (arith, a.reply_room, a.waiting, length-take h.state.waiting h.queue);
         }
 
-    accepted_is : (end : ℕ) (s' o q : List ℕ)
+    pub accepted_is : (end : ℕ) (s' o q : List ℕ)
         → end ≡ 2 + length (foreign_words h.state.desk (updates_part f) ++ all_made (plan_of ws) h.state.desk (waiting_at h) s)
         → s' ≡ run_all (plan_of ws) (waiting_at h) s
         → o ≡ overwritten (frame_around ((frame_visit f + 1) % (plan_of ws).desks) (frame_visit f + 1)
@@ -109,7 +109,7 @@ module _ (ws : List ℕ) (h : Holding) (f out replies : List ℕ) (a : Passable 
         eq)
 
   -- the others' updates alone have room behind words 0 and 1
-  body_room : length (foreign_words h.state.desk (updates_part f)) ≤ length (take (length out - 2) (drop 2 out))
+  pub body_room : length (foreign_words h.state.desk (updates_part f)) ≤ length (take (length out - 2) (drop 2 out))
   body_room =
       omega (
         arith,

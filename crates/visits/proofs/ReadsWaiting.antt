@@ -1,7 +1,8 @@
 -- A visit reads of the queue only whether it has 32 records, and the records that wait: of two queues that agree in these the answer, the
 -- state and all that is lent are left the same. So a caller may hand over just the records that wait.
 --     visit_same               both have 32 records or neither has, and the same wait
---     by_waiting_records       a queue, and the words of the records that wait as far as a queue of its length has words
+--     by_waiting_records       a queue, and its length with the words of the records that wait
+--     by_lent_words            a queue, and the words of the records that wait as far as a queue of its length has words
 -- Assumes nothing.
 use mathlib.Core.Path.{◌≡◌, refl, ◌∙◌, sym, ap}
 use mathlib.Core.Bool.{Bool, true, ◌&&◌}
@@ -54,16 +55,23 @@ module _ (ws : List ℕ) (d : Desk) (cells : List ℕ) (q q' : List Request) (sn
       rw (e, sym same_verdict ∙ e, s.records a.queue_long a.waiting)
   by_verdict (refused question) e = rw (e, sym same_verdict ∙ e)
 
-  visit_same : visit_result ws (holding d cells q) snapshot frame out replies
+  pub visit_same : visit_result ws (holding d cells q) snapshot frame out replies
       ≡ visit_result ws (holding d cells q') snapshot frame out replies
   visit_same = by_verdict (visit_verdict ws (holding d cells q) snapshot frame out replies) refl
 
 module _ (ws : List ℕ) (d : Desk) (cells : List ℕ) (q : List Request) (snapshot frame out replies : List ℕ) where
-  pub by_waiting_records : (row : List ℕ) → length row ≡ 192
+  pub by_waiting_records : (size : ℕ) (row : List ℕ) → length q ≡ size
+      → (size ≡ 32 → d.waiting ≤ 32 → waiting_in d.waiting q ≡ waiting_in d.waiting (records_in row))
+      → visit_result ws (holding d cells (queue_of size row)) snapshot frame out replies
+      ≡ visit_result ws (holding d cells q) snapshot frame out replies
+  by_waiting_records size row l same =
+      sym (visit_same ws d cells q (queue_of size row) snapshot frame out replies (copied_same d.waiting size row q l same))
+
+  pub by_lent_words : (row : List ℕ) → length row ≡ 192
       → (length q ≡ 32 → d.waiting ≤ 32 → waiting_in d.waiting q ≡ waiting_in d.waiting (records_in row))
       → visit_result ws (holding d cells (queue_in (take (words_of (length q)) row))) snapshot frame out replies
       ≡ visit_result ws (holding d cells q) snapshot frame out replies
-  by_waiting_records row long same =
-      sym (visit_same ws d cells q (queue_of (length q) row) snapshot frame out replies (copied_same d.waiting (length q) row q refl same)
-      ∙ visit_same ws d cells (queue_of (length q) row) (queue_in (take (words_of (length q)) row)) snapshot frame out replies
+  by_lent_words row long same =
+      sym (visit_same ws d cells (queue_of (length q) row) (queue_in (take (words_of (length q)) row)) snapshot frame out replies
       (lent_same d.waiting (length q) row long))
+      ∙ by_waiting_records (length q) row refl same

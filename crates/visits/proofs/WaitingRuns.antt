@@ -100,7 +100,7 @@ module _ {p : Plan} {desk : ℕ} {rs : List Request} {s₀ o₀ q₀ : List ℕ}
       replies_here : Filling (all_replies p rs s₀) q₀ q (at * reply_size) (reply_words (reply_to p r s) ++ all_replies p rest (after p r s))
       replies_here = fill_same v.replies (ap (λ (l : List Request). all_replies p l s) e ∙ replies_first p desk r rest s)
 
-      reply_room_here : at * reply_size + reply_size ≤ length q
+      pub reply_room_here : at * reply_size + reply_size ≤ length q
       reply_room_here =
           omega (
             arith,
@@ -119,7 +119,7 @@ module _ {p : Plan} {desk : ℕ} {rs : List Request} {s₀ o₀ q₀ : List ℕ}
         made_by : made_words x desk s ≡ made p desk r s
         made_by = ap (λ (u : Outcome). update_words (sent desk u.update)) ran
 
-        room_here : end + length (made_words x desk s) ≤ length o
+        pub room_here : end + length (made_words x desk s) ≤ length o
         room_here =
             rw made_by (omega (
               arith,
