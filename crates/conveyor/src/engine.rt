@@ -12,6 +12,9 @@ use queue::Request;
 use requests::RequestResult;
 use visits::VisitResult;
 
+#[cfg(test)]
+mod tests;
+
 // A request at a desk.
 pub fn request(
     plan: &[u32],

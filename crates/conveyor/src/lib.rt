@@ -1,5 +1,5 @@
-// The engine: all nine calls of the papers, and every type that a program needs. The calls that take the queue stand twice, on a lent slice
-// of records and on plain words.
+// The engine: all nine calls of the papers, every type that a program needs, and where the fields of words begin. The calls that take the
+// queue stand twice, on a lent slice of records and on plain words.
 #![tactic(auto)]
 
 mod engine;
@@ -16,3 +16,4 @@ pub use requests::{RequestAnswer, RequestResult, request_on_words};
 pub use token::starting_frame;
 pub use verdict::Refusal;
 pub use visits::{Forwarded, VisitResult, visit_on_words};
+pub use word::fields;

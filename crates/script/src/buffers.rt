@@ -18,12 +18,18 @@ fn marks(alloc: Global, words: usize) -> Result<Vec<u32>, AllocError> {
 }
 
 // How many words behind the first ones are no longer marks.
+// No zip with the marks: a chain that ends with the shorter of two takes half again the time of this walk over all words.
 fn others_in(buffer: &[u32], written: usize) -> usize {
-    let words = buffer.iter().copied().zip(FIRST_MARK..);
-    words
-        .skip(written)
-        .filter(|(word, mark)| word != mark)
-        .count()
+    let behind = buffer.get(written..).unwrap_or(&[]);
+    let mut mark = FIRST_MARK.wrapping_add((written % 0x1_0000_0000) as u32);
+    let mut others: usize = 0;
+    for word in behind {
+        if *word != mark {
+            others = others.wrapping_add(1);
+        }
+        mark = mark.wrapping_add(1);
+    }
+    others
 }
 
 impl Buffers {

@@ -1,10 +1,10 @@
 // The frames that were sent, of which the latest are kept.
 use crate::groups::Groups;
 use crate::words::{Count, Words};
+use conveyor::fields;
 use std::alloc::{AllocError, Global};
 use std::collections::VecDeque;
 use std::fmt;
-use word::fields;
 
 // How many are kept.
 const MOST_KEPT: usize = 64;

@@ -2,7 +2,7 @@
 ghost use Rattle.std.specs.Prelude.{length};
 ghost use Rattle.std.specs.Iterator.{at_most};
 
-use word::fields;
+use conveyor::fields;
 
 // A word that counts, in bits 23-20, the parts behind it, its place, and the words of these parts: a transaction with its steps, or an
 // update with its cells.

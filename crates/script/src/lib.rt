@@ -20,10 +20,12 @@
 //     changes        what a call changed of a desk
 //     counts         what is counted
 //     interpreter    what the commands do
+//     blocks         text that is written in blocks
 //     reader         lines, from the bytes of a script
 #![tactic(auto)]
 
 mod answers;
+mod blocks;
 mod buffers;
 mod calls;
 mod changes;

@@ -2,9 +2,8 @@
 use crate::groups::{Group, Groups};
 use crate::words;
 use crate::words::{Count, Others};
-use conveyor::Refusal;
+use conveyor::{Refusal, fields};
 use std::fmt;
-use word::fields;
 
 // Where a step takes its number from: a parameter, or the step's own word.
 #[derive(Clone, Copy)]

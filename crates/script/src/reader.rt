@@ -1,11 +1,12 @@
 // The run of a script: its lines, from the bytes that are read, and the counts at the end.
+use crate::blocks::Blocks;
 use crate::command::Command;
 use crate::fault::LineError;
 use crate::interpreter::Interpreter;
 use crate::line::Line;
 use std::alloc::{AllocError, Global};
 use std::io;
-use std::io::{BufWriter, Read, Write};
+use std::io::{ErrorKind, Read, Write};
 
 #[cfg(test)]
 mod tests;
@@ -34,40 +35,48 @@ impl Script {
         })
     }
 
-    // Runs a line that is whole.
-    fn run_line<W: Write>(&mut self, out: &mut W) -> io::Result<()> {
-        let number = self.number;
-        if LONGEST_LINE < self.text.len() {
-            self.interpreter.counts.add_bad_line();
-            return writeln!(out, "line {number}: longer than {LONGEST_LINE} bytes");
-        }
+    // Does what a line says that has words.
+    // Apart from the line's end: an empty line then costs no more than its line feed.
+    #[inline(never)]
+    fn run_words<W: Write>(&mut self, out: &mut W) -> io::Result<()> {
         let mut line = Line::new(&self.text);
-        if !line.has_more() {
-            return Ok(());
-        }
         match Command::read(&mut line, &self.interpreter.held) {
             Ok(command) => self.interpreter.perform(command, out),
             Err(LineError::Fault(fault)) => {
                 self.interpreter.counts.add_bad_line();
-                writeln!(out, "line {number}, {fault}")
+                writeln!(out, "line {}, {fault}", self.number)
             }
             Err(LineError::Memory(error)) => Err(io::Error::from(error)),
         }
     }
 
-    // Ends a line. Where its last byte is `\`, a space takes its place and the line goes on, else it is run.
+    // Runs a line that is whole.
+    fn run_line<W: Write>(&mut self, out: &mut W) -> io::Result<()> {
+        if LONGEST_LINE < self.text.len() {
+            self.interpreter.counts.add_bad_line();
+            let number = self.number;
+            return writeln!(out, "line {number}: longer than {LONGEST_LINE} bytes");
+        }
+        if Line::new(&self.text).has_more() {
+            self.run_words(out)
+        } else {
+            Ok(())
+        }
+    }
+
+    // Ends a line. Where its last byte is `\`, a space takes its place and the line goes on, else it is run. An empty one only counts.
     fn end_line<W: Write>(&mut self, out: &mut W) -> io::Result<()> {
         self.interpreter.counts.add_line();
-        if let Some(last) = self.text.last_mut()
-            && *last == b'\\'
-        {
-            *last = b' ';
-            self.joined = self.text.len();
-            return Ok(());
+        if let Some(last) = self.text.last_mut() {
+            if *last == b'\\' {
+                *last = b' ';
+                self.joined = self.text.len();
+                return Ok(());
+            }
+            self.run_line(out)?;
+            self.text.clear();
+            self.joined = 0;
         }
-        self.run_line(out)?;
-        self.text.clear();
-        self.joined = 0;
         self.number = self.interpreter.counts.lines.wrapping_add(1);
         Ok(())
     }
@@ -109,20 +118,33 @@ fn run_block<R: Read, W: Write>(
     Ok(0 < length)
 }
 
-// Reads a script, and writes what is said to it. It ends where a read or a write fails.
+// Reads a script to its end, and says the counts.
+fn run_script<R: Read, W: Write>(alloc: Global, input: &mut R, out: &mut W) -> io::Result<()> {
+    let mut script = Script::new(alloc)?;
+    let mut block = vec![in alloc; 0; BLOCK_SIZE]?;
+    for _ in 0..u64::MAX {
+        if !run_block(&mut script, &mut block, input, out)? {
+            break;
+        }
+    }
+    script.finish(out)?;
+    out.flush()
+}
+
+// Reads a script, and writes what is said to it. It ends where a read or a write fails. Behind a write that failed nothing is written;
+// where no memory is left, what was said before is.
 pub fn run<R, W>(alloc: Global, mut input: R, output: W) -> io::Result<()>
 where
     R: Read + Drop,
     W: Write + Drop,
 {
-    let mut output = BufWriter::new(alloc, output)?;
-    let mut script = Script::new(alloc)?;
-    let mut block = vec![in alloc; 0; BLOCK_SIZE]?;
-    for _ in 0..u64::MAX {
-        if !run_block(&mut script, &mut block, &mut input, &mut output)? {
-            break;
+    let mut output = Blocks::new(output);
+    let ran = run_script(alloc, &mut input, &mut output);
+    match &ran {
+        Err(error) if error.kind() == ErrorKind::OutOfMemory => {
+            let _ = output.flush();
         }
+        _ => {}
     }
-    script.finish(&mut output)?;
-    output.flush()
+    ran
 }

@@ -5,7 +5,7 @@ use Rattle.queue.specs.Words.{queue_in, records_in}
 use Rattle.queue.proofs.Copying.{waiting_records}
 use Rattle.desk.specs.Holding.{holding}
 use Rattle.visits.specs.Visit.{visit_result}
-use Rattle.visits.proofs.ReadsWaiting.{by_waiting_records}
+use Rattle.visits.proofs.ReadsWaiting.{by_lent_words}
 use Rattle.conveyor.proofs.engine.visit.Goals as goal
 
 pub returns : goal.returns
@@ -15,7 +15,7 @@ returns c =
     c.visit_on_words.ensures
     ∙ ap (λ (n : ℕ). visit_result a.plan.now (holding a.state a.cells.now (queue_in (take n c.copied-row.result))) a.snapshot.now
     a.frame.now a.out.now a.replies.now) c.words_of-own.ensures
-    ∙ by_waiting_records a.plan.now a.state a.cells.now a.queue.now a.snapshot.now a.frame.now a.out.now a.replies.now
+    ∙ by_lent_words a.plan.now a.state a.cells.now a.queue.now a.snapshot.now a.frame.now a.out.now a.replies.now
     c.copied-row.result long
     (λ row few. sym (ap (λ (ws : List ℕ). take a.state.waiting (records_in ws)) c.copied-row.ensures
     ∙ waiting_records a.queue.now a.state.waiting row few))
