@@ -1,4 +1,5 @@
 // The operation that a request asks for: questions 7 and 8, and its run.
+// `#[inline(always)]`: these are small and run in inner loops.
 ghost use Rattle.std.specs.Prelude.{◌≡◌, IfOk};
 ghost use Rattle.verdict.specs.Verdict.{accepted, verdict_of};
 ghost use Rattle.plan.specs.Accepted.{the_plan};

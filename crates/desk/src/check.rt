@@ -2,6 +2,7 @@
 //     waits_here, all_wait_here     of one record; of those that wait
 //     state_fits                    question 6 of the state alone
 //     desk_fits                     question 6
+// `#[inline(always)]`: it is small and runs in an inner loop.
 ghost use Rattle.std.specs.Prelude.{◌≡◌, ◌≤◌, IfOk, IfSome, is_some, ltb};
 ghost use Rattle.verdict.specs.Verdict.{ask, verdict_of};
 ghost use Rattle.std.specs.List.{list_all};

@@ -2,6 +2,7 @@
 //     is_urgent                     whether a record is urgent
 //     urgent_lead                   question 6 of the order: no urgent one follows one that is not
 //     urgent_waiting, join_place    how many urgent ones wait; the place at which a request joins those that wait
+// `#[inline(always)]`: it is small and runs in an inner loop.
 ghost use Rattle.std.specs.Prelude.{◌≡◌, ◌≤◌, length};
 ghost use Rattle.std.specs.List.{filter};
 ghost use Rattle.plan.specs.Accepted.{the_plan};

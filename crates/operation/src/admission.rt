@@ -49,8 +49,8 @@ fn unused_zero(count: u32, params: &[u32; 4]) -> bool
     params[count as usize..].iter().all(|word| *word == 0)
 }
 
-#[tactic(auto, unfolding(crate::specs::Admission::row_in_range))]
 // The row of the step, if it is a parameter, is at most 31.
+#[tactic(auto, unfolding(crate::specs::Admission::row_in_range))]
 #[inline(always)]
 fn row_in_range(step: Step, params: &[u32; 4]) -> bool
     ensures { result ≡ row_in_range params.now (step_from step) }

@@ -1,6 +1,5 @@
 -- Questions 1 to 8 of a queue of words, as the core of a request puts them.
 --     by_store, by_row, row_long        question 5, by the numbers of words; it shows that those of the row are 192
---     none_waits                        question 6 is of the state alone where none waits
 --     plan_refused                      the verdict of all, where one of 1 to 4 and 17 is answered with no
 --     opened_refused, opened_passes     the verdict of all, by that of questions 1 to 6 and 17
 -- Assumes nothing.
@@ -14,7 +13,6 @@ use borrow.Author.Tests.{eqb-true, eq-eqb, ne_eqb}
 use Rattle.verdict.specs.Verdict.{Verdict, accepted, refused, ask, ◌then◌}
 use Rattle.verdict.proofs.Verdicts.{then_accepted, ask_accepted, then_associates}
 use Rattle.lists.proofs.Laws.{and_snd, length_tabulate}
-use Rattle.plan.specs.Plan.{Plan}
 use Rattle.plan.specs.Decode.{plan_of}
 use Rattle.plan.specs.Admission.{plan_verdict}
 use Rattle.operation.specs.Admission.{operation_verdict}
@@ -24,8 +22,7 @@ use Rattle.queue.proofs.Rows.{queue_in_row}
 use Rattle.desk.specs.declared.state.Desk.{Desk}
 use Rattle.desk.specs.Holding.{holding}
 use Rattle.desk.specs.Queueing.{operation_of}
-use Rattle.desk.specs.Admission.{desk_buffers_fit, desk_fits, state_fits}
-use Rattle.desk.proofs.QuestionSix.{state_alone}
+use Rattle.desk.specs.Admission.{desk_buffers_fit, desk_fits}
 use Rattle.requests.specs.Request.{request_verdict}
 use Rattle.requests.specs.Step.{opening_verdict}
 
@@ -51,11 +48,6 @@ module _ (cells row : List ℕ) where
   pub row_long : desk_buffers_fit cells (queue_in row) ≡ true → length row ≡ 192
   unfolding desk_buffers_fit
   row_long e = eqb-true (length row) 192 (long_by_row ∙ and_snd (eqb (length cells) 1024) _ e)
-
--- ---- question 6
-
-pub none_waits : (p : Plan) (d : Desk) (queue : List Request) → d.waiting ≡ 0 → desk_fits p d queue ≡ state_fits p d
-none_waits p d queue e = state_alone p d queue e
 
 -- ---- all of them
 

@@ -183,7 +183,7 @@ fn opened_step(
 }
 
 // The request behind questions 1 to 4 and 17. Where none waits question 6 is of the state alone, and no table of masks is handed on.
-#[tactic(auto, using(crate::proofs::Handed::row_long, crate::proofs::Handed::none_waits), unfolding(crate::specs::Step::opening_verdict))]
+#[tactic(auto, using(crate::proofs::Handed::row_long, desk::proofs::QuestionSix::state_alone), unfolding(crate::specs::Step::opening_verdict))]
 fn planned_step(
     plan: &Plan,
     state: Desk,

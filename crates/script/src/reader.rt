@@ -35,8 +35,7 @@ impl Script {
         })
     }
 
-    // Does what a line says that has words.
-    // Apart from the line's end: an empty line then costs no more than its line feed.
+    // Does what a line says that has words. Apart from the line's end: an empty line then costs no more than its line feed.
     #[inline(never)]
     fn run_words<W: Write>(&mut self, out: &mut W) -> io::Result<()> {
         let mut line = Line::new(&self.text);
