@@ -40,6 +40,9 @@ struct ChangedCells<'a> {
 
 impl fmt::Display for ChangedCells<'_> {
     fn fmt<W: fmt::Write>(&self, f: &mut fmt::Formatter<W>) -> fmt::Result {
+        if self.before == self.after {
+            return Ok(());
+        }
         let name = self.name;
         let changed = words::count_changed(self.before, self.after);
         if MOST_NAMED < changed {
