@@ -1,25 +1,16 @@
 -- An operation names no more cells than a transaction has steps.
 -- Assumes nothing.
 use mathlib.Core.Path.{◌≡◌, ap}
-use mathlib.Core.List.{List, [], ◌∷◌, ◌++◌, map}
+use mathlib.Core.List.{List, ◌∷◌, ◌++◌, map}
 use Prim.Native.Nat.{ℕ, ◌≤◌, ◌<◌}
 use native.Mathlib.Omega.{arith}
 use lib.ListN.{length, length-map, length-append}
-use Rattle.plan.specs.Plan.{Access, reads, writes, Step, cell, operand, tells}
+use Rattle.plan.specs.Plan.{Access}
 use Rattle.plan.specs.Decode.{step_of}
 use Rattle.plan.specs.Form.{IsTransaction}
 use Rattle.plan.proofs.Words.{transaction_steps}
 use Rattle.operation.specs.Operation.{cells_named}
-
-named_few : (a : Access) (ps : List ℕ) (ss : List Step) → length (cells_named a ps ss) ≤ length ss
-unfolding cells_named
-named_few a ps [] = omega arith
-named_few a ps (operand f v ∷ ss) = let h = named_few a ps ss in omega arith
-named_few a ps (tells ∷ ss) = let h = named_few a ps ss in omega arith
-named_few reads ps (cell reads t k r ∷ ss) = let h = named_few reads ps ss in omega arith
-named_few reads ps (cell writes t k r ∷ ss) = let h = named_few reads ps ss in omega arith
-named_few writes ps (cell reads t k r ∷ ss) = let h = named_few writes ps ss in omega arith
-named_few writes ps (cell writes t k r ∷ ss) = let h = named_few writes ps ss in omega arith
+use Rattle.operation.proofs.NamedCells.{named_few}
 
 -- a transaction has at most 12 steps
 cells_few : (a : Access) (ps : List ℕ) (w : ℕ) (ws : List ℕ) → IsTransaction w ws → length (cells_named a ps (map step_of ws)) ≤ 12

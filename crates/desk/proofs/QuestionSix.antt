@@ -6,10 +6,12 @@ use mathlib.Core.List.{List, []}
 use Prim.Native.Nat.{ℕ, zero, suc, ◌%◌, ◌≤◌, ◌<◌}
 use lib.Dec.{ltb, leb, eqb}
 use borrow.Author.Tests.{lt-ltb, le-ltb, lt-leb, le-leb, eq-eqb, ne_eqb, leb-true}
-use Rattle.verdict.specs.Verdict.{refused, ask}
+use Rattle.verdict.specs.Verdict.{accepted, refused, ask}
+use Rattle.verdict.proofs.Verdicts.{ask_accepted}
 use Rattle.std.specs.List.{list_all}
 use Rattle.lists.proofs.Laws.{and_fst, and_snd}
 use Rattle.plan.specs.Plan.{Plan}
+use Rattle.plan.specs.Decode.{plan_of}
 use Rattle.queue.specs.declared.record.Request.{Request}
 use Rattle.desk.specs.declared.state.Desk.{Desk}
 use Rattle.desk.specs.Queueing.{is_urgent, waiting_in}
@@ -26,6 +28,11 @@ module _ (p : Plan) (desk : ℕ) (waiting : List Request) where
   pub by_order : list_all (waits_here p desk) waiting ≡ true → queue_fits p desk waiting ≡ urgent_lead (is_urgent p) waiting
   unfolding queue_fits
   by_order e = rw e
+
+  by_parts : (each order : Bool) → list_all (waits_here p desk) waiting ≡ each
+      → (each ≡ true → urgent_lead (is_urgent p) waiting ≡ order) → queue_fits p desk waiting ≡ (each && order)
+  by_parts true order e f = by_order e ∙ f refl
+  by_parts false order e f = one_unfit e
 
 pub none_waits : (p : Plan) (desk : ℕ) (records : List Request) (n : ℕ) → n ≡ 0 → queue_fits p desk (waiting_in n records) ≡ true
 unfolding queue_fits urgent_lead
@@ -108,6 +115,17 @@ module _ (p : Plan) (d : Desk) (records : List Request) where
     where
       same : (n : ℕ) → n ≡ 0 → waiting_in n records ≡ waiting_in n []
       same n h = rw h
+
+-- by the tests of the records, one after the other, of which the first goes by a table of these words
+pub by_tests : (ws table : List ℕ) (d : Desk) (records : List Request) → table ≡ ws → ask 6 (state_fits (plan_of ws) d) ≡ accepted
+    → (each order : Bool) → list_all (waits_here (plan_of table) d.desk) (waiting_in d.waiting records) ≡ each
+    → (each ≡ true → urgent_lead (is_urgent (plan_of ws)) (waiting_in d.waiting records) ≡ order)
+    → ask 6 (each && order) ≡ ask 6 (desk_fits (plan_of ws) d records)
+by_tests ws table d records t passes each order e f =
+    let waiting = waiting_in d.waiting records in
+    let same = ap (λ (words : List ℕ). list_all (waits_here (plan_of words) d.desk) waiting) t in
+    sym (ap (ask 6) (on_records (plan_of ws) d records (ask_accepted 6 _ passes)
+    ∙ by_parts (plan_of ws) d.desk waiting each order (sym same ∙ e) f))
 
 -- ---- what question 6 shows where it is answered with yes
 

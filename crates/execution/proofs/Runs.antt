@@ -12,12 +12,13 @@ use native.Mathlib.Omega.{arith}
 use lib.ListN.{length, get_or, set, take, drop, length-map, length-set, length-drop}
 use lib.Seq.{length-take-le}
 use Rattle.word.specs.Field.{step_count}
-use Rattle.plan.specs.Plan.{Access, reads, writes, Step, cell, operand, tells, Transaction}
+use Rattle.plan.specs.Plan.{reads, writes, Step, cell, operand, tells, Transaction}
 use Rattle.plan.specs.Decode.{step_of}
 use Rattle.plan.specs.Place.{StandsAt, transaction_from}
 use Rattle.plan.proofs.Words.{transaction_steps}
 use Rattle.operation.specs.Operation.{value_of, cell_number, cells_named}
 use Rattle.operation.specs.Store.{Store, Update}
+use Rattle.operation.proofs.NamedCells.{named_few}
 use Rattle.execution.specs.Run.{Outcome, declined, Next, continues, stops, act, onward, run_from, run_transaction}
 use Rattle.execution.specs.Effect.{cells_of, ReadsDecide, DoneWrites, DeclinedWrites, WritesWithin}
 
@@ -104,16 +105,6 @@ pub writes_few : (t : Transaction) (ps : List ℕ) (s : Store)
 writes_few t ps s =
     ⊎_elim (λ h. omega (arith, ap length h.1, length-map (run_transaction t ps s).update (λ w. w.0)))
     (λ h. omega (arith, ap length h.1)) (run_outcome t ps s)
-
-pub named_few : (a : Access) (ps : List ℕ) (ss : List Step) → length (cells_named a ps ss) ≤ length ss
-unfolding cells_named
-named_few a ps [] = omega arith
-named_few a ps (operand f v ∷ ss) = let h = named_few a ps ss in omega arith
-named_few a ps (tells ∷ ss) = let h = named_few a ps ss in omega arith
-named_few reads ps (cell reads t k r ∷ ss) = let h = named_few reads ps ss in omega arith
-named_few reads ps (cell writes t k r ∷ ss) = let h = named_few reads ps ss in omega arith
-named_few writes ps (cell reads t k r ∷ ss) = let h = named_few writes ps ss in omega arith
-named_few writes ps (cell writes t k r ∷ ss) = let h = named_few writes ps ss in omega arith
 
 -- "steps (1–12)"
 pub steps_few : (ws : List ℕ) (at : ℕ) → StandsAt ws at → length (transaction_from ws at).steps ≤ 12

@@ -1,12 +1,13 @@
--- The cells that steps name: a step's cell is among them, and each of them is a step's.
+-- The cells that steps name: a step's cell is among them, each of them is a step's, and they are no more than the steps.
 -- Assumes nothing.
 use mathlib.Core.Path.{◌≡◌, refl, ap, subst}
 use mathlib.Core.Bool.{Bool, true, false, cond}
 use mathlib.Core.List.Memᴰ
 use mathlib.Core.List.{List, [], ◌∷◌, Memᴰ}
 use mathlib.Core.Logic.{⊎_elim}
-use Prim.Native.Nat.{ℕ}
+use Prim.Native.Nat.{ℕ, ◌≤◌}
 use native.Mathlib.Omega.{arith}
+use lib.ListN.{length}
 use Rattle.plan.specs.Plan.{Source, Access, reads, writes, Step, cell, operand, tells}
 use Rattle.operation.specs.Operation.{value_of, cell_number, same_access, cells_named}
 
@@ -69,3 +70,15 @@ module _ (a : Access) (ps : List ℕ) where
           → Memᴰ (cell_number t (value_of ps r) k) (cond e (cell_number t' (value_of ps r') k' ∷ cells_named a ps ss) (cells_named a ps ss))
       go true n = Memᴰ.tail n
       go false n = n
+
+-- ---- how many they are
+
+pub named_few : (a : Access) (ps : List ℕ) (ss : List Step) → length (cells_named a ps ss) ≤ length ss
+unfolding cells_named
+named_few a ps [] = omega arith
+named_few a ps (operand f v ∷ ss) = let h = named_few a ps ss in omega arith
+named_few a ps (tells ∷ ss) = let h = named_few a ps ss in omega arith
+named_few reads ps (cell reads t k r ∷ ss) = let h = named_few reads ps ss in omega arith
+named_few reads ps (cell writes t k r ∷ ss) = let h = named_few reads ps ss in omega arith
+named_few writes ps (cell reads t k r ∷ ss) = let h = named_few writes ps ss in omega arith
+named_few writes ps (cell writes t k r ∷ ss) = let h = named_few writes ps ss in omega arith

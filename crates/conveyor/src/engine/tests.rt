@@ -18,6 +18,18 @@ const PLAN: [u32; 11] = [
 
 const FRAME: [u32; 4] = [0x9000_0004, 0, 0x9000_0004, 0x2000_0008];
 
+// The frame that the visit sends, and a word behind it.
+const SENT: [u32; 8] = [
+    0x9100_0007,
+    1,
+    0xA010_0000,
+    0xB000_0080,
+    3,
+    0xE110_008B,
+    0x1530_012A,
+    0,
+];
+
 #[test]
 fn words_hold_what_waits(rt: HostRuntime) {
     let mut cells = [0; 1024];
@@ -63,19 +75,7 @@ fn words_are_run_by_the_visit(rt: HostRuntime) {
     };
     assert!(rt; visited.answer == Ok(forwarded));
     assert!(rt; visited.state.awaited == 2);
-    assert!(rt;
-        out[..8]
-            == [
-                0x9100_0007,
-                1,
-                0xA010_0000,
-                0xB000_0080,
-                3,
-                0xE110_008B,
-                0x1530_012A,
-                0
-            ]
-    );
+    assert!(rt; out[..8] == SENT[..]);
     assert!(rt; replies[..8] == [0xC000_0001, 7, 3, 0, 0, 0, 0, 0]);
     assert!(rt; cells[128] == 3);
     assert!(rt; snapshot == [0; 1024]);

@@ -2,16 +2,14 @@
 -- just where requests wait.
 -- Assumes nothing.
 use Rattle.std.proofs.Common.{◌≡◌, true, false, [], sym, ap, ◌∙◌, arith, rules}
+use mathlib.Core.Bool.{false≢true}
 use borrow.Author.Tests.{lt-ltb, le-ltb}
 use Rattle.verdict.specs.Verdict.{accepted, ask}
 use Rattle.verdict.proofs.Verdicts.{ask_accepted}
-use Rattle.std.specs.List.{list_all}
-use Rattle.plan.specs.Decode.{plan_of}
 use Rattle.plan.specs.Accepted.{the_plan}
 use Rattle.queue.specs.Words.{records_in}
-use Rattle.desk.specs.Queueing.{waiting_in}
-use Rattle.desk.specs.Admission.{waits_here, state_fits}
-use Rattle.desk.proofs.QuestionSix.{state_refused, on_records, one_unfit, by_order, none_waits, few_wait}
+use Rattle.desk.specs.Admission.{state_fits}
+use Rattle.desk.proofs.QuestionSix.{state_refused, on_records, by_tests, none_waits, few_wait}
 use Rattle.desk.proofs.check.desk_fits.Goals as goal
 
 pub returns-in_err-state_fits-clause-verdict : goal.returns-in_err-state_fits-clause-verdict
@@ -41,38 +39,26 @@ returns-then-waiting-eq0-clause-filled c = sym (le-ltb 0 c.args.state.waiting (o
 
 pub returns-then-not-all_wait_here-clause-verdict : goal.returns-then-not-all_wait_here-clause-verdict
 returns-then-not-all_wait_here-clause-verdict c =
-    let p = the_plan c.args.plan.now in
     let d = c.args.state in
-    let passes : ask 6 (state_fits p d) ≡ accepted = search rules in
-    let waiting = waiting_in d.waiting (records_in c.args.row.now) in
-    let unfit : list_all (waits_here p d.desk) waiting ≡ false =
-    sym (ap (λ ws. list_all (waits_here (plan_of ws) d.desk) waiting) c.fill-masks.ensures) ∙ sym c.all_wait_here.ensures
-    ∙ c.if-not-all_wait_here.true in
-    sym (ap (ask 6) (on_records p d (records_in c.args.row.now) (ask_accepted 6 _ passes) ∙ one_unfit p d.desk waiting unfit))
+    let passes : ask 6 (state_fits (the_plan c.args.plan.now) d) ≡ accepted = search rules in
+    by_tests c.args.plan.now.words.now c.fill-masks.result.plan.words.now d (records_in c.args.row.now) c.fill-masks.ensures passes
+    false true (sym c.all_wait_here.ensures ∙ c.if-not-all_wait_here.true) (λ h. absurd (false≢true h))
 
 pub returns-then-not-urgent_lead-clause-verdict : goal.returns-then-not-urgent_lead-clause-verdict
 returns-then-not-urgent_lead-clause-verdict c =
-    let p = the_plan c.args.plan.now in
     let d = c.args.state in
-    let passes : ask 6 (state_fits p d) ≡ accepted = search rules in
-    let waiting = waiting_in d.waiting (records_in c.args.row.now) in
-    let fit : list_all (waits_here p d.desk) waiting ≡ true =
-    sym (ap (λ ws. list_all (waits_here (plan_of ws) d.desk) waiting) c.fill-masks.ensures) ∙ sym c.all_wait_here.ensures
-    ∙ c.if-not-all_wait_here.false in
-    sym (ap (ask 6) (on_records p d (records_in c.args.row.now) (ask_accepted 6 _ passes)
-    ∙ by_order p d.desk waiting fit ∙ sym c.urgent_lead.ensures ∙ c.if-not-urgent_lead.true))
+    let passes : ask 6 (state_fits (the_plan c.args.plan.now) d) ≡ accepted = search rules in
+    by_tests c.args.plan.now.words.now c.fill-masks.result.plan.words.now d (records_in c.args.row.now) c.fill-masks.ensures passes
+    true false (sym c.all_wait_here.ensures ∙ c.if-not-all_wait_here.false)
+    (λ h. sym c.urgent_lead.ensures ∙ c.if-not-urgent_lead.true)
 
 pub returns-clause-verdict : goal.returns-clause-verdict
 returns-clause-verdict c =
-    let p = the_plan c.args.plan.now in
     let d = c.args.state in
-    let passes : ask 6 (state_fits p d) ≡ accepted = search rules in
-    let waiting = waiting_in d.waiting (records_in c.args.row.now) in
-    let fit : list_all (waits_here p d.desk) waiting ≡ true =
-    sym (ap (λ ws. list_all (waits_here (plan_of ws) d.desk) waiting) c.fill-masks.ensures) ∙ sym c.all_wait_here.ensures
-    ∙ c.if-not-all_wait_here.false in
-    sym (ap (ask 6) (on_records p d (records_in c.args.row.now) (ask_accepted 6 _ passes)
-    ∙ by_order p d.desk waiting fit ∙ sym c.urgent_lead.ensures ∙ c.if-not-urgent_lead.false))
+    let passes : ask 6 (state_fits (the_plan c.args.plan.now) d) ≡ accepted = search rules in
+    by_tests c.args.plan.now.words.now c.fill-masks.result.plan.words.now d (records_in c.args.row.now) c.fill-masks.ensures passes
+    true true (sym c.all_wait_here.ensures ∙ c.if-not-all_wait_here.false)
+    (λ h. sym c.urgent_lead.ensures ∙ c.if-not-urgent_lead.false)
 
 pub returns-clause-filled : goal.returns-clause-filled
 returns-clause-filled c = sym (lt-ltb 0 c.args.state.waiting (omega (arith, c.if-waiting-eq0.false)))
